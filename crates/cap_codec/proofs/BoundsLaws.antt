@@ -1,0 +1,170 @@
+-- The bounds of a word: the function gives bounds that meet the relation, and no others meet it.
+use Rattle.std.proofs.Common.{◌≡◌, ℕ, ◌+◌, ◌-◌, ◌*◌, ◌/◌, ◌%◌, ◌^◌, ◌<◌, ◌≤◌, inl, inr, sym, ap, subst, ◌∙◌, arith}
+use Rattle.std.specs.Prelude.{ℤ, pos, ◌-ℤ◌}
+use Rattle.std.proofs.Math.Nat.{add-mul-mod_self_left, pow-le-pow_right}
+use Rattle.std.proofs.lemmas.Nat.{pow-add, pow_pos}
+use Rattle.std.proofs.lemmas.Int.{ints}
+use Rattle.std.proofs.lemmas.Bool.{cases_lt}
+use Rattle.std.proofs.lemmas.Bool.Decides.{nat_tests}
+use Rattle.cap_codec.specs.declared.word.Bounds.{Bounds}
+use Rattle.cap_codec.specs.declared.word.Fields.{Fields}
+use Rattle.cap_codec.specs.Integers.{IsCongruent, IsWithin}
+use Rattle.cap_codec.specs.Mantissas.{base_mantissa, exponent_of, top_mantissa}
+use Rattle.cap_codec.specs.Bounds.{IsBase, IsBounds, IsPlaceOf, IsTop, IsWindow, base_place, bounds_of, corrected, origin, place_in, top_place, window_mark, window_size, window_start}
+use Rattle.cap_codec.proofs.IntegerLaws.{IsCongruent-sym, IsCongruent-trans, congruent_shifted, near_integers}
+use Rattle.cap_codec.proofs.PlaceLaws.{place_in-congruent, place_in-lt}
+
+-- ---- sizes
+
+pub exponent_of-le : (f : Fields) → exponent_of f ≤ 52
+exponent_of-le f = grind arith
+
+pub window_size-le : (f : Fields) → window_size f ≤ 2 ^ 66
+window_size-le f =
+    let h : exponent_of f + 14 ≤ 66 = omega (arith, exponent_of-le f) in
+    pow-le-pow_right (omega arith) h
+
+pub window_size-pos : (f : Fields) → 0 < window_size f
+window_size-pos f = pow_pos (exponent_of f + 14)
+
+-- The origin is a multiple of each window's size.
+pub origin_is_multiple : (f : Fields) → origin ≡ 2 ^ (52 - exponent_of f) * window_size f
+origin_is_multiple f =
+    let le = exponent_of-le f in
+    let whole : 52 - exponent_of f + (exponent_of f + 14) ≡ 66 = omega arith in
+    sym (ap (λ k. 2 ^ k) whole) ∙ pow-add 2 (52 - exponent_of f) (exponent_of f + 14)
+
+-- ---- the function meets the relation
+
+-- What a number counted from the origin is congruent to, the integer that it stands for is too.
+congruent_at : (f : Fields) (n x : ℕ) → n % window_size f ≡ x % window_size f → IsCongruent (window_size f) (pos n -ℤ pos origin) (pos x)
+congruent_at f n x e =
+    let P : ℕ → Type 0 = λ o. IsCongruent (window_size f) (pos n -ℤ pos o) (pos x) in
+    subst P (sym (origin_is_multiple f)) (IsCongruent-sym (congruent_shifted (window_size f) (2 ^ (52 - exponent_of f)) x n (sym e)))
+
+IsWindow-window_start : (f : Fields) → IsWindow f (pos (window_start f) -ℤ pos origin)
+IsWindow-window_start f =
+    let first = origin + f.address + 1 - window_size f in
+    let small = window_size-le f in
+    let size = window_size-pos f in
+    let before = place_in-lt first (window_size f) (window_mark f) size in
+    record {
+      holds = record { from = omega (arith, ints); before = omega (arith, ints) };
+      start = congruent_at f (window_start f) (window_mark f) (place_in-congruent first (window_size f) (window_mark f) size);
+    }
+
+IsPlaceOf-place_in : (f : Fields) (mantissa : ℕ)
+    → IsPlaceOf f (pos (window_start f) -ℤ pos origin) mantissa (pos (place_in (window_start f) (window_size f) (mantissa * 2 ^ exponent_of f)) -ℤ pos origin)
+IsPlaceOf-place_in f mantissa =
+    let size = window_size-pos f in
+    let x = mantissa * 2 ^ exponent_of f in
+    let before = place_in-lt (window_start f) (window_size f) x size in
+    record {
+      within = record { from = omega (arith, ints); before = omega (arith, ints) };
+      congruent = congruent_at f (place_in (window_start f) (window_size f) x) x (place_in-congruent (window_start f) (window_size f) x size);
+    }
+
+IsBase-remainder : (b : ℕ) → IsBase (pos b -ℤ pos origin) (b % 2 ^ 64)
+IsBase-remainder b = record { fits = omega arith; congruent = congruent_shifted (2 ^ 64) 4 (b % 2 ^ 64) b (omega arith) }
+
+corrected-lt : (e base r : ℕ) → r < 2 ^ 65 → corrected e base r < 2 ^ 65
+corrected-lt e base r h = grind (arith, nat_tests)
+
+corrected-congruent : (e base r : ℕ) → corrected e base r % 2 ^ 64 ≡ r % 2 ^ 64
+corrected-congruent e base r = grind (arith, nat_tests)
+
+corrected-large : (e base r : ℕ) → 51 ≤ e → corrected e base r ≡ r
+corrected-large e base r h = grind (arith, nat_tests)
+
+corrected-near : (e base r : ℕ) → base < 2 ^ 64 → r < 2 ^ 65 → e < 51 → (corrected e base r / 2 ^ 63 + 4 - base / 2 ^ 63) % 4 ≤ 1
+corrected-near e base r h k s = grind (arith, nat_tests)
+
+IsTop-corrected : (e base t : ℕ) → base < 2 ^ 64 → IsTop e base (pos t -ℤ pos origin) (corrected e base (t % 2 ^ 65))
+IsTop-corrected e base t h =
+    let small : t % 2 ^ 65 < 2 ^ 65 = omega arith in
+    record {
+      fits = corrected-lt e base (t % 2 ^ 65) small;
+      congruent = congruent_shifted (2 ^ 64) 4 (corrected e base (t % 2 ^ 65)) t (omega (arith, corrected-congruent e base (t % 2 ^ 65)));
+      large = λ l. congruent_shifted (2 ^ 65) 2 (corrected e base (t % 2 ^ 65)) t (omega (arith, corrected-large e base (t % 2 ^ 65) l));
+      small = corrected-near e base (t % 2 ^ 65) h small;
+    }
+
+-- The bounds that the function gives meet the relation.
+pub IsBounds-bounds_of : (f : Fields) → IsBounds f (bounds_of f).base (bounds_of f).top
+unfolding bounds_of
+IsBounds-bounds_of f =
+    let small : base_place f % 2 ^ 64 < 2 ^ 64 = omega arith in
+    record {
+      low = pos (window_start f) -ℤ pos origin;
+      b = pos (base_place f) -ℤ pos origin;
+      t = pos (top_place f) -ℤ pos origin;
+      window = IsWindow-window_start f;
+      b_place = IsPlaceOf-place_in f (base_mantissa f);
+      t_place = IsPlaceOf-place_in f (top_mantissa f);
+      base_is = IsBase-remainder (base_place f);
+      top_is = IsTop-corrected (exponent_of f) (base_place f % 2 ^ 64) (top_place f) small;
+    }
+
+-- ---- nothing else meets it
+
+-- Two integers of one window that are congruent to one number are equal.
+one_of_window : (low : ℤ) (size : ℕ) (x m n : ℤ) → IsWithin low size m → IsWithin low size n → IsCongruent size m x → IsCongruent size n x → m ≡ n
+one_of_window low size x m n p q c d =
+    near_integers size m n (IsCongruent-trans size m x n c (IsCongruent-sym d)) (omega (arith, ints)) (omega (arith, ints))
+
+IsWindow-unique : (f : Fields) (m n : ℤ) → IsWindow f m → IsWindow f n → m ≡ n
+IsWindow-unique f m n p q =
+    let size = window_size f in
+    let c : IsCongruent (window_size f) m n = IsCongruent-trans (window_size f) m (pos (window_mark f)) n p.start (IsCongruent-sym q.start) in
+    near_integers (window_size f) m n c (omega (arith, ints)) (omega (arith, ints))
+
+IsPlaceOf-unique : (f : Fields) (low : ℤ) (mantissa : ℕ) (m n : ℤ) → IsPlaceOf f low mantissa m → IsPlaceOf f low mantissa n → m ≡ n
+IsPlaceOf-unique f low mantissa m n p q =
+    one_of_window low (window_size f) (pos (mantissa * 2 ^ exponent_of f)) m n p.within q.within p.congruent q.congruent
+
+-- Two numbers below m that are congruent to one integer are equal.
+below_unique : (m : ℕ) (x : ℤ) (a b : ℕ) → a < m → b < m → IsCongruent m (pos a) x → IsCongruent m (pos b) x → a ≡ b
+below_unique m x a b p q c d =
+    let e : pos a ≡ pos b = near_integers m (pos a) (pos b) (IsCongruent-trans m (pos a) x (pos b) c (IsCongruent-sym d)) (omega (arith, ints)) (omega (arith, ints)) in
+    cc
+
+-- Numbers that are congruent to one integer have one remainder.
+remainder_unique : (m : ℕ) (x : ℤ) (a b : ℕ) → IsCongruent m (pos a) x → IsCongruent m (pos b) x → a % m ≡ b % m
+remainder_unique m x a b c d =
+    let k = IsCongruent-trans m (pos a) x (pos b) c (IsCongruent-sym d) in
+    let e : a + m * k.i ≡ b + m * k.j = omega (arith, ints, k.same) in
+    sym (add-mul-mod_self_left a m k.i) ∙ (ap (λ n. n % m) e ∙ add-mul-mod_self_left b m k.j)
+
+-- A top is known by its lower 64 bits where bits 64 and 63 are a base's bit 63 or one more.
+near_unique : (base m n : ℕ) → base < 2 ^ 64 → m < 2 ^ 65 → n < 2 ^ 65 → m % 2 ^ 64 ≡ n % 2 ^ 64
+    → (m / 2 ^ 63 + 4 - base / 2 ^ 63) % 4 ≤ 1 → (n / 2 ^ 63 + 4 - base / 2 ^ 63) % 4 ≤ 1 → m ≡ n
+near_unique base m n h p q e near_m near_n = omega arith
+
+IsTop-unique : (e base : ℕ) (t : ℤ) (m n : ℕ) → base < 2 ^ 64 → IsTop e base t m → IsTop e base t n → m ≡ n
+IsTop-unique e base t m n h p q =
+    elim (cases_lt e 51) [
+      | inl small ↦ near_unique base m n h p.fits q.fits (remainder_unique (2 ^ 64) t m n p.congruent q.congruent) (p.small small) (q.small small)
+      | inr large ↦ below_unique (2 ^ 65) t m n p.fits q.fits (p.large large) (q.large large)
+    ]
+
+-- The relation holds of one base and one top.
+pub IsBounds-unique : (f : Fields) (base top base' top' : ℕ) → IsBounds f base top → IsBounds f base' top' → (base ≡ base') × (top ≡ top')
+IsBounds-unique f base top base' top' p q =
+    let low : p.low ≡ q.low = IsWindow-unique f p.low q.low p.window q.window in
+    let b_moved : IsPlaceOf f p.low (base_mantissa f) q.b = rw low q.b_place in
+    let t_moved : IsPlaceOf f p.low (top_mantissa f) q.t = rw low q.t_place in
+    let b : p.b ≡ q.b = IsPlaceOf-unique f p.low (base_mantissa f) p.b q.b p.b_place b_moved in
+    let t : p.t ≡ q.t = IsPlaceOf-unique f p.low (top_mantissa f) p.t q.t p.t_place t_moved in
+    let base_moved : IsBase p.b base' = rw b q.base_is in
+    let base_same : base ≡ base' = below_unique (2 ^ 64) p.b base base' p.base_is.fits base_moved.fits p.base_is.congruent base_moved.congruent in
+    let top_moved : IsTop (exponent_of f) base p.t top' = rw (base_same, t) q.top_is in
+    (base_same, IsTop-unique (exponent_of f) base p.t top top' p.base_is.fits p.top_is top_moved)
+
+-- The function, part by part, with each part under a name of its own.
+pub bounds_of-parts : (f : Fields) (e unit size mark low b t top : ℕ) → e ≡ exponent_of f → unit ≡ 2 ^ exponent_of f → size ≡ window_size f → mark ≡ window_mark f
+    → low ≡ place_in (origin + f.address + 1 - size) size mark
+    → b ≡ place_in low size (base_mantissa f * unit) → t ≡ place_in low size (top_mantissa f * unit)
+    → top ≡ corrected e (b % 2 ^ 64) (t % 2 ^ 65)
+    → (let r : Bounds = record { base = b % 2 ^ 64; top = top } in r) ≡ bounds_of f
+unfolding bounds_of
+bounds_of-parts f e unit size mark low b t top ee ue se me le be te pe = cc

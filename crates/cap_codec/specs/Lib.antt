@@ -1,0 +1,5 @@
+pub mod Bounds
+pub mod Bytes
+pub mod Fields
+pub mod Integers
+pub mod Mantissas

@@ -1,0 +1,210 @@
+//! Words of the format, with the fields and bounds that the format gives them.
+
+use crate::{Bounds, Fields, Word, bounds, exponent, fields, from_bytes, to_bytes, word_of};
+
+// The fields of the null capability.
+const NULL: Fields = Fields {
+    perms: 0,
+    reserved: 0,
+    flag: false,
+    otype: 0x3ffff,
+    internal: true,
+    top12: 6,
+    base14: 4,
+    address: 0,
+};
+
+// The fields of the capability of a block of 32 bytes.
+const BLOCK: Fields = Fields {
+    perms: 0x3d,
+    reserved: 0,
+    flag: false,
+    otype: 0x3ffff,
+    internal: false,
+    top12: 0x20,
+    base14: 0,
+    address: 0x4000_0000,
+};
+
+const WHOLE: Bounds = Bounds {
+    base: 0,
+    top: 1 << 64,
+};
+
+// The upper 8 of a word's bytes, in memory order.
+type Metadata = [u8; 8];
+
+// Each address with metadata, and the fields, exponent and bounds of that word.
+const WORDS: [(u64, Metadata, Fields, u8, Bounds); 7] = [
+    (0, [0; 8], NULL, 52, WHOLE),
+    (
+        0x4000_0000,
+        [0x04, 0x80, 0x09, 0x04, 0, 0, 0x3d, 0],
+        BLOCK,
+        0,
+        Bounds {
+            base: 0x4000_0000,
+            top: 0x4000_0020,
+        },
+    ),
+    // an exponent field of 63
+    (
+        0,
+        [0x03, 0x40, 0, 0, 0, 0, 0, 0],
+        Fields {
+            top12: 7,
+            base14: 7,
+            ..NULL
+        },
+        52,
+        WHOLE,
+    ),
+    (
+        u64::MAX,
+        [0xff; 8],
+        Fields {
+            perms: 0xffff,
+            reserved: 3,
+            flag: true,
+            otype: 0,
+            internal: false,
+            top12: 0xff9,
+            base14: 0x3ffb,
+            address: u64::MAX,
+        },
+        0,
+        Bounds {
+            base: 0xffff_ffff_ffff_fffb,
+            top: 0x1_0000_0000_0000_0ff9,
+        },
+    ),
+    // a block of 4,096 bytes
+    (
+        0x4000_0000,
+        [0x04, 0x80, 0x01, 0, 0, 0, 0, 0],
+        Fields {
+            top12: 0,
+            base14: 0,
+            address: 0x4000_0000,
+            ..NULL
+        },
+        0,
+        Bounds {
+            base: 0x4000_0000,
+            top: 0x4000_1000,
+        },
+    ),
+    // exponents 50 and 51
+    (
+        0,
+        [0x06, 0, 0, 0, 0, 0, 0, 0],
+        Fields { base14: 2, ..NULL },
+        50,
+        Bounds {
+            base: 0,
+            top: 1 << 62,
+        },
+    ),
+    (
+        0,
+        [0x07, 0, 0, 0, 0, 0, 0, 0],
+        Fields { base14: 3, ..NULL },
+        51,
+        Bounds {
+            base: 0,
+            top: 1 << 63,
+        },
+    ),
+];
+
+// The bytes of an address, little endian, with metadata after them.
+fn bytes_of(address: u64, metadata: Metadata) -> [u8; 16] {
+    let [a, b, c, d, e, f, g, h] = address.to_le_bytes();
+    let [i, j, k, l, m, n, o, p] = metadata;
+    [a, b, c, d, e, f, g, h, i, j, k, l, m, n, o, p]
+}
+
+#[test]
+fn words_decode(rt: HostRuntime) {
+    for (address, metadata, with, at, within) in WORDS {
+        let w = from_bytes(bytes_of(address, metadata));
+        assert_eq!(rt; fields(w), with);
+        assert_eq!(rt; exponent(w), at);
+        assert_eq!(rt; bounds(w), within);
+    }
+    assert_eq!(rt; from_bytes([0; 16]), Word::NULL);
+}
+
+#[test]
+fn words_encode(rt: HostRuntime) {
+    for (address, metadata, with, _, _) in WORDS {
+        assert!(rt; with.is_valid());
+        assert_eq!(rt; to_bytes(word_of(with)), bytes_of(address, metadata));
+    }
+}
+
+// The address leaves the window of the block's capability where its bounds change.
+#[test]
+fn window_edges(rt: HostRuntime) {
+    let near = [0x3fff_f800, 0x4000_0000, 0x4000_37ff];
+    for address in near {
+        let within = bounds(word_of(Fields { address, ..BLOCK }));
+        assert_eq!(rt; (within.base, within.top), (0x4000_0000, 0x4000_0020));
+    }
+    let below = Fields {
+        address: 0x3fff_f7ff,
+        ..BLOCK
+    };
+    let within = bounds(word_of(below));
+    assert_eq!(rt; (within.base, within.top), (0x3fff_c000, 0x3fff_c020));
+}
+
+// The last page of the address space, seen from an address past its end.
+#[test]
+fn window_wraps(rt: HostRuntime) {
+    let last_page = Fields {
+        top12: 0,
+        base14: 0x3000,
+        address: 0x10,
+        ..NULL
+    };
+    let within = bounds(word_of(last_page));
+    assert_eq!(rt; (within.base, within.top), (0xffff_ffff_ffff_f000, 1 << 64));
+}
+
+#[test]
+fn exponents_are_capped(rt: HostRuntime) {
+    for field in 0..64u16 {
+        let with = Fields {
+            top12: field / 8,
+            base14: field % 8,
+            ..NULL
+        };
+        assert_eq!(rt; u16::from(exponent(word_of(with))), field.min(52));
+    }
+}
+
+#[test]
+fn widths_are_checked(rt: HostRuntime) {
+    let too_wide = [
+        Fields {
+            reserved: 4,
+            ..NULL
+        },
+        Fields {
+            otype: 1 << 18,
+            ..NULL
+        },
+        Fields {
+            top12: 1 << 12,
+            ..NULL
+        },
+        Fields {
+            base14: 1 << 14,
+            ..NULL
+        },
+    ];
+    for with in too_wide {
+        assert!(rt; !with.is_valid());
+    }
+}
