@@ -1,0 +1,3 @@
+mod AnswerLaws
+mod HexadecimalLaws
+mod SendLemmas

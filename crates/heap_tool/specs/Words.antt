@@ -1,0 +1,56 @@
+-- What the words of a command line ask for, in the terms of clap's model of a command: the rules of its
+-- arguments, the words that it takes, and the matches that it then answers.
+use Rattle.std.specs.Prelude.{◌≡◌, ℕ, List, [], Option, Ok, Some, codes, true}
+use Rattle.cap_codec.specs.declared.word.Word.{Word as CapabilityWord}
+use Rattle.cap_codec.specs.Bytes.{bits_of_bytes}
+use Rattle.clap.specs.Words.{App, Row, Rule, Text, fault_of, first_of, new_app, new_rule, subcommand_of, with_rule, with_subcommand}
+use Rattle.hex.specs.Hex.{decode_sized}
+use Rattle.heap_tool.specs.declared.words.Asked.{Asked}
+use Rattle.heap_tool.specs.declared.words.Asked.TheVariants.{Word}
+
+-- The argument HEX.
+abbrev pub hex_rule : Rule
+hex_rule = record (new_rule (codes "hex")) { required = true }
+
+-- The subcommand `word HEX`.
+abbrev pub word_app : App
+word_app = with_rule (new_app (codes "word")) hex_rule
+
+-- The whole command line.
+abbrev pub tool_app : App
+tool_app = with_subcommand (new_app (codes "heap_tool")) word_app.top
+
+-- clap finds no fault in the words, so it takes them where memory serves.
+unfoldable pub AreTaken : List Text → Type 0
+AreTaken words = fault_of tool_app words ≡ []
+
+-- The subcommand that clap's matches of the words name, with its entries.
+unfoldable pub subcommand_named : List Text → Option (Text × List Row)
+subcommand_named words = subcommand_of tool_app words
+
+-- clap takes the words, and its matches name the subcommand `word`, with this text for HEX.
+pub record NamesWord (words : List Text) (hex : Text) : Type 0 where
+  pub taken : AreTaken words
+  pub rows : List Row
+  pub subcommand : subcommand_named words ≡ Some (codes "word", rows)
+  pub value : first_of (codes "hex") rows ≡ Some hex
+
+-- What the words ask for.
+abbrev pub AsksFor : List Text → Asked → Type 0
+AsksFor words (Word hex) = NamesWord words hex.now
+
+-- The text is 32 hexadecimal digits of either case: the 16 bytes of this word.
+pub record IsTextOf (hex : Text) (w : CapabilityWord) : Type 0 where
+  pub bytes : List ℕ
+  pub digits : decode_sized hex 16 ≡ Ok bytes
+  pub word : w.bits ≡ bits_of_bytes bytes
+
+-- The words ask for the line of this word.
+pub record AsksForLineOf (words : List Text) (w : CapabilityWord) : Type 0 where
+  pub hex : Text
+  pub named : NamesWord words hex
+  pub text : IsTextOf hex w
+
+-- The words ask for nothing: clap doesn't take them, or they ask for the line of no word.
+abbrev pub AskForNothing : List Text → Type 0
+AskForNothing words = (w : CapabilityWord) → AsksForLineOf words w → ⊥
