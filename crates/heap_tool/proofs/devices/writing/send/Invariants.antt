@@ -1,7 +1,7 @@
 -- The sink took all of the text but `rest`, and no write has failed.
 use Rattle.std.proofs.Common.{◌≡◌, length}
 use Rattle.heap_tool.proofs.SendLemmas.{TookUpTo}
-use Rattle.heap_tool.proofs.devices.send.Given as goal
+use Rattle.heap_tool.proofs.devices.writing.send.Given as goal
 
 abbrev pub invariant-loop-rest : goal.invariant-loop-rest
 invariant-loop-rest g l = TookUpTo l.initial.rest l.rest (g.O.Sink.contents l.initial.writer) (g.O.Sink.contents l.writer)

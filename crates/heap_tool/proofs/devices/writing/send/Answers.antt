@@ -1,7 +1,7 @@
 use Rattle.std.proofs.Common.{rules}
 use Rattle.std.proofs.lemmas.Result.{err_from_is_err_and}
 use Rattle.heap_tool.proofs.SendLemmas.{TookUpTo-more, TookUpTo-stops}
-use Rattle.heap_tool.proofs.devices.send.Goals as goal
+use Rattle.heap_tool.proofs.devices.writing.send.Goals as goal
 
 pub returns-in_err-count-clause-err : goal.returns-in_err-count-clause-err
 returns-in_err-count-clause-err g c =
