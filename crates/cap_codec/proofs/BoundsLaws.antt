@@ -1,8 +1,7 @@
 -- The bounds of a word: the function gives bounds that meet the relation, and no others meet it.
-use Rattle.std.proofs.Common.{◌≡◌, ℕ, ◌+◌, ◌-◌, ◌*◌, ◌/◌, ◌%◌, ◌^◌, ◌<◌, ◌≤◌, inl, inr, sym, ap, subst, ◌∙◌, arith}
-use Rattle.std.specs.Prelude.{ℤ, pos, ◌-ℤ◌}
-use Rattle.std.proofs.Math.Nat.{add-mul-mod_self_left, pow-le-pow_right}
-use Rattle.std.proofs.lemmas.Nat.{pow-add, pow_pos}
+use Rattle.std.proofs.Common.{refl, ◌≡◌, ℕ, ◌+◌, ◌-◌, ◌*◌, ◌/◌, ◌%◌, ◌^◌, ◌<◌, ◌≤◌, inl, inr, sym, ap, ◌∙◌, arith}
+use Rattle.std.specs.Prelude.{ℤ, pos}
+use Rattle.std.proofs.Math.Nat.{add-mul-mod_self_left}
 use Rattle.std.proofs.lemmas.Int.{ints}
 use Rattle.std.proofs.lemmas.Bool.{cases_lt}
 use Rattle.std.proofs.lemmas.Bool.Decides.{nat_tests}
@@ -11,61 +10,23 @@ use Rattle.cap_codec.specs.declared.word.Fields.{Fields}
 use Rattle.cap_codec.specs.Integers.{IsCongruent, IsWithin}
 use Rattle.cap_codec.specs.Mantissas.{base_mantissa, exponent_of, top_mantissa}
 use Rattle.cap_codec.specs.Bounds.{IsBase, IsBounds, IsPlaceOf, IsTop, IsWindow, base_place, bounds_of, corrected, origin, place_in, top_place, window_mark, window_size, window_start}
-use Rattle.cap_codec.proofs.IntegerLaws.{IsCongruent-sym, IsCongruent-trans, congruent_shifted, near_integers}
+use Rattle.cap_codec.proofs.IntegerLaws.{IsCongruent-sym, IsCongruent-trans, near_integers}
+use Rattle.cap_codec.proofs.CountedBounds.{IsBounds-counted, IsPlaceAt, IsTopAt, IsWindowAt}
 use Rattle.cap_codec.proofs.PlaceLaws.{place_in-congruent, place_in-lt}
-
--- ---- sizes
-
-pub exponent_of-le : (f : Fields) → exponent_of f ≤ 52
-exponent_of-le f = grind arith
-
-pub window_size-le : (f : Fields) → window_size f ≤ 2 ^ 66
-window_size-le f =
-    let h : exponent_of f + 14 ≤ 66 = omega (arith, exponent_of-le f) in
-    pow-le-pow_right (omega arith) h
-
-pub window_size-pos : (f : Fields) → 0 < window_size f
-window_size-pos f = pow_pos (exponent_of f + 14)
-
--- The origin is a multiple of each window's size.
-pub origin_is_multiple : (f : Fields) → origin ≡ 2 ^ (52 - exponent_of f) * window_size f
-origin_is_multiple f =
-    let le = exponent_of-le f in
-    let whole : 52 - exponent_of f + (exponent_of f + 14) ≡ 66 = omega arith in
-    sym (ap (λ k. 2 ^ k) whole) ∙ pow-add 2 (52 - exponent_of f) (exponent_of f + 14)
+use Rattle.cap_codec.proofs.WindowSizes.{window_size-le, window_size-pos}
 
 -- ---- the function meets the relation
 
--- What a number counted from the origin is congruent to, the integer that it stands for is too.
-congruent_at : (f : Fields) (n x : ℕ) → n % window_size f ≡ x % window_size f → IsCongruent (window_size f) (pos n -ℤ pos origin) (pos x)
-congruent_at f n x e =
-    let P : ℕ → Type 0 = λ o. IsCongruent (window_size f) (pos n -ℤ pos o) (pos x) in
-    subst P (sym (origin_is_multiple f)) (IsCongruent-sym (congruent_shifted (window_size f) (2 ^ (52 - exponent_of f)) x n (sym e)))
-
-IsWindow-window_start : (f : Fields) → IsWindow f (pos (window_start f) -ℤ pos origin)
-IsWindow-window_start f =
+pub IsWindowAt-window_start : (f : Fields) → IsWindowAt f (window_start f)
+IsWindowAt-window_start f =
     let first = origin + f.address + 1 - window_size f in
     let small = window_size-le f in
     let size = window_size-pos f in
     let before = place_in-lt first (window_size f) (window_mark f) size in
-    record {
-      holds = record { from = omega (arith, ints); before = omega (arith, ints) };
-      start = congruent_at f (window_start f) (window_mark f) (place_in-congruent first (window_size f) (window_mark f) size);
-    }
+    record { holds = omega arith; ends = omega arith; congruent = place_in-congruent first (window_size f) (window_mark f) size }
 
-IsPlaceOf-place_in : (f : Fields) (mantissa : ℕ)
-    → IsPlaceOf f (pos (window_start f) -ℤ pos origin) mantissa (pos (place_in (window_start f) (window_size f) (mantissa * 2 ^ exponent_of f)) -ℤ pos origin)
-IsPlaceOf-place_in f mantissa =
-    let size = window_size-pos f in
-    let x = mantissa * 2 ^ exponent_of f in
-    let before = place_in-lt (window_start f) (window_size f) x size in
-    record {
-      within = record { from = omega (arith, ints); before = omega (arith, ints) };
-      congruent = congruent_at f (place_in (window_start f) (window_size f) x) x (place_in-congruent (window_start f) (window_size f) x size);
-    }
-
-IsBase-remainder : (b : ℕ) → IsBase (pos b -ℤ pos origin) (b % 2 ^ 64)
-IsBase-remainder b = record { fits = omega arith; congruent = congruent_shifted (2 ^ 64) 4 (b % 2 ^ 64) b (omega arith) }
+IsPlaceAt-place_in : (low size x : ℕ) → 0 < size → IsPlaceAt low size x (place_in low size x)
+IsPlaceAt-place_in low size x h = record { from = omega arith; before = place_in-lt low size x h; congruent = place_in-congruent low size x h }
 
 corrected-lt : (e base r : ℕ) → r < 2 ^ 65 → corrected e base r < 2 ^ 65
 corrected-lt e base r h = grind (arith, nat_tests)
@@ -79,13 +40,13 @@ corrected-large e base r h = grind (arith, nat_tests)
 corrected-near : (e base r : ℕ) → base < 2 ^ 64 → r < 2 ^ 65 → e < 51 → (corrected e base r / 2 ^ 63 + 4 - base / 2 ^ 63) % 4 ≤ 1
 corrected-near e base r h k s = grind (arith, nat_tests)
 
-IsTop-corrected : (e base t : ℕ) → base < 2 ^ 64 → IsTop e base (pos t -ℤ pos origin) (corrected e base (t % 2 ^ 65))
-IsTop-corrected e base t h =
+pub IsTopAt-corrected : (e base t : ℕ) → base < 2 ^ 64 → IsTopAt e base t (corrected e base (t % 2 ^ 65))
+IsTopAt-corrected e base t h =
     let small : t % 2 ^ 65 < 2 ^ 65 = omega arith in
     record {
       fits = corrected-lt e base (t % 2 ^ 65) small;
-      congruent = congruent_shifted (2 ^ 64) 4 (corrected e base (t % 2 ^ 65)) t (omega (arith, corrected-congruent e base (t % 2 ^ 65)));
-      large = λ l. congruent_shifted (2 ^ 65) 2 (corrected e base (t % 2 ^ 65)) t (omega (arith, corrected-large e base (t % 2 ^ 65) l));
+      congruent = omega (arith, corrected-congruent e base (t % 2 ^ 65));
+      large = λ l. corrected-large e base (t % 2 ^ 65) l;
       small = corrected-near e base (t % 2 ^ 65) h small;
     }
 
@@ -94,16 +55,17 @@ pub IsBounds-bounds_of : (f : Fields) → IsBounds f (bounds_of f).base (bounds_
 unfolding bounds_of
 IsBounds-bounds_of f =
     let small : base_place f % 2 ^ 64 < 2 ^ 64 = omega arith in
-    record {
-      low = pos (window_start f) -ℤ pos origin;
-      b = pos (base_place f) -ℤ pos origin;
-      t = pos (top_place f) -ℤ pos origin;
-      window = IsWindow-window_start f;
-      b_place = IsPlaceOf-place_in f (base_mantissa f);
-      t_place = IsPlaceOf-place_in f (top_mantissa f);
-      base_is = IsBase-remainder (base_place f);
-      top_is = IsTop-corrected (exponent_of f) (base_place f % 2 ^ 64) (top_place f) small;
-    }
+    let size = window_size-pos f in
+    IsBounds-counted f (base_place f % 2 ^ 64) (corrected (exponent_of f) (base_place f % 2 ^ 64) (top_place f % 2 ^ 65)) (record {
+      low = window_start f;
+      b = base_place f;
+      t = top_place f;
+      window = IsWindowAt-window_start f;
+      b_place = IsPlaceAt-place_in (window_start f) (window_size f) (base_mantissa f * 2 ^ exponent_of f) size;
+      t_place = IsPlaceAt-place_in (window_start f) (window_size f) (top_mantissa f * 2 ^ exponent_of f) size;
+      base_is = refl;
+      top_is = IsTopAt-corrected (exponent_of f) (base_place f % 2 ^ 64) (top_place f) small;
+    })
 
 -- ---- nothing else meets it
 
@@ -136,7 +98,7 @@ remainder_unique m x a b c d =
     sym (add-mul-mod_self_left a m k.i) ∙ (ap (λ n. n % m) e ∙ add-mul-mod_self_left b m k.j)
 
 -- A top is known by its lower 64 bits where bits 64 and 63 are a base's bit 63 or one more.
-near_unique : (base m n : ℕ) → base < 2 ^ 64 → m < 2 ^ 65 → n < 2 ^ 65 → m % 2 ^ 64 ≡ n % 2 ^ 64
+pub near_unique : (base m n : ℕ) → base < 2 ^ 64 → m < 2 ^ 65 → n < 2 ^ 65 → m % 2 ^ 64 ≡ n % 2 ^ 64
     → (m / 2 ^ 63 + 4 - base / 2 ^ 63) % 4 ≤ 1 → (n / 2 ^ 63 + 4 - base / 2 ^ 63) % 4 ≤ 1 → m ≡ n
 near_unique base m n h p q e near_m near_n = omega arith
 
@@ -159,6 +121,13 @@ IsBounds-unique f base top base' top' p q =
     let base_same : base ≡ base' = below_unique (2 ^ 64) p.b base base' p.base_is.fits base_moved.fits p.base_is.congruent base_moved.congruent in
     let top_moved : IsTop (exponent_of f) base p.t top' = rw (base_same, t) q.top_is in
     (base_same, IsTop-unique (exponent_of f) base p.t top top' p.base_is.fits p.top_is top_moved)
+
+-- Bounds are known by base and top.
+pub same_bounds : (p q : Bounds) → p.base ≡ q.base → p.top ≡ q.top → p ≡ q
+same_bounds p q b t =
+    let make : ℕ → ℕ → Bounds = λ b t. record { base = b; top = t } in
+    let e : make p.base p.top ≡ make q.base q.top = cc in
+    e
 
 -- The function, part by part, with each part under a name of its own.
 pub bounds_of-parts : (f : Fields) (e unit size mark low b t top : ℕ) → e ≡ exponent_of f → unit ≡ 2 ^ exponent_of f → size ≡ window_size f → mark ≡ window_mark f

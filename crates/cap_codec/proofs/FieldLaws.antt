@@ -97,3 +97,15 @@ fields_of-bits_with f w v r e =
     let metadata : metadata_of w.bits ≡ metadata_with f = ap (λ k. bit_xor k null_metadata) high ∙ xor_twice (metadata_with f) null_metadata in
     let parts : fields_of w ≡ fields_in (metadata_with f) f.address = cc in
     parts ∙ fields_in-metadata_with f v r
+
+-- ---- the fields of a word made from a word
+
+pub IsInRange-fields_of : (w : Word) → IsInRange (fields_of w)
+unfolding fields_of
+IsInRange-fields_of w = record { perms = omega arith; address = omega arith }
+
+-- A word with the metadata of w and the address a.
+pub fields_of-with_address : (w v : Word) (a : ℕ) → v.bits / 2 ^ 64 ≡ w.bits / 2 ^ 64 → v.bits % 2 ^ 64 ≡ a → fields_of v ≡ record (fields_of w) { address = a }
+unfolding fields_of
+fields_of-with_address w v a high low =
+    ap (λ h. fields_in (bit_xor h null_metadata) (v.bits % 2 ^ 64)) high ∙ ap (λ n. fields_in (metadata_of w.bits) n) low

@@ -1,5 +1,11 @@
 pub mod BoundsLaws
 pub mod ByteLaws
+pub mod CountedBounds
+pub mod EncodeLaws
 pub mod FieldLaws
 pub mod IntegerLaws
+pub mod LengthLaws
 pub mod PlaceLaws
+pub mod RepresentLaws
+pub mod RoundingLaws
+pub mod WindowSizes

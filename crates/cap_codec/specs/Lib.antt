@@ -3,3 +3,5 @@ pub mod Bytes
 pub mod Fields
 pub mod Integers
 pub mod Mantissas
+pub mod Representable
+pub mod Rounding

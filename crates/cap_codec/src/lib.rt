@@ -1,17 +1,21 @@
-//! Capability words of 64-bit CHERI-RISC-V (CHERI Concentrate): their fields, their bytes, and the
-//! bounds that they decode to.
+//! Capability words of 64-bit CHERI-RISC-V (CHERI Concentrate): their fields, their bytes, the
+//! bounds that they decode to, and words that are made for bounds.
 #![tactic(auto)]
 
 mod bytes;
 mod decode;
+mod derive;
 mod mantissas;
 mod plain;
+mod rounding;
 #[cfg(test)]
 mod tests;
 mod word;
 
 pub use crate::bytes::{from_bytes, to_bytes};
 pub use crate::decode::{fields, word_of};
+pub use crate::derive::{and_perms, set_address};
 pub use crate::mantissas::exponent;
-pub use crate::plain::bounds;
+pub use crate::plain::{bounds, representable};
+pub use crate::rounding::{alignment_mask, representable_length, with_bounds};
 pub use crate::word::{Bounds, Fields, Word};

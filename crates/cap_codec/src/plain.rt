@@ -1,10 +1,12 @@
 //! The bounds by plain integer arithmetic, as their definition says them.
 
-ghost use Rattle.std.specs.Prelude.{◌≡◌, ◌<◌, ◌≤◌, ◌+◌, ◌*◌, ◌^◌, ℕ};
+ghost use Rattle.std.specs.Prelude.{◌≡◌, ◌<◌, ◌≤◌, ◌+◌, ◌*◌, ◌^◌, ◌↔◌, IsTrue, ℕ};
 ghost use Rattle.cap_codec.specs.Bounds.{IsBounds, bounds_of, corrected, place_in};
 ghost use Rattle.cap_codec.specs.Fields.{fields_of};
+ghost use Rattle.cap_codec.specs.Representable.{IsInWindow, IsRepresentable, is_representable};
 
 use crate::decode::fields;
+use crate::derive::set_address;
 use crate::mantissas::{base_mantissa_in, exponent_in, top_mantissa_in};
 use crate::word::{Bounds, Word};
 
@@ -32,6 +34,15 @@ pub fn bounds(w: Word) -> Bounds
         base,
         top: corrected_top(exponent, base, top_place % (1 << 65)),
     }
+}
+
+/// Whether the word keeps its bounds with this address.
+pub fn representable(w: Word, address: u64) -> bool
+    ensures value { result ≡ is_representable (fields_of w) address }
+    ensures same { IsTrue result ↔ IsRepresentable (fields_of w) address }
+    ensures window { IsTrue result ↔ IsInWindow (fields_of w) address }
+{
+    bounds(set_address(w, address)) == bounds(w)
 }
 
 // What one step of a mantissa is worth at this exponent.

@@ -1,6 +1,10 @@
-//! Words of the format, with the fields and bounds that the format gives them.
+//! Words of the format, with the fields and bounds that the format gives them, and words that are
+//! made for bounds.
 
-use crate::{Bounds, Fields, Word, bounds, exponent, fields, from_bytes, to_bytes, word_of};
+use crate::{
+    Bounds, Fields, Word, alignment_mask, and_perms, bounds, exponent, fields, from_bytes,
+    representable, representable_length, set_address, to_bytes, with_bounds, word_of,
+};
 
 // The fields of the null capability.
 const NULL: Fields = Fields {
@@ -207,4 +211,86 @@ fn widths_are_checked(rt: HostRuntime) {
     for with in too_wide {
         assert!(rt; !with.is_valid());
     }
+}
+
+// Bounds that are set, with those that the word then has, and whether these are the same.
+const SET: [(u64, u128, Bounds, bool); 4] = [
+    (5, 5005, Bounds { base: 0, top: 5008 }, false),
+    (0, 1 << 64, WHOLE, true),
+    (1, 1 << 64, WHOLE, false),
+    (
+        0x4000_0000,
+        0x4000_1000,
+        Bounds {
+            base: 0x4000_0000,
+            top: 0x4000_1000,
+        },
+        true,
+    ),
+];
+
+#[test]
+fn bounds_are_set(rt: HostRuntime) {
+    for (base, top, within, is_exact) in SET {
+        assert!(rt; u128::from(base) <= top && top <= 1 << 64);
+        let (w, exact) = with_bounds(Word::NULL, base, top);
+        assert_eq!(rt; (fields(w).address, exact), (base, is_exact));
+        assert_eq!(rt; bounds(w), within);
+    }
+    assert_eq!(rt; with_bounds(Word::NULL, 0, 1 << 64), (Word::NULL, true));
+    let (page, _) = with_bounds(Word::NULL, 0x4000_0000, 0x4000_1000);
+    assert_eq!(rt;
+        to_bytes(page),
+        bytes_of(0x4000_0000, [0x04, 0x80, 0x01, 0, 0, 0, 0, 0])
+    );
+}
+
+#[test]
+fn addresses_are_representable(rt: HostRuntime) {
+    let block = word_of(BLOCK);
+    let cases = [
+        (0x3fff_f7ff, false),
+        (0x3fff_f800, true),
+        (0x4000_37ff, true),
+        (0x4000_3800, false),
+    ];
+    for (address, kept) in cases {
+        assert_eq!(rt; representable(block, address), kept, "at {address}");
+    }
+    let (last_page, _) = with_bounds(Word::NULL, 0xffff_ffff_ffff_f000, 1 << 64);
+    assert!(rt; representable(last_page, 0x10));
+}
+
+#[test]
+fn lengths_are_rounded(rt: HostRuntime) {
+    let cases = [
+        (0, 0, u64::MAX),
+        (4095, 4095, u64::MAX),
+        (4097, 4104, 0xffff_ffff_ffff_fff8),
+        (8191, 8192, 0xffff_ffff_ffff_fff0),
+        (131_056, 131_072, 0xffff_ffff_ffff_ff00),
+        (u64::MAX, 1 << 64, 0xff80_0000_0000_0000),
+    ];
+    for (n, length, mask) in cases {
+        assert_eq!(rt;
+            (representable_length(n), alignment_mask(n)),
+            (length, mask),
+            "at {n}"
+        );
+    }
+}
+
+#[test]
+fn words_are_edited(rt: HostRuntime) {
+    let block = word_of(BLOCK);
+    let moved = Fields {
+        address: 0x3fff_f7ff,
+        ..BLOCK
+    };
+    assert_eq!(rt; fields(set_address(block, 0x3fff_f7ff)), moved);
+    let fewer = Fields {
+        perms: 0x05,
+        ..BLOCK
+    };
+    assert_eq!(rt; fields(and_perms(block, 0x07)), fewer);
 }

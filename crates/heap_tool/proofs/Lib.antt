@@ -1,3 +1,2 @@
 mod AnswerLaws
-mod HexadecimalLaws
 mod SendLemmas

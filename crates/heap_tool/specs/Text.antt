@@ -1,26 +1,14 @@
 -- The lines that the program writes.
-use Rattle.std.specs.Prelude.{ℕ, Bool, List, [], ◌∷◌, ◌++◌, false, codes}
-use Rattle.std.specs.Fmt.{decimal, digits}
+use Rattle.std.specs.Prelude.{ℕ, List, [], ◌∷◌, codes}
+use Rattle.std.specs.Fmt.{decimal}
 use Rattle.std.specs.List.{concat}
 use Rattle.cap_codec.specs.declared.word.Bounds.{Bounds}
 use Rattle.cap_codec.specs.declared.word.Fields.{Fields}
 use Rattle.cap_codec.specs.declared.word.Word.{Word}
 use Rattle.cap_codec.specs.Bounds.{bounds_of}
-use Rattle.cap_codec.specs.Fields.{bit_of, fields_of}
+use Rattle.cap_codec.specs.Fields.{fields_of}
 use Rattle.cap_codec.specs.Mantissas.{exponent_of}
-
--- `0x` and the lower-case hexadecimal_text digits, without leading zeros (`0x0` for zero).
-abbrev pub hexadecimal_text : ℕ → List ℕ
-hexadecimal_text n = codes "0x" ++ digits 16 false n
-
--- `1` for true and `0` for false.
-abbrev pub bit_text : Bool → List ℕ
-bit_text b = decimal (bit_of b)
-
--- An address, and bounds.
-abbrev pub place_text : ℕ → Bounds → List ℕ
-place_text address bounds =
-    concat (codes "address " ∷ hexadecimal_text address ∷ codes " base " ∷ hexadecimal_text bounds.base ∷ codes " top " ∷ hexadecimal_text bounds.top ∷ [])
+use Rattle.heap_trace.specs.Display.{bit_text, hexadecimal_text, place_text}
 
 -- What a word with these fields allows, and its type.
 abbrev pub rights_text : Fields → List ℕ
@@ -38,7 +26,7 @@ encoding_text f exponent =
 -- The line of a word with these fields, bounds and exponent.
 abbrev pub line_with : Fields → Bounds → ℕ → List ℕ
 line_with f bounds exponent =
-    concat (place_text f.address bounds ∷ codes " " ∷ rights_text f ∷ codes " " ∷ encoding_text f exponent ∷ codes "\n" ∷ [])
+    concat (place_text f.address bounds.base bounds.top ∷ codes " " ∷ rights_text f ∷ codes " " ∷ encoding_text f exponent ∷ codes "\n" ∷ [])
 
 -- The line of a word: its fields, and the bounds and the exponent that they encode.
 abbrev pub word_line : Word → List ℕ

@@ -1,0 +1,54 @@
+-- The table of a heap with no block.
+use Rattle.std.proofs.Common.{◌≡◌, ◌<◌, ◌≤◌, ◌+◌, ◌*◌, ◌%◌, ◌/◌, ◌^◌, ℕ, zero, suc, Bool, false, List, [], ◌∷◌, length, get_or, replicate, refl, sym, ◌∙◌, arith}
+use Rattle.std.proofs.lemmas.Bool.{le-ltb}
+use Rattle.std.proofs.lemmas.Bool.Decides.{nat_tests}
+use Rattle.std.proofs.lemmas.List.{length-replicate}
+use Rattle.heap_core.specs.Heap.{empty_heap}
+use Rattle.heap_core.specs.Table.{AreFree, IsTable, blocks_of, is_held, is_live, is_taken, table_state}
+
+abbrev pub zeros : ℕ → List ℕ
+zeros n = replicate n 0
+
+get_or-zeros : (n k : ℕ) → get_or (zeros n) k 0 ≡ 0
+get_or-zeros zero k = refl
+get_or-zeros (suc n) zero = refl
+get_or-zeros (suc n) (suc k) = get_or-zeros n k
+
+is_taken-zeros : (n k : ℕ) → is_taken k (zeros n) ≡ false
+is_taken-zeros zero k = refl
+is_taken-zeros (suc n) zero = refl
+is_taken-zeros (suc n) (suc k) = rw (le-ltb (suc k) 0 (omega arith)) (is_taken-zeros n k)
+
+pub blocks_of-zeros : (keeps : Bool → Bool) (base i n : ℕ) → blocks_of keeps base i (zeros n) (replicate n false) ≡ []
+blocks_of-zeros keeps base i zero = refl
+blocks_of-zeros keeps base i (suc n) = blocks_of-zeros keeps base (i + 1) n
+
+pub IsTable-zeros : (base n : ℕ) → base % 4096 ≡ 0 → n % 256 ≡ 0 → 0 < n → n ≤ 256 * 1024 → base + 16 * n ≤ 2 ^ 64
+    → IsTable base (zeros n) (replicate n false)
+IsTable-zeros base n multiple pages some limit end =
+    let long : length (zeros n) ≡ n = length-replicate n zero in
+    record {
+      same = length-replicate n false ∙ sym long;
+      multiple = multiple;
+      pages = rw long pages;
+      some = rw long some;
+      limit = rw long limit;
+      end = rw long end;
+      inside = λ j lt. omega (arith, get_or-zeros n j);
+      apart = λ j k lt block. absurd (omega (arith, get_or-zeros n k));
+    }
+
+-- All its granules are one extent.
+pub AreFree-zeros : (n : ℕ) → 0 < n → AreFree (zeros n) (record { start = 0; length = n } ∷ [])
+AreFree-zeros n some =
+    let long : length (zeros n) ≡ n = length-replicate n zero in
+    record {
+      gapped = rw long (omega arith, (some, (omega arith, tt)));
+      free = λ k lt. rw is_taken-zeros (grind (arith, nat_tests));
+    }
+
+pub table_state-zeros : (base n : ℕ) → n % 256 ≡ 0
+    → table_state base (zeros n) (replicate n false) ≡ empty_heap base (n / 256)
+table_state-zeros base n pages =
+    let size : 16 * n ≡ 4096 * (n / 256) = omega arith in
+    rw (length-replicate n zero, size, blocks_of-zeros is_live base 0 n, blocks_of-zeros is_held base 0 n) refl

@@ -1,0 +1,9 @@
+pub mod BlockLaws
+pub mod EmptyLaws
+pub mod ExtentLaws
+pub mod FreeLaws
+pub mod PlaceLaws
+pub mod RunLaws
+pub mod SizeLaws
+pub mod SoundLaws
+pub mod SumLaws

@@ -1,0 +1,81 @@
+-- The places of a heap are the free runs of its table.
+use Rattle.std.proofs.Common.{◌≡◌, ◌<◌, ◌≤◌, ◌+◌, ◌-◌, ◌*◌, ◌/◌, inl, inr, ℕ, Bool, true, false, List, length, get_or, refl, arith}
+use Rattle.std.proofs.lemmas.Bool.{cases_Bool}
+use Rattle.std.specs.Prelude.{All}
+use Rattle.heap_core.specs.Blocks.{IsApart, Span}
+use Rattle.heap_core.specs.Place.{IsFree, IsPlace}
+use Rattle.heap_core.specs.Table.{IsFirstRun, IsRun, IsTable, blocks_of, is_held, is_live, is_taken, table_state}
+use Rattle.heap_core.proofs.BlockLaws.{All-block, All-blocks_of}
+use Rattle.heap_core.proofs.RunLaws.{is_taken_by, run_is_apart}
+use Rattle.heap_core.proofs.SizeLaws.{HasGranules}
+
+-- Each block shares no address with a free run.
+All-IsApart : (keeps : Bool → Bool) (base : ℕ) (lengths : List ℕ) (marks : List Bool) (p n : ℕ) → IsRun lengths p n
+    → All (IsApart (base + 16 * p, 16 * n)) (blocks_of keeps base 0 lengths marks)
+All-IsApart keeps base lengths marks p n run =
+    All-blocks_of (IsApart (base + 16 * p, 16 * n)) keeps base 0 lengths marks true
+    (λ k start at lt some kept. elim (run_is_apart lengths p n k run some) [ inl before ↦ inr (omega arith) | inr after ↦ inl (omega arith) ])
+
+-- Granules that share no address with a block, live or held, are free.
+apart_is_free : (base : ℕ) (lengths : List ℕ) (marks : List Bool) (p n k : ℕ) → length marks ≡ length lengths
+    → All (IsApart (base + 16 * p, 16 * n)) (blocks_of is_live base 0 lengths marks)
+    → All (IsApart (base + 16 * p, 16 * n)) (blocks_of is_held base 0 lengths marks)
+    → p ≤ k → k < p + n → k < length lengths → is_taken k lengths ≡ false
+apart_is_free base lengths marks p n k same live held le lt within =
+    elim (cases_Bool (is_taken k lengths)) [
+      | inl taken ↦
+          let by = is_taken_by lengths k taken in
+          let start = base + 16 * by.0 in
+          let inside : by.0 < length lengths = omega (arith, by.1.0) in
+          let some : 0 < get_or lengths by.0 0 = omega (arith, by.1.0, by.1.1) in
+          let P : Span → Type 0 = IsApart (base + 16 * p, 16 * n) in
+          let apart : IsApart (base + 16 * p, 16 * n) (base + 16 * by.0, 16 * get_or lengths by.0 0) =
+          elim (cases_Bool (get_or marks by.0 true)) [
+            | inl is ↦ All-block P is_held base 0 lengths marks true by.0 start held same (omega arith) inside some is
+            | inr is ↦ All-block P is_live base 0 lengths marks true by.0 start live same (omega arith) inside some (rw is refl)
+          ] in
+          elim apart [
+            | inl before ↦ absurd (omega (arith, by.1.0, by.1.1))
+            | inr after ↦ absurd (omega (arith, by.1.0, by.1.1))
+          ]
+      | inr free ↦ free
+    ]
+
+-- A block may start at a free run.
+IsFree-from_run : (base : ℕ) (lengths : List ℕ) (marks : List Bool) (size p n : ℕ) → IsTable base lengths marks → HasGranules size n
+    → IsRun lengths p n → IsFree (table_state base lengths marks) size (base + 16 * p)
+IsFree-from_run base lengths marks size p n table has run =
+    record {
+      granule = omega (arith, table.multiple);
+      unit = rw has.unit (omega arith);
+      from = omega arith;
+      end = rw has.length (omega (arith, run.end));
+      live = rw has.length (All-IsApart is_live base lengths marks p n run);
+      held = rw has.length (All-IsApart is_held base lengths marks p n run);
+    }
+
+-- Where it may start, there is one.
+pub IsRun-from_free : (base : ℕ) (lengths : List ℕ) (marks : List Bool) (size a n : ℕ) → IsTable base lengths marks → HasGranules size n
+    → IsFree (table_state base lengths marks) size a → IsRun lengths ((a - base) / 16) n
+IsRun-from_free base lengths marks size a n table has free =
+    let p = (a - base) / 16 in
+    let at : a ≡ base + 16 * ((a - base) / 16) = omega (arith, free.granule, free.from, table.multiple) in
+    let end : (a - base) / 16 + n ≤ length lengths = omega (arith, free.end, has.length) in
+    let live = rw (has.length, at) at free.live in
+    let held = rw (has.length, at) at free.held in
+    record {
+      some = has.some;
+      end = end;
+      free = λ k le lt. apart_is_free base lengths marks p n k table.same live held le lt (omega arith);
+    }
+
+-- The first free run is at the least place.
+pub IsPlace-from_run : (base : ℕ) (lengths : List ℕ) (marks : List Bool) (size p n : ℕ) → IsTable base lengths marks → HasGranules size n
+    → IsFirstRun lengths p n → IsPlace (table_state base lengths marks) size (base + 16 * p)
+IsPlace-from_run base lengths marks size p n table has first =
+    record {
+      free = IsFree-from_run base lengths marks size p n table has first.run;
+      least = λ a free.
+          let le = first.least ((a - base) / 16) (IsRun-from_free base lengths marks size a n table has free) in
+          omega (arith, free.from);
+    }

@@ -1,0 +1,145 @@
+-- The granules that the blocks of a table take, and the runs that they leave free.
+use Rattle.std.proofs.Common.{◌≡◌, ◌<◌, ◌≤◌, ◌+◌, ◌*◌, ◌⊎◌, inl, inr, nat_lt, ◌||◌, ℕ, zero, suc, Bool, true, false, List, [], ◌∷◌, length, get_or, set, length-set, refl, sym, ap, ◌∙◌, arith}
+use Rattle.std.proofs.lemmas.Bool.{cases_eq, cases_lt, lt-ltb, ltb-true, or_cases, true≢false}
+use Rattle.std.proofs.lemmas.Bool.Decides.{nat_tests}
+use Rattle.std.proofs.lemmas.List.{get_or-set_other, get_or-set_same}
+use Rattle.heap_core.specs.Blocks.{blocks_with}
+use Rattle.heap_core.specs.Table.{IsRun, IsTable, blocks_of, is_held, is_live, is_taken, table_state}
+use Rattle.heap_core.proofs.BlockLaws.{blocks_of-set, blocks_of-set_other}
+
+-- ---- the granules taken
+
+-- The granules of a block are taken.
+pub is_taken_within : (lengths : List ℕ) (j k : ℕ) → j ≤ k → k < j + get_or lengths j 0 → is_taken k lengths ≡ true
+is_taken_within [] j k le lt = absurd (omega arith)
+is_taken_within (n ∷ lengths) zero zero le lt = lt-ltb 0 n (omega arith)
+is_taken_within (n ∷ lengths) zero (suc k) le lt = rw (lt-ltb (suc k) n (omega arith)) refl
+is_taken_within (n ∷ lengths) (suc j) zero le lt = absurd (omega arith)
+is_taken_within (n ∷ lengths) (suc j) (suc k) le lt = rw (is_taken_within lengths j k (omega arith) (omega arith)) (grind arith)
+
+-- And no others.
+pub is_taken_by : (lengths : List ℕ) (k : ℕ) → is_taken k lengths ≡ true → (j : ℕ) × ((j ≤ k) × (k < j + get_or lengths j 0))
+is_taken_by [] k is = absurd (true≢false (sym is))
+is_taken_by (n ∷ lengths) zero is = (0, (omega arith, omega (arith, ltb-true 0 n is)))
+is_taken_by (n ∷ lengths) (suc k) is =
+    elim (or_cases (nat_lt (suc k) n) (is_taken k lengths) is) [
+      | inl here ↦ (0, (omega arith, omega (arith, ltb-true (suc k) n here)))
+      | inr later ↦ (let by = is_taken_by lengths k later in (suc by.0, (omega (arith, by.1.0), omega (arith, by.1.1))))
+    ]
+
+-- A block at a granule where none started takes no granule outside it.
+pub is_taken-set_other : (lengths : List ℕ) (p n k : ℕ) → get_or lengths p 0 ≡ 0 → (k < p) ⊎ (p + n ≤ k)
+    → is_taken k (set lengths p n) ≡ is_taken k lengths
+is_taken-set_other [] p n k none other = refl
+is_taken-set_other (m ∷ lengths) zero n zero none other = rw none (grind (arith, nat_tests))
+is_taken-set_other (m ∷ lengths) zero n (suc k) none other = rw none (grind (arith, nat_tests))
+is_taken-set_other (m ∷ lengths) (suc p) n zero none other = refl
+is_taken-set_other (m ∷ lengths) (suc p) n (suc k) none other =
+    let outside : (k < p) ⊎ (p + n ≤ k) = elim other [ inl lt ↦ inl (omega arith) | inr le ↦ inr (omega arith) ] in
+    ap (λ later. nat_lt (suc k) m || later) (is_taken-set_other lengths p n k none outside)
+
+-- ---- free runs
+
+-- A block shares no granule with a free run.
+pub run_is_apart : (lengths : List ℕ) (p n k : ℕ) → IsRun lengths p n → 0 < get_or lengths k 0
+    → (k + get_or lengths k 0 ≤ p) ⊎ (p + n ≤ k)
+run_is_apart lengths p n k run some =
+    elim (cases_lt p (k + get_or lengths k 0)) [
+      | inl reaches ↦ elim (cases_lt k (p + n)) [
+        | inl before ↦ elim (cases_lt k p) [
+          | inl less ↦
+              let taken = is_taken_within lengths k p (omega arith) reaches in
+              absurd (true≢false (sym taken ∙ run.free p (omega arith) (omega (arith, run.some))))
+          | inr le ↦
+              let taken = is_taken_within lengths k k (omega arith) (omega arith) in
+              absurd (true≢false (sym taken ∙ run.free k le before))
+        ]
+        | inr after ↦ inr after
+      ]
+      | inr ends ↦ inl ends
+    ]
+
+-- No block starts in it.
+pub run_is_empty : (lengths : List ℕ) (p n k : ℕ) → IsRun lengths p n → p ≤ k → k < p + n → get_or lengths k 0 ≡ 0
+run_is_empty lengths p n k run le lt =
+    elim (cases_lt 0 (get_or lengths k 0)) [
+      | inl some ↦ elim (run_is_apart lengths p n k run some) [ inl before ↦ absurd (omega arith) | inr after ↦ absurd (omega arith) ]
+      | inr none ↦ omega arith
+    ]
+
+-- None from before reaches into it.
+run_is_clear : (lengths : List ℕ) (p n j : ℕ) → IsRun lengths p n → j < p → j + get_or lengths j 0 ≤ p
+run_is_clear lengths p n j run lt =
+    elim (cases_lt 0 (get_or lengths j 0)) [
+      | inl some ↦ elim (run_is_apart lengths p n j run some) [ inl before ↦ before | inr after ↦ absurd (omega (arith, run.some)) ]
+      | inr none ↦ omega arith
+    ]
+
+-- ---- a block at a free run
+
+inside-set : (lengths : List ℕ) (p n j : ℕ) → ((j : ℕ) → j < length lengths → j + get_or lengths j 0 ≤ length lengths)
+    → IsRun lengths p n → j < length lengths → j + get_or (set lengths p n) j 0 ≤ length lengths
+inside-set lengths p n j inside run lt =
+    elim (cases_eq j p) [
+      | inl is ↦
+          let here : get_or (set lengths p n) j 0 ≡ n = rw is (get_or-set_same lengths p n 0 (omega arith)) in
+          omega (arith, run.end)
+      | inr is_not ↦
+          let other : get_or (set lengths p n) j 0 ≡ get_or lengths j 0 = get_or-set_other lengths p j n 0 is_not in
+          omega (arith, inside j lt)
+    ]
+
+apart-set : (lengths : List ℕ) (p n j k : ℕ) → ((j k : ℕ) → j < k → 0 < get_or lengths k 0 → j + get_or lengths j 0 ≤ k)
+    → IsRun lengths p n → j < k → 0 < get_or (set lengths p n) k 0 → j + get_or (set lengths p n) j 0 ≤ k
+apart-set lengths p n j k apart run lt some =
+    elim (cases_eq k p) [
+      | inl is ↦
+          let other : get_or (set lengths p n) j 0 ≡ get_or lengths j 0 = get_or-set_other lengths p j n 0 (λ same. omega arith) in
+          omega (arith, run_is_clear lengths p n j run (omega arith))
+      | inr is_not ↦
+          let there : get_or (set lengths p n) k 0 ≡ get_or lengths k 0 = get_or-set_other lengths p k n 0 is_not in
+          elim (cases_eq j p) [
+            | inl is ↦
+                let here : get_or (set lengths p n) j 0 ≡ n = rw is (get_or-set_same lengths p n 0 (omega (arith, run.end, run.some))) in
+                elim (run_is_apart lengths p n k run (omega arith)) [ inl before ↦ absurd (omega arith) | inr after ↦ omega arith ]
+            | inr j_is_not ↦
+                let other : get_or (set lengths p n) j 0 ≡ get_or lengths j 0 = get_or-set_other lengths p j n 0 j_is_not in
+                omega (arith, apart j k lt (omega arith))
+          ]
+    ]
+
+pub IsTable-set : (base : ℕ) (lengths : List ℕ) (marks : List Bool) (p n : ℕ) → IsTable base lengths marks → IsRun lengths p n
+    → IsTable base (set lengths p n) (set marks p false)
+IsTable-set base lengths marks p n table run =
+    let long : length (set lengths p n) ≡ length lengths = length-set lengths p n in
+    record {
+      same = length-set marks p false ∙ (table.same ∙ sym long);
+      multiple = table.multiple;
+      pages = rw long table.pages;
+      some = rw long table.some;
+      limit = rw long table.limit;
+      end = rw long table.end;
+      inside = λ j lt. rw long (inside-set lengths p n j table.inside run (omega arith));
+      apart = λ j k lt some. apart-set lengths p n j k table.apart run lt some;
+    }
+
+-- One more block is live.
+pub live_blocks-set : (base : ℕ) (lengths : List ℕ) (marks : List Bool) (p n : ℕ) → length marks ≡ length lengths → IsRun lengths p n
+    → blocks_of is_live base 0 (set lengths p n) (set marks p false)
+    ≡ blocks_with (base + 16 * p, 16 * n) (blocks_of is_live base 0 lengths marks)
+live_blocks-set base lengths marks p n same run =
+    let none = run_is_empty lengths p n p run (omega arith) (omega (arith, run.some)) in
+    blocks_of-set is_live base 0 lengths marks p n (base + 16 * p) false (omega (arith, run.end, run.some)) same none run.some refl (omega arith)
+
+-- The same blocks are held.
+pub held_blocks-set : (base : ℕ) (lengths : List ℕ) (marks : List Bool) (p n : ℕ) → IsRun lengths p n
+    → blocks_of is_held base 0 (set lengths p n) (set marks p false) ≡ blocks_of is_held base 0 lengths marks
+held_blocks-set base lengths marks p n run =
+    let none = run_is_empty lengths p n p run (omega arith) (omega (arith, run.some)) in
+    blocks_of-set_other is_held base 0 lengths marks p n false none refl
+
+pub table_state-set : (base : ℕ) (lengths : List ℕ) (marks : List Bool) (p n : ℕ) → length marks ≡ length lengths → IsRun lengths p n
+    → table_state base (set lengths p n) (set marks p false)
+    ≡ record (table_state base lengths marks) { live = blocks_with (base + 16 * p, 16 * n) (blocks_of is_live base 0 lengths marks) }
+table_state-set base lengths marks p n same run =
+    rw (length-set lengths p n, live_blocks-set base lengths marks p n same run, held_blocks-set base lengths marks p n run) refl

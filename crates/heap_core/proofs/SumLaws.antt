@@ -1,0 +1,64 @@
+-- The bytes of a table's blocks, which are at most those of its granules.
+use Rattle.std.proofs.Common.{◌≡◌, ◌<◌, ◌≤◌, ◌+◌, ◌-◌, ◌*◌, ◌⊎◌, inl, inr, nat_lt, ℕ, suc, Bool, List, [], ◌∷◌, length, get_or, sum, arith}
+use Rattle.std.proofs.lemmas.Bool.{cases_Bool, cases_lt, le-ltb, lt-ltb}
+use Rattle.std.proofs.lemmas.List.Sums.{sum_by-cons}
+use Rattle.heap_core.specs.Blocks.{Span, blocks_with, bytes_of, length_of, start_of}
+use Rattle.heap_core.specs.Table.{IsTable, blocks_of, is_held, is_live}
+
+bytes_of-cons : (block : Span) (blocks : List Span) → bytes_of (block ∷ blocks) ≡ length_of block + bytes_of blocks
+bytes_of-cons block blocks = sum_by-cons length_of block blocks
+
+pub bytes_of-blocks_with : (block : Span) (blocks : List Span) → bytes_of (blocks_with block blocks) ≡ length_of block + bytes_of blocks
+bytes_of-blocks_with block [] = bytes_of-cons block []
+bytes_of-blocks_with block (b ∷ blocks) =
+    elim (cases_Bool (nat_lt (start_of block) (start_of b))) [
+      | inl is ↦ rw is (bytes_of-cons block (b ∷ blocks))
+      | inr is ↦ rw is (omega (arith, bytes_of-cons b (blocks_with block blocks), bytes_of-blocks_with block blocks, bytes_of-cons b blocks))
+    ]
+
+-- Each block is live or held.
+bytes_of_both : (base i : ℕ) (lengths : List ℕ) (marks : List Bool) → length marks ≡ length lengths
+    → bytes_of (blocks_of is_live base i lengths marks) + bytes_of (blocks_of is_held base i lengths marks) ≡ 16 * sum lengths
+bytes_of_both base i [] marks same = omega arith
+bytes_of_both base i (n ∷ lengths) [] same = absurd (omega arith)
+bytes_of_both base i (n ∷ lengths) (mark ∷ marks) same =
+    let live = blocks_of is_live base (i + 1) lengths marks in
+    let held = blocks_of is_held base (i + 1) lengths marks in
+    let rest = bytes_of_both base (i + 1) lengths marks (omega arith) in
+    let all : sum (n ∷ lengths) ≡ n + sum lengths = sum_by-cons (λ x. x) n lengths in
+    elim (cases_lt 0 n) [
+      | inl some ↦ elim (cases_Bool mark) [
+        | inl is ↦ rw (lt-ltb 0 n some, is) (omega (arith, bytes_of-cons (base + 16 * i, 16 * n) held))
+        | inr is ↦ rw (lt-ltb 0 n some, is) (omega (arith, bytes_of-cons (base + 16 * i, 16 * n) live))
+      ]
+      | inr none ↦ rw (le-ltb 0 n none) (omega arith)
+    ]
+
+-- The lengths of blocks that do not reach into one another add up to no more than the granules, of which
+-- the first `taken` lie in an earlier block.
+sum_fits : (taken : ℕ) (lengths : List ℕ) → ((k : ℕ) → k < taken → get_or lengths k 0 ≡ 0)
+    → ((j : ℕ) → j < length lengths → j + get_or lengths j 0 ≤ length lengths)
+    → ((j k : ℕ) → j < k → 0 < get_or lengths k 0 → j + get_or lengths j 0 ≤ k)
+    → taken ≤ length lengths → sum lengths + taken ≤ length lengths
+sum_fits taken [] none inside apart le = omega arith
+sum_fits taken (n ∷ lengths) none inside apart le =
+    let one : (taken ≡ 0) ⊎ (n ≡ 0) = elim (cases_lt 0 taken) [ inl some ↦ inr (none 0 some) | inr not_some ↦ inl (omega arith) ] in
+    let here : 0 + n ≤ length (n ∷ lengths) = inside 0 (omega arith) in
+    let rest_none : (k : ℕ) → k < taken + n - 1 → get_or lengths k 0 ≡ 0 =
+    λ k lt. elim (cases_lt 0 (get_or lengths k 0)) [
+      | inl some ↦ (let before : 0 + n ≤ suc k = apart 0 (suc k) (omega arith) some in omega (arith, none (suc k)))
+      | inr empty ↦ omega arith
+    ] in
+    let rest = sum_fits (taken + n - 1) lengths rest_none
+    (λ j lt. let h = inside (suc j) (omega arith) in omega arith)
+    (λ j k lt some. let h = apart (suc j) (suc k) (omega arith) some in omega arith)
+    (omega arith) in
+    omega (arith, sum_by-cons (λ x. x) n lengths)
+
+-- So do those of live and of held blocks together.
+pub granules_fit : (base : ℕ) (lengths : List ℕ) (marks : List Bool) (live held : ℕ) → IsTable base lengths marks
+    → 16 * live ≡ bytes_of (blocks_of is_live base 0 lengths marks) → 16 * held ≡ bytes_of (blocks_of is_held base 0 lengths marks)
+    → live + held ≤ length lengths
+granules_fit base lengths marks live held table live_is held_is =
+    let all = sum_fits 0 lengths (λ k lt. absurd (omega arith)) table.inside table.apart (omega arith) in
+    omega (arith, bytes_of_both base 0 lengths marks table.same)

@@ -1,0 +1,34 @@
+-- Extents: runs of free granules, whose numbers are counted from the heap's base.
+use Rattle.std.specs.Prelude.{◌<◌, ◌≤◌, ◌+◌, ◌-◌, nat_le, nat_lt, ◌&&◌, ℕ, zero, suc, Bool, List, [], ◌∷◌, ◌++◌, Option, position}
+use Rattle.std.specs.List.{list_any}
+use Rattle.heap_core.specs.declared.extent.Extent.{Extent}
+
+-- Granule k lies in the extent.
+abbrev pub has_granule : ℕ → Extent → Bool
+has_granule k e = nat_le e.start k && nat_lt k (e.start + e.length)
+
+-- Granule k lies in one of the extents.
+abbrev pub covers : List Extent → ℕ → Bool
+covers extents k = list_any (has_granule k) extents
+
+-- The extents lie from granule `from` to before `end`, in order. None is empty, and none touches the
+-- next.
+abbrev pub IsGapped : ℕ → ℕ → List Extent → Type 0
+IsGapped from end [] = Unit {0}
+IsGapped from end (e ∷ extents) =
+    (from ≤ e.start) × ((0 < e.length) × ((e.start + e.length ≤ end) × IsGapped (e.start + e.length + 1) end extents))
+
+-- The index of the first extent of at least n granules.
+abbrev pub first_fit_of : ℕ → List Extent → Option ℕ
+first_fit_of n extents = position (λ e. nat_le n e.length) extents
+
+-- An extent, or none where it would be empty.
+abbrev pub extent_or_none : ℕ → ℕ → List Extent
+extent_or_none start zero = []
+extent_or_none start (suc n) = record { start = start; length = suc n } ∷ []
+
+-- The extents without the first n granules of the one at index i.
+abbrev pub extents_without : ℕ → ℕ → List Extent → List Extent
+extents_without i n [] = []
+extents_without zero n (e ∷ extents) = extent_or_none (e.start + n) (e.length - n) ++ extents
+extents_without (suc i) n (e ∷ extents) = e ∷ extents_without i n extents

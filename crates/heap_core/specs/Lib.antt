@@ -1,0 +1,5 @@
+pub mod Blocks
+pub mod Extents
+pub mod Heap
+pub mod Place
+pub mod Table

@@ -1,0 +1,79 @@
+-- How a heap is stored: as a table, which has for each granule the length in granules of the block
+-- that starts there, or 0, and a mark that says whether that block is held; and as free extents.
+use Rattle.std.specs.Prelude.{◌≡◌, ◌<◌, ◌≤◌, ◌+◌, ◌*◌, ◌%◌, ◌^◌, nat_lt, ◌&&◌, ◌||◌, not, if◌then◌else◌, ℕ, zero, suc, Bool, false, List, [], ◌∷◌, ◌++◌, length, slice_index, vec_capacity}
+use Rattle.heap_core.specs.Blocks.{Span, bytes_of}
+use Rattle.heap_core.specs.Extents.{IsGapped, covers}
+use Rattle.heap_core.specs.Heap.{HeapState}
+use Rattle.heap_core.specs.declared.extent.Extent.{Extent}
+use Rattle.heap_core.specs.declared.heap.Heap.TheInside.{Inside}
+
+-- The blocks whose marks pass the test, of a table that begins at granule i.
+abbrev pub blocks_of : (Bool → Bool) → ℕ → ℕ → List ℕ → List Bool → List Span
+blocks_of keeps base i [] marks = []
+blocks_of keeps base i (n ∷ lengths) [] = []
+blocks_of keeps base i (n ∷ lengths) (mark ∷ marks) =
+    (if nat_lt 0 n && keeps mark then (base + 16 * i, 16 * n) ∷ [] else [])
+    ++ blocks_of keeps base (i + 1) lengths marks
+
+-- The test that the marks of live blocks pass.
+abbrev pub is_live : Bool → Bool
+is_live mark = not mark
+
+-- The test that the marks of held blocks pass.
+abbrev pub is_held : Bool → Bool
+is_held mark = mark
+
+-- What a caller sees of a table.
+abbrev pub table_state : ℕ → List ℕ → List Bool → HeapState
+table_state base lengths marks = record {
+  base = base;
+  size = 16 * length lengths;
+  live = blocks_of is_live base 0 lengths marks;
+  held = blocks_of is_held base 0 lengths marks;
+}
+
+-- What a caller sees of a heap.
+abbrev pub state_of : Inside → HeapState
+state_of h = table_state h.base h.lengths.items h.held.items
+
+-- Granule k lies in a block.
+abbrev pub is_taken : ℕ → List ℕ → Bool
+is_taken k [] = false
+is_taken zero (n ∷ lengths) = nat_lt 0 n
+is_taken (suc k) (n ∷ lengths) = nat_lt (suc k) n || is_taken k lengths
+
+-- The n granules from p on, at least one, lie in no block.
+pub record IsRun (lengths : List ℕ) (p n : ℕ) : Type 0 where
+  pub some : 0 < n
+  pub end : p + n ≤ length lengths
+  pub free : (k : ℕ) → p ≤ k → k < p + n → is_taken k lengths ≡ false
+
+-- And no n granules from an earlier one on do.
+pub record IsFirstRun (lengths : List ℕ) (p n : ℕ) : Type 0 where
+  pub run : IsRun lengths p n
+  pub least : (q : ℕ) → IsRun lengths q n → p ≤ q
+
+-- The table is one of whole pages, and each block ends inside it and before the next one starts.
+pub record IsTable (base : ℕ) (lengths : List ℕ) (marks : List Bool) : Type 0 where
+  pub same : length marks ≡ length lengths
+  pub multiple : base % 4096 ≡ 0
+  pub pages : length lengths % 256 ≡ 0
+  pub some : 0 < length lengths
+  pub limit : length lengths ≤ 256 * 1024
+  pub end : base + 16 * length lengths ≤ 2 ^ 64
+  pub inside : (j : ℕ) → j < length lengths → j + slice_index lengths j ≤ length lengths
+  pub apart : (j k : ℕ) → j < k → 0 < slice_index lengths k → j + slice_index lengths j ≤ k
+
+-- The extents are the granules that lie in no block.
+pub record AreFree (lengths : List ℕ) (extents : List Extent) : Type 0 where
+  pub gapped : IsGapped 0 (length lengths) extents
+  pub free : (k : ℕ) → k < length lengths → covers extents k ≡ not (is_taken k lengths)
+
+-- The parts of a heap agree, and there is room for as many extents as there can be: since no two
+-- touch, half as many as granules.
+pub record IsConsistent (h : Inside) : Type 0 where
+  pub table : IsTable h.base h.lengths.items h.held.items
+  pub extents : AreFree h.lengths.items h.extents.items
+  pub live : 16 * h.live_granules ≡ bytes_of (blocks_of is_live h.base 0 h.lengths.items h.held.items)
+  pub held : 16 * h.held_granules ≡ bytes_of (blocks_of is_held h.base 0 h.lengths.items h.held.items)
+  pub room : length h.lengths.items < 2 * vec_capacity h.extents

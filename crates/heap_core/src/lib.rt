@@ -1,0 +1,14 @@
+//! An allocator's blocks over one heap: which are live, which are held, and where one more goes.
+#![tactic(auto)]
+
+mod block;
+mod extent;
+mod fault;
+mod heap;
+mod table;
+#[cfg(test)]
+mod tests;
+
+pub use crate::block::Block;
+pub use crate::fault::HeapFault;
+pub use crate::heap::Heap;

@@ -1,0 +1,18 @@
+use Rattle.std.proofs.Common.{◌≡◌, ℕ, List, take, [], ◌∷◌, ◌++◌, get_or, subst, sym}
+use Rattle.std.proofs.lemmas.List.{take_more}
+use Rattle.heap_trace.specs.declared.trace.Command.{Command}
+use Rattle.heap_trace.specs.declared.trace.Command.TheVariants.{Malloc}
+use Rattle.heap_trace.specs.Run.{Told}
+use Rattle.heap_trace.proofs.Runs.{Told-push}
+use Rattle.heap_trace.proofs.running.run_commands.Goals as goal
+
+pub loop-line-preserved : goal.loop-line-preserved
+loop-line-preserved g c =
+    let items = c.args.commands.now in
+    let i = c.loop-line.line-index in
+    let none : ℕ × Command = (0, Malloc 0 0) in
+    let P : List (ℕ × Command) → Type 0 = λ told. Told c.args.machine.now told c.step.new.self c.push_line.new.report.items in
+    subst P (sym (take_more items i none c.loop-line-test.true)) (
+    Told-push c.args.machine.now (take i items) c.loop-line.machine c.step.new.self c.loop-line.report.items c.push_line.new.report.items (get_or items i none) c.in-Ok.reply c.loop-line.invariant c.in-Ok.ensures.step
+    c.in-Ok-push_line.ensures.ok
+    )

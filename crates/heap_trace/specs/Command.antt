@@ -1,0 +1,14 @@
+-- Commands that can be carried out, in this project's own trace language.
+use Rattle.std.specs.Prelude.{ℕ, ◌<◌, ◌≤◌, ◌^◌}
+use Rattle.heap_trace.specs.declared.trace.Command.{Command}
+use Rattle.heap_trace.specs.declared.trace.Command.TheVariants.{Malloc, Copy, Show}
+
+-- each register number is below 32, and a size is at most 4,080 bytes
+abbrev pub IsValid : Command → Type 0
+IsValid (Malloc rd size) = (rd < 32) × (size ≤ 4080)
+IsValid (Copy rd rs) = (rd < 32) × (rs < 32)
+IsValid (Show rs) = rs < 32
+
+-- a valid command with the number of its line, which has 32 bits
+abbrev pub IsListed : ℕ × Command → Type 0
+IsListed listed = (listed.0 < 2 ^ 32) × IsValid listed.1

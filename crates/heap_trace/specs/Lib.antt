@@ -1,0 +1,11 @@
+pub mod Command
+pub mod Display
+pub mod Grammar
+pub mod Heap
+pub mod Lines
+pub mod Outcome
+pub mod Reading
+pub mod Report
+pub mod Run
+pub mod State
+pub mod Step

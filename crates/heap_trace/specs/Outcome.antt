@@ -1,0 +1,26 @@
+-- What a run of a text gives. The definition knows no workers.
+use Rattle.std.specs.Prelude.{◌≡◌, List, Result, Ok, Err, map}
+use Rattle.heap_trace.specs.declared.reply.Reply.{Reply}
+use Rattle.heap_trace.specs.declared.running.Outcome.{Outcome as TheOutcome}
+use Rattle.heap_trace.specs.declared.running.RunFault.{RunFault}
+use Rattle.heap_trace.specs.declared.running.RunFault.TheVariants.{Memory, Trace}
+use Rattle.std.specs.Prelude.{ℕ}
+use Rattle.heap_trace.specs.Reading.{Script, trace_of}
+use Rattle.heap_trace.specs.Report.{report_text}
+use Rattle.heap_trace.specs.Run.{Run}
+use Rattle.heap_trace.specs.State.{State, first_state, memory_of}
+
+-- A run of these commands from the first state leaves this report, these registers and this memory.
+pub record IsOutcome (script : Script) (o : TheOutcome) : Type 0 where
+  pub replies : List Reply
+  pub last : State
+  pub run : Run (first_state script.base script.pages) (map (λ c. c.1) script.commands) replies last
+  pub report : o.report.items ≡ report_text script.commands replies last
+  pub registers : o.registers ≡ last.registers
+  pub memory : o.memory ≡ memory_of last
+
+-- The answer for a text: the outcome of the trace that it is, or its fault, or memory ran out.
+abbrev pub Answers : List ℕ → Result TheOutcome RunFault → Type 0
+Answers text (Ok o) = (script : Script) × (trace_of text ≡ Ok script) × IsOutcome script o
+Answers text (Err Memory) = Unit {0}
+Answers text (Err (Trace fault)) = trace_of text ≡ Err fault

@@ -1,0 +1,91 @@
+//! Runs of whole traces.
+
+ghost use Rattle.std.specs.Prelude.{◌≡◌, IfSome};
+ghost use Rattle.std.specs.List.{All};
+ghost use Rattle.heap_trace.specs.Command.{IsListed};
+ghost use Rattle.heap_trace.specs.Heap.{IsHeap};
+ghost use Rattle.heap_trace.specs.Outcome.{Answers, IsOutcome};
+ghost use Rattle.heap_trace.specs.Reading.{script_of};
+ghost use Rattle.heap_trace.specs.Report.{end_text};
+ghost use Rattle.heap_trace.specs.Run.{Told};
+
+use crate::fault::TraceFault;
+use crate::machine::Machine;
+use crate::report::{push_end, push_line};
+use crate::text::parse;
+use crate::trace::{Command, Trace};
+use std::alloc::{AllocError, Global};
+use sweep_pool::{Cutting, Open};
+use tag_memory::{Memory, Registers};
+use thiserror::Error;
+
+/// What a run leaves.
+#[derive(Drop)]
+pub struct Outcome {
+    pub report: Vec<u8>,
+    pub memory: Memory,
+    pub registers: Registers,
+}
+
+/// Why a text did not run.
+#[derive(Debug, PartialEq, Drop, Error)]
+pub enum RunFault {
+    /// Memory of the simulator itself ran out.
+    #[error("Memory")]
+    Memory,
+    /// The text is no trace.
+    #[error("Trace")]
+    Trace(TraceFault),
+}
+
+/// Runs a trace from its text to its report. Nothing runs where the text is faulty.
+pub fn run<R>(rt: &R, alloc: Global, text: &[u8], cutting: Cutting) -> Result<Outcome, RunFault>
+    ensures { Answers text.now result }
+{
+    match parse(alloc, text) {
+        Err(TraceFault::Memory) => Err(RunFault::Memory),
+        Err(fault) => Err(RunFault::Trace(fault)),
+        Ok(trace) => match run_trace(rt, alloc, &trace, cutting) {
+            Some(outcome) => Ok(outcome),
+            None => Err(RunFault::Memory),
+        },
+    }
+}
+
+// Runs a trace; `None` where memory runs out.
+fn run_trace<R>(rt: &R, alloc: Global, trace: &Trace, cutting: Cutting) -> Option<Outcome>
+    requires heap { IsHeap trace.now.base trace.now.pages }
+    requires valid { All IsListed trace.now.commands.items }
+    ensures { IfSome result (λ outcome. IsOutcome (script_of trace.now) outcome) }
+{
+    let Ok(mut machine) = Machine::new(alloc, trace.base, trace.pages, cutting) else {
+        return None;
+    };
+    let mut report = run_commands(rt, alloc, &mut machine, &trace.commands)?;
+    let Ok(()) = push_end(&mut report, alloc, &machine) else {
+        return None;
+    };
+    Some(machine.finish(report))
+}
+
+// Runs the commands, and answers the lines of the report but the last; `None` where memory runs out.
+fn run_commands<R>(
+    rt: &R,
+    alloc: Global,
+    machine: &mut Machine,
+    commands: &[(u32, Command)],
+) -> Option<Vec<u8>>
+    requires { All IsListed commands.now }
+    ensures { IfSome result (λ report. Told machine.old commands.now machine.new report.items) }
+{
+    let mut report = Vec::new(alloc);
+    for (line, command) in commands {
+        let Ok(reply) = machine.step(rt, alloc, *command, &Open) else {
+            return None;
+        };
+        let Ok(()) = push_line(&mut report, alloc, *line, *command, reply) else {
+            return None;
+        };
+    }
+    Some(report)
+}

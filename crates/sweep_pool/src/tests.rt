@@ -1,0 +1,28 @@
+//! Cuttings by their numbers.
+
+use crate::{CutFault, Cutting, Gate, Open};
+use std::test::Fail;
+
+#[test]
+fn cuttings_are_judged(rt: HostRuntime) {
+    let faults = [
+        (0, 1, CutFault::BadWorkers),
+        (65, 300, CutFault::BadWorkers),
+        (1, 0, CutFault::BadTask),
+        (1, 257, CutFault::BadTask),
+    ];
+    for (workers, pages, fault) in faults {
+        assert_eq!(rt; Cutting::new(workers, pages), Err(fault));
+    }
+}
+
+#[test]
+fn tasks_are_counted(rt: HostRuntime) -> Result<(), Fail> {
+    let cutting = Cutting::new(4, 3)?;
+    assert_eq!(rt; (cutting.workers(), cutting.pages_per_task()), (4, 3));
+    for (pages, tasks) in [(0, 0), (1, 1), (3, 1), (4, 2), (7, 3)] {
+        assert_eq!(rt; cutting.tasks(pages), tasks);
+    }
+    Open.pass(0);
+    Ok(())
+}

@@ -1,0 +1,49 @@
+-- Tagged memory and registers as lists of cells (CHERI ISA version 9, UCAM-CL-TR-987: tagged memory; one
+-- tag a granule of 16 bytes; register 0 is the null register of RISC-V).
+use Rattle.std.specs.Prelude.{◌≡◌, ◌≤◌, ◌*◌, ◌==◌, ℕ, Bool, IsTrue, List, false, if◌then◌else◌, length, replicate, slice_index_or, slice_set}
+use Rattle.cap_codec.specs.declared.word.Word.{Word}
+use Rattle.tag_memory.specs.Span.{is_base, is_size}
+
+-- ---- memory
+
+-- A granule: the number that its 16 bytes hold, and its tag.
+abbrev pub Granule : Type 0
+Granule = ℕ × Bool
+
+-- A memory: its first address, and its granules in order of address.
+pub record MemoryState : Type 0 where
+  pub base : ℕ
+  pub cells : List Granule
+
+-- A new memory: every granule zero and untagged.
+abbrev pub new_memory : ℕ → ℕ → MemoryState
+new_memory base pages = record { base = base; cells = replicate (256 * pages) (0, false) }
+
+-- What holds of every memory: it is some whole pages that may begin at its base.
+pub record IsMemory (m : MemoryState) : Type 0 where
+  pub pages : ℕ
+  pub count : length m.cells ≡ 256 * pages
+  pub size : IsTrue (is_size pages)
+  pub place : IsTrue (is_base m.base pages)
+
+-- ---- registers
+
+-- A register: a word and its tag.
+abbrev pub Cell : Type 0
+Cell = Word × Bool
+
+-- The null capability, untagged.
+abbrev pub null_cell : Cell
+null_cell = (record { bits = 0 }, false)
+
+-- The 32 registers of a new machine.
+abbrev pub new_registers : List Cell
+new_registers = replicate 32 null_cell
+
+-- What register r reads as. Register 0 is always null.
+abbrev pub register_in : List Cell → ℕ → Cell
+register_in cells r = if r == 0 then null_cell else slice_index_or cells r null_cell
+
+-- The registers after a write. One to register 0 changes nothing.
+abbrev pub with_register : List Cell → ℕ → Cell → List Cell
+with_register cells r cell = if r == 0 then cells else slice_set cells r cell

@@ -1,0 +1,12 @@
+//! Tagged memory, granule by granule, and the registers of a machine.
+#![tactic(auto)]
+
+mod memory;
+mod registers;
+mod span;
+#[cfg(test)]
+mod tests;
+
+pub use crate::memory::{Memory, MemoryFault};
+pub use crate::registers::Registers;
+pub use crate::span::{GRANULE, MOST_PAGES, PAGE, PAGE_GRANULES, is_base, is_size};

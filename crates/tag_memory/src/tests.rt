@@ -1,0 +1,53 @@
+//! What no contract says: that these calls succeed where memory serves.
+
+use crate::{Memory, MemoryFault, Registers};
+use cap_codec::Word;
+use std::test::Fail;
+
+#[test]
+fn spans_are_judged(rt: HostRuntime) {
+    let faults = [
+        (8, 1, MemoryFault::BadBase),
+        (8, 0, MemoryFault::BadSize),
+        (0, 1025, MemoryFault::BadSize),
+        (0xffff_ffff_ffff_f000, 2, MemoryFault::BadBase),
+    ];
+    for (base, pages, fault) in faults {
+        let answer = Memory::new(rt.alloc(), base, pages);
+        assert_eq!(rt; answer.err(), Some(fault), "{pages} pages at {base}");
+    }
+}
+
+#[test]
+fn granules_are_written(rt: HostRuntime) -> Result<(), Fail> {
+    let mut memory = Memory::new(rt.alloc(), 0xffff_ffff_ffff_f000, 1)?;
+    assert_eq!(rt; (memory.base(), memory.pages()), (0xffff_ffff_ffff_f000, 1));
+    assert_eq!(rt; memory.granules(), 256);
+    memory.put(65, 5, true);
+    assert_eq!(rt; memory.cell(65), (5, true));
+    assert_eq!(rt; memory.cell(64), (0, false));
+    Ok(())
+}
+
+#[test]
+fn registers_are_written(rt: HostRuntime) {
+    let word = Word { bits: 7 };
+    let mut registers = Registers::new();
+    for r in [0, 1, 31] {
+        registers.set(r, word, true);
+    }
+    assert_eq!(rt; registers.get(0), (Word::NULL, false));
+    assert_eq!(rt; registers.get(31), (word, true));
+    registers.clear(31);
+    assert_eq!(rt; registers.get(31), (word, false));
+    assert_eq!(rt; registers.get(1), (word, true));
+}
+
+// Run with each allocation refused in turn, too.
+#[test]
+fn a_refused_allocation_is_told(rt: HostRuntime) {
+    match Memory::new(rt.alloc(), 0, 1024) {
+        Ok(memory) => assert_eq!(rt; memory.granules(), 262_144),
+        Err(fault) => assert_eq!(rt; fault, MemoryFault::Memory),
+    }
+}
