@@ -1,8 +1,11 @@
-//! Texts with the traces and the faults that the trace language gives them.
+//! Texts with the traces and the faults that the trace language gives them, and traces with their reports.
 
-use crate::{Command, Trace, TraceFault, parse};
+use crate::{
+    Command, Machine, MachineFault, Outcome, Reply, RunFault, Trace, TraceFault, parse, run,
+};
 use std::alloc::{AllocError, Global};
 use std::test::Fail;
+use sweep_pool::{Cutting, Open};
 
 #[test]
 fn texts_without_a_heap_line(rt: HostRuntime) {
@@ -236,4 +239,123 @@ fn faults_by_their_names(rt: HostRuntime) -> Result<(), Fail> {
         assert_eq!(rt; message.as_str(), name);
     }
     Ok(())
+}
+
+// Traces with the reports of their runs.
+const REPORTS: [(&str, &str); 4] = [
+    (
+        "heap 0x40000000 1\n",
+        "end live 0 held 0 free 4096 tags 0\n",
+    ),
+    (
+        "heap 0x40000000 1\nmalloc c0 0\nshow c0\n",
+        "2 malloc block 0x40000000 0x40000010\n\
+         3 show tag 0 address 0x0 base 0x0 top 0x10000000000000000 perms 0x0 type 0x3ffff exponent 52\n\
+         end live 16 held 0 free 4080 tags 0\n",
+    ),
+    (
+        "heap 0x40000000 1\nmalloc c1 4080\nmalloc c2 32\nmalloc c3 16\ncopy c4 c1\nshow c4\n",
+        "2 malloc block 0x40000000 0x40000ff0\n\
+         3 malloc nospace\n\
+         4 malloc block 0x40000ff0 0x40001000\n\
+         5 copy ok\n\
+         6 show tag 1 address 0x40000000 base 0x40000000 top 0x40000ff0 perms 0x3d type 0x3ffff exponent 0\n\
+         end live 4096 held 0 free 0 tags 3\n",
+    ),
+    // No space clears the register.
+    (
+        "heap 0x40000000 1\nmalloc c1 4080\nmalloc c1 32\nshow c1",
+        "2 malloc block 0x40000000 0x40000ff0\n\
+         3 malloc nospace\n\
+         4 show tag 0 address 0x0 base 0x0 top 0x10000000000000000 perms 0x0 type 0x3ffff exponent 52\n\
+         end live 4080 held 0 free 16 tags 0\n",
+    ),
+];
+
+// What a run of the text answers, for any cutting.
+fn answer<R>(rt: &R, alloc: Global, text: &str) -> Result<Outcome, RunFault> {
+    let cutting = Cutting::new(1, 16).map_err(|_| RunFault::Memory)?;
+    run(rt, alloc, text.as_bytes(), cutting)
+}
+
+#[test]
+fn traces_are_run(rt: HostRuntime) -> Result<(), Fail> {
+    for (text, report) in REPORTS {
+        let outcome = answer(&rt, rt.alloc(), text).map_err(|_| "it is a trace")?;
+        assert_eq!(rt; outcome.report.as_slice(), report.as_bytes(), "{text:?}");
+        assert_eq!(rt;
+            (outcome.memory.base(), outcome.memory.pages()),
+            (0x4000_0000, 1)
+        );
+        assert_eq!(rt; outcome.memory.tagged(), 0);
+    }
+    Ok(())
+}
+
+#[test]
+fn faulty_traces_are_not_run(rt: HostRuntime) {
+    let cases = [
+        ("", TraceFault::NoHeap(1)),
+        ("# x\n", TraceFault::NoHeap(2)),
+        ("heap 0x40000008 1\n", TraceFault::BadHeap(1)),
+        (
+            "heap 0x40000000 1\nmalloc c32 16\nfrob\n",
+            TraceFault::BadRegister(2),
+        ),
+        ("heap 0x40000000 1\nmalloc c1\n", TraceFault::BadCount(2)),
+    ];
+    for (text, fault) in cases {
+        let refusal = answer(&rt, rt.alloc(), text).err();
+        assert_eq!(rt; refusal, Some(RunFault::Trace(fault)), "{text:?}");
+    }
+}
+
+#[test]
+fn a_machine_does_one_command_after_another(rt: HostRuntime) -> Result<(), Fail> {
+    let cutting = Cutting::new(64, 256)?;
+    let alloc = rt.alloc();
+    let faults = [
+        (8, 0, MachineFault::BadSize),
+        (8, 1, MachineFault::BadBase),
+        (0xffff_ffff_ffff_f000, 2, MachineFault::BadBase),
+    ];
+    for (base, pages, fault) in faults {
+        assert_eq!(rt;
+            Machine::new(alloc, base, pages, cutting).err(),
+            Some(fault)
+        );
+    }
+    let mut machine = Machine::new(alloc, 0x1000, 1, cutting).map_err(|_| "there is memory")?;
+    let reply = machine.step(&rt, alloc, Command::Malloc { rd: 7, size: 17 }, &Open);
+    assert_eq!(rt;
+        reply,
+        Ok(Reply::Block {
+            base: 0x1000,
+            top: 0x1020
+        })
+    );
+    let reply = machine.step(&rt, alloc, Command::Copy { rd: 0, rs: 7 }, &Open);
+    assert_eq!(rt; reply, Ok(Reply::Done));
+    assert_eq!(rt;
+        (
+            machine.live_bytes(),
+            machine.held_bytes(),
+            machine.free_bytes()
+        ),
+        (32, 0, 4064)
+    );
+    assert_eq!(rt;
+        (machine.registers().tagged(), machine.memory().tagged()),
+        (1, 0)
+    );
+    Ok(())
+}
+
+#[test]
+fn a_refused_allocation_of_a_run_is_told(rt: HostRuntime) {
+    let (text, report) = REPORTS[2];
+    match answer(&rt, rt.alloc(), text) {
+        Ok(outcome) => assert_eq!(rt; outcome.report.as_slice(), report.as_bytes()),
+        Err(fault) => assert_eq!(rt; fault, RunFault::Memory),
+    }
 }
