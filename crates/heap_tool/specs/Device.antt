@@ -1,6 +1,6 @@
 -- What reads and writes of a device do to the bytes that are known of it.
-use Rattle.std.specs.Prelude.{◌≡◌, ℕ, ◌≤◌, Bool, ◌||◌, List, length, take, Option, Result, is_err}
-use Rattle.std.specs.Io.KnownBytes.{Appends}
+use Rattle.std.specs.Prelude.{◌≡◌, ◌≢◌, ℕ, ◌≤◌, Bool, ◌||◌, true, false, List, ◌++◌, ◌<◌, length, take, Option, Result, is_err}
+use Rattle.std.specs.Io.KnownBytes.{Appends, Consumes, IsAtEnd}
 
 -- known bytes grow by a beginning of bs
 abbrev pub AppendsBeginning : Option (List ℕ) → Option (List ℕ) → List ℕ → Type 0
@@ -9,3 +9,19 @@ AppendsBeginning old new bs = (n : ℕ) × (n ≤ length bs) × Appends old new 
 -- the device has failed just where it had before, or the call answers an error
 abbrev pub FailsByError : {T E : Type 0} → Bool → Result T E → Bool → Type 0
 FailsByError old r new = new ≡ (old || is_err r)
+
+-- From a device whose known bytes were old and are new, the bytes bs were read: all that it had, or the
+-- first `limit` of them.
+pub record ReadsUpTo (limit : ℕ) (old new : Option (List ℕ)) (bs : List ℕ) : Type 0 where
+  pub taken : Consumes old new bs
+  pub few : length bs ≤ limit
+  pub ends : length bs ≢ limit → IsAtEnd new
+
+-- One more read made text of what was read before, and says whether the device is at its end.
+pub record ReadsMore (limit : ℕ) (old new : Option (List ℕ)) (before text : List ℕ) (is_at_end : Bool) : Type 0 where
+  pub bs : List ℕ
+  pub more : text ≡ before ++ bs
+  pub taken : Consumes old new bs
+  pub few : length text ≤ limit
+  pub some : is_at_end ≡ false → length before < length text
+  pub ends : is_at_end ≡ true → IsAtEnd new

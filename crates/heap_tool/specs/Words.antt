@@ -6,7 +6,11 @@ use Rattle.cap_codec.specs.Bytes.{bits_of_bytes}
 use Rattle.clap.specs.Words.{App, Row, Rule, Text, fault_of, first_of, new_app, new_rule, subcommand_of, with_rule, with_subcommand}
 use Rattle.hex.specs.Hex.{decode_sized}
 use Rattle.heap_tool.specs.declared.words.Asked.{Asked}
-use Rattle.heap_tool.specs.declared.words.Asked.TheVariants.{Word}
+use Rattle.heap_tool.specs.declared.words.Asked.TheVariants.{Run, Word}
+
+-- The subcommand `run`.
+abbrev pub run_app : App
+run_app = new_app (codes "run")
 
 -- The argument HEX.
 abbrev pub hex_rule : Rule
@@ -18,7 +22,7 @@ word_app = with_rule (new_app (codes "word")) hex_rule
 
 -- The whole command line.
 abbrev pub tool_app : App
-tool_app = with_subcommand (new_app (codes "heap_tool")) word_app.top
+tool_app = with_subcommand (with_subcommand (new_app (codes "heap_tool")) run_app.top) word_app.top
 
 -- clap finds no fault in the words, so it takes them where memory serves.
 unfoldable pub AreTaken : List Text → Type 0
@@ -28,16 +32,31 @@ AreTaken words = fault_of tool_app words ≡ []
 unfoldable pub subcommand_named : List Text → Option (Text × List Row)
 subcommand_named words = subcommand_of tool_app words
 
--- clap takes the words, and its matches name the subcommand `word`, with this text for HEX.
-pub record NamesWord (words : List Text) (hex : Text) : Type 0 where
+-- clap takes the words, and its matches name this subcommand, with these entries.
+pub record Names (words : List Text) (name : Text) (rows : List Row) : Type 0 where
   pub taken : AreTaken words
+  pub subcommand : subcommand_named words ≡ Some (name, rows)
+
+-- The words name the subcommand `run`.
+pub record NamesRun (words : List Text) : Type 0 where
   pub rows : List Row
-  pub subcommand : subcommand_named words ≡ Some (codes "word", rows)
+  pub names : Names words (codes "run") rows
+
+-- The words name the subcommand `word`, with this text for HEX.
+pub record NamesWord (words : List Text) (hex : Text) : Type 0 where
+  pub rows : List Row
+  pub names : Names words (codes "word") rows
   pub value : first_of (codes "hex") rows ≡ Some hex
 
 -- What the words ask for.
 abbrev pub AsksFor : List Text → Asked → Type 0
+AsksFor words Run = NamesRun words
 AsksFor words (Word hex) = NamesWord words hex.now
+
+-- The words name no subcommand, or `word` without a text.
+pub record NamesNothing (words : List Text) : Type 0 where
+  pub run : NamesRun words → ⊥
+  pub word : (hex : Text) → NamesWord words hex → ⊥
 
 -- The text is 32 hexadecimal digits of either case: the 16 bytes of this word.
 pub record IsTextOf (hex : Text) (w : CapabilityWord) : Type 0 where
@@ -51,6 +70,7 @@ pub record AsksForLineOf (words : List Text) (w : CapabilityWord) : Type 0 where
   pub named : NamesWord words hex
   pub text : IsTextOf hex w
 
--- The words ask for nothing: clap doesn't take them, or they ask for the line of no word.
-abbrev pub AskForNothing : List Text → Type 0
-AskForNothing words = (w : CapabilityWord) → AsksForLineOf words w → ⊥
+-- The words ask for nothing: clap doesn't take them, or they ask neither for a run nor for the line of a word.
+pub record AskForNothing (words : List Text) : Type 0 where
+  pub run : NamesRun words → ⊥
+  pub word : (w : CapabilityWord) → AsksForLineOf words w → ⊥

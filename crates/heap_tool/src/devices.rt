@@ -3,7 +3,7 @@
 mod reading;
 mod writing;
 
-pub use crate::devices::reading::{FromRead, Source};
+pub use crate::devices::reading::{FromRead, ReadFault, Source, read_text};
 pub use crate::devices::writing::{FromWrite, Sink, send};
 use thiserror::Error;
 

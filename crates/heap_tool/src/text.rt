@@ -1,10 +1,10 @@
 //! The lines that the program writes.
 
 ghost use Rattle.std.specs.Prelude.{◌≡◌, IfOk, Some, string_bytes};
-ghost use Rattle.heap_tool.specs.Text.{encoding_text, rights_text, word_line};
+ghost use Rattle.heap_tool.specs.Text.{encoding_text, fault_text, rights_text, word_line};
 
 use cap_codec::{Fields, Word, bounds, exponent, fields};
-use heap_trace::{Place, bit};
+use heap_trace::{Place, TraceFault, bit};
 use std::alloc::{AllocError, Global};
 use std::fmt;
 
@@ -66,4 +66,21 @@ pub fn line_of(alloc: Global, w: Word) -> Result<String, AllocError>
         exponent: exponent(w),
     };
     format!(in alloc; "{place} {rights} {encoding}\n")
+}
+
+/// The line that names the fault of a text that is no trace.
+pub fn fault_line(alloc: Global, fault: &TraceFault) -> Result<String, AllocError>
+    ensures { IfOk result (λ text. string_bytes text ≡ fault_text fault.now) }
+{
+    match *fault {
+        TraceFault::Memory => format!(in alloc; "fault memory\n"),
+        TraceFault::TooLong => format!(in alloc; "fault too-long\n"),
+        TraceFault::NoHeap(line) => format!(in alloc; "fault no-heap {line}\n"),
+        TraceFault::BadHeap(line) => format!(in alloc; "fault bad-heap {line}\n"),
+        TraceFault::BadCommand(line) => format!(in alloc; "fault bad-command {line}\n"),
+        TraceFault::BadCount(line) => format!(in alloc; "fault bad-count {line}\n"),
+        TraceFault::BadRegister(line) => format!(in alloc; "fault bad-register {line}\n"),
+        TraceFault::BadNumber(line) => format!(in alloc; "fault bad-number {line}\n"),
+        TraceFault::BadData(line) => format!(in alloc; "fault bad-data {line}\n"),
+    }
 }

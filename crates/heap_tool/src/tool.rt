@@ -1,30 +1,42 @@
 //! The program over any devices.
 
-ghost use Rattle.std.specs.Prelude.{◌≡◌, ◌≢◌, ◌↔◌, ◌||◌, IfOk, Ok, false, length, string_bytes, true};
+ghost use Rattle.std.specs.Prelude.{◌≡◌, ◌≢◌, ◌↔◌, ◌||◌, IfErr, IfOk, Ok, false, length, string_bytes, true};
 ghost use Rattle.std.specs.Io.KnownBytes.{Appends};
 ghost use Rattle.cap_codec.specs.declared.word.Word.{Word};
 ghost use Rattle.clap.specs.Walk.{texts};
-ghost use Rattle.heap_tool.specs.Answer.{Answers, BeginsAnswer, IsAnswer, refusal_line, refusal_status};
+ghost use Rattle.heap_tool.specs.Answer.{Answers, BeginsAnswer, IsRunAnswer, refusal_line, refusal_status, status_of, text_of};
 ghost use Rattle.heap_tool.specs.Device.{AppendsBeginning};
-ghost use Rattle.heap_tool.specs.Text.{word_line};
-ghost use Rattle.heap_tool.specs.Words.{AskForNothing, IsTextOf};
+ghost use Rattle.heap_tool.specs.Text.{fault_text, word_line};
+ghost use Rattle.heap_tool.specs.Words.{IsTextOf, NamesRun};
 
-use crate::devices::{Failed, Sink, Source, send};
-use crate::text::line_of;
+use crate::devices::{Failed, ReadFault, Sink, Source, read_text, send};
+use crate::text::{fault_line, line_of};
 use crate::words::{Asked, Refusal, asked_by};
 use cap_codec::from_bytes;
+use heap_trace::{RunFault, TraceFault, run};
 use hex::FromHex;
 use std::alloc::{AllocError, Global};
+use std::thread::Threads;
+use sweep_pool::Cutting;
 
 const MEMORY: &[u8] = b"fault memory\n";
 
 const USAGE: &[u8] =
     b"usage: heap_tool run [--workers N] [--cut N] [--image] or heap_tool word HEX\n";
 
+/// What is written, and the exit status that goes with it.
+#[derive(Drop)]
+pub struct Answer {
+    pub status: u8,
+    pub text: Vec<u8>,
+}
+
 /// Runs the program on these words, of which the first is its name, and answers the exit status: 0
-/// where it is done, 1 for want of memory, 2 where the words are refused, and 4 where a device failed.
-pub fn tool<'a, R, I: Source, O: Sink>(
-    _rt: &R,
+/// where it is done, 1 for want of memory, 2 where the words are refused, 3 where the trace is faulty,
+/// and 4 where a device failed. The words are judged before the first read, and nothing is written
+/// before the last.
+pub fn tool<'a, R: Threads + Sync, I: Source, O: Sink>(
+    rt: &R,
     alloc: Global,
     words: &'a [&'a str],
     reader: &mut I,
@@ -32,13 +44,36 @@ pub fn tool<'a, R, I: Source, O: Sink>(
 ) -> u8
     requires reader { I.failed reader.old ≡ false }
     requires writer { O.failed writer.old ≡ false }
-    ensures whole { result ≢ 4 → Answers (texts words.entry.now) result (O.contents writer.old) (O.contents writer.new) }
-    ensures part { result ≡ 4 → BeginsAnswer (texts words.entry.now) (O.contents writer.old) (O.contents writer.new) }
+    ensures whole { result ≢ 4 → Answers (texts words.entry.now) (I.remaining reader.old) (I.remaining reader.new)
+        result (O.contents writer.old) (O.contents writer.new) }
+    ensures part { result ≡ 4 → BeginsAnswer (texts words.entry.now) (I.remaining reader.old) (I.remaining reader.new)
+        (O.contents writer.old) (O.contents writer.new) }
     ensures failed { (result ≡ 4) ↔ ((I.failed reader.new || O.failed writer.new) ≡ true) }
-    ensures unread { reader.new ≡ reader.old }
+    ensures unread { (NamesRun (texts words.entry.now) → ⊥) → reader.new ≡ reader.old }
+    // Where a read failed nothing is written.
+    ensures unwritten { I.failed reader.new ≡ true → writer.new ≡ writer.old }
 {
-    match answer(alloc, words) {
-        Ok(text) => finish(writer, text.as_bytes(), 0),
+    match asked_by(alloc, words) {
+        Ok(Asked::Word(hex)) => tell(writer, word_answer(alloc, hex)),
+        Ok(Asked::Run) => match read_text(alloc, reader) {
+            Ok(text) => tell(writer, run_answer(rt, alloc, &text)),
+            Err(ReadFault::Memory) => refuse(writer, Refusal::Memory),
+            Err(ReadFault::Failed) => 4,
+        },
+        Err(refusal) => refuse(writer, refusal),
+    }
+}
+
+// Writes what was answered, and answers its status, or 4 where a write failed.
+fn tell<O: Sink>(writer: &mut O, answered: Result<Answer, Refusal>) -> u8
+    requires writer { O.failed writer.old ≡ false }
+    requires status { IfOk answered (λ answer. answer.status ≢ 4) }
+    ensures whole { result ≢ 4 → (result ≡ status_of answered) × Appends (O.contents writer.old) (O.contents writer.new) (text_of answered) }
+    ensures part { result ≡ 4 → AppendsBeginning (O.contents writer.old) (O.contents writer.new) (text_of answered) }
+    ensures failed { (result ≡ 4) ↔ (O.failed writer.new ≡ true) }
+{
+    match answered {
+        Ok(answer) => finish(writer, &answer.text, answer.status),
         Err(refusal) => refuse(writer, refusal),
     }
 }
@@ -70,27 +105,54 @@ fn finish<O: Sink>(writer: &mut O, text: &[u8], status: u8) -> u8
     }
 }
 
-// The text that is written where nothing is refused.
-fn answer<'a>(alloc: Global, words: &'a [&'a str]) -> Result<String, Refusal>
-    ensures ok { IfOk result (λ text. IsAnswer (texts words.entry.now) 0 (string_bytes text)) }
-    ensures refused { result ≡ Err Refusal.Words → AskForNothing (texts words.entry.now) }
-{
-    match asked_by(alloc, words) {
-        Ok(Asked::Word(hex)) => word_answer(alloc, hex),
-        Err(refusal) => Err(refusal),
-    }
-}
-
 // The line of the word that this text is.
-fn word_answer(alloc: Global, hex: &str) -> Result<String, Refusal>
-    ensures ok { IfOk result (λ text. (w : Word) × IsTextOf hex.now w × (string_bytes text ≡ word_line w)) }
+fn word_answer(alloc: Global, hex: &str) -> Result<Answer, Refusal>
+    ensures status { IfOk result (λ answer. answer.status ≡ 0) }
+    ensures ok { IfOk result (λ answer. (w : Word) × IsTextOf hex.now w × (answer.text.items ≡ word_line w)) }
     ensures refused { result ≡ Err Refusal.Words → (w : Word) → IsTextOf hex.now w → ⊥ }
 {
     let Ok(bytes) = <[u8; 16] as FromHex>::from_hex(hex) else {
         return Err(Refusal::Words);
     };
     match line_of(alloc, from_bytes(bytes)) {
-        Ok(text) => Ok(text),
+        Ok(line) => Ok(Answer {
+            status: 0,
+            text: line.into_bytes(),
+        }),
+        Err(AllocError) => Err(Refusal::Memory),
+    }
+}
+
+// The report of the trace that this text is, or the line of its fault.
+fn run_answer<R: Threads + Sync>(rt: &R, alloc: Global, text: &[u8]) -> Result<Answer, Refusal>
+    ensures ok { IfOk result (λ answer. IsRunAnswer text.now answer.status answer.text.items) }
+    ensures err { IfErr result (λ refusal. refusal ≡ Refusal.Memory) }
+{
+    match run(rt, alloc, text, cutting()) {
+        Ok(outcome) => Ok(Answer {
+            status: 0,
+            text: outcome.report,
+        }),
+        Err(RunFault::Memory) => Err(Refusal::Memory),
+        Err(RunFault::Trace(fault)) => fault_answer(alloc, &fault),
+    }
+}
+
+// One worker, with 16 pages a task.
+fn cutting() -> Cutting {
+    Cutting::new(1, 16).unwrap()
+}
+
+// The line of the fault of a text that is no trace.
+fn fault_answer(alloc: Global, fault: &TraceFault) -> Result<Answer, Refusal>
+    ensures ok { IfOk result (λ answer. (answer.status ≡ 3) × (answer.text.items ≡ fault_text fault.now)) }
+    ensures err { IfErr result (λ refusal. refusal ≡ Refusal.Memory) }
+{
+    match fault_line(alloc, fault) {
+        Ok(line) => Ok(Answer {
+            status: 3,
+            text: line.into_bytes(),
+        }),
         Err(AllocError) => Err(Refusal::Memory),
     }
 }

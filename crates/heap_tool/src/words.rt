@@ -2,9 +2,9 @@
 
 ghost use Rattle.std.specs.Prelude.{◌≡◌, ◌↔◌, IfErr, IfOk, OnOk, false};
 ghost use Rattle.clap.specs.Walk.{texts};
-ghost use Rattle.clap.specs.Words.{Text, app_of, kind_of, rule_of, subcommand_rows_of};
+ghost use Rattle.clap.specs.Words.{app_of, kind_of, rule_of, subcommand_rows_of};
 ghost use Rattle.clap.specs.declared.builder.command.Command.TheViews.{out-Command as fields_of};
-ghost use Rattle.heap_tool.specs.Words.{AreTaken, AsksFor, NamesWord, hex_rule, subcommand_named, tool_app, word_app};
+ghost use Rattle.heap_tool.specs.Words.{AreTaken, AsksFor, NamesNothing, hex_rule, run_app, subcommand_named, tool_app, word_app};
 
 use clap::error::ErrorKind;
 use clap::{Arg, ArgMatches, Command, Error};
@@ -13,6 +13,8 @@ use std::alloc::{AllocError, Global};
 /// What the words of a command line ask for.
 #[derive(Drop)]
 pub enum Asked<'a> {
+    /// The run of the trace that standard input has.
+    Run,
     /// The line of one word, whose text stands as it was written.
     Word(&'a str),
 }
@@ -29,8 +31,7 @@ pub enum Refusal {
 /// Reads the words of a command line, of which the first is the program's name.
 pub fn asked_by<'a>(alloc: Global, words: &'a [&'a str]) -> Result<Asked<'a>, Refusal>
     ensures ok { IfOk result (AsksFor (texts words.entry.now)) }
-    ensures refused { result ≡ Err Refusal.Words
-        → (hex : Text) → NamesWord (texts words.entry.now) hex → ⊥ }
+    ensures refused { result ≡ Err Refusal.Words → NamesNothing (texts words.entry.now) }
 {
     let matches = match parsed(alloc, words) {
         Ok(matches) => matches,
@@ -39,6 +40,9 @@ pub fn asked_by<'a>(alloc: Global, words: &'a [&'a str]) -> Result<Asked<'a>, Re
     let Some((name, inner)) = matches.subcommand() else {
         return Err(Refusal::Words);
     };
+    if name == "run" {
+        return Ok(Asked::Run);
+    }
     if name != "word" {
         return Err(Refusal::Words);
     }
@@ -72,8 +76,18 @@ fn parsed<'a>(alloc: Global, words: &'a [&'a str]) -> Result<ArgMatches<'a>, Err
 fn tool_command<'a>(alloc: Global) -> Result<Command<'a>, AllocError>
     ensures { IfOk result (λ command. app_of command ≡ tool_app) }
 {
+    let run = run_command(alloc);
     let word = word_command(alloc)?;
-    Command::new(alloc, "heap_tool").subcommand(word)
+    Command::new(alloc, "heap_tool")
+        .subcommand(run)?
+        .subcommand(word)
+}
+
+fn run_command<'a>(alloc: Global) -> Command<'a>
+    ensures app { app_of result ≡ run_app }
+    ensures local { (fields_of result).has_globals ≡ false }
+{
+    Command::new(alloc, "run")
 }
 
 fn word_command<'a>(alloc: Global) -> Result<Command<'a>, AllocError>

@@ -1,12 +1,20 @@
 //! What the program reads from.
 
-ghost use Rattle.std.specs.Prelude.{◌≡◌, ℕ, Bool, List, None, Option, false};
+ghost use Rattle.std.specs.Prelude.{◌≡◌, ◌↔◌, ◌<◌, ℕ, Bool, IfOk, List, None, Option, false, length, true};
 ghost use Rattle.std.specs.Io.{ReadsAtMost};
 ghost use Rattle.std.specs.Io.KnownBytes.{ReadConsumes};
-ghost use Rattle.heap_tool.specs.Device.{FailsByError};
+ghost use Rattle.heap_tool.specs.Answer.{most_read};
+ghost use Rattle.heap_tool.specs.Device.{FailsByError, ReadsMore, ReadsUpTo};
 
 use crate::devices::Failed;
+use std::alloc::Global;
 use std::io::Read;
+
+// The most bytes that are read: one more than a trace has, so that a longer one is told.
+const MOST_READ: usize = 4_194_305;
+
+// How many bytes are read at once.
+const CHUNK: usize = 8192;
 
 /// What bytes are read from.
 pub trait Source {
@@ -25,6 +33,50 @@ pub trait Source {
     /// Whether any read so far has failed.
     fn has_failed(&self) -> bool
         ensures { result ≡ failed self.now };
+}
+
+/// Why a text wasn't read.
+#[derive(Debug, Clone, Copy, PartialEq, Eq)]
+pub enum ReadFault {
+    /// Memory ran out.
+    Memory,
+    /// The reader failed.
+    Failed,
+}
+
+/// Reads to the end, but at most 4,194,305 bytes.
+pub fn read_text<I: Source>(alloc: Global, reader: &mut I) -> Result<Vec<u8>, ReadFault>
+    requires { I.failed reader.old ≡ false }
+    ensures ok { IfOk result (λ text.
+        ReadsUpTo most_read (I.remaining reader.old) (I.remaining reader.new) text.items) }
+    ensures failed { (result ≡ Err ReadFault.Failed) ↔ (I.failed reader.new ≡ true) }
+{
+    let mut text = Vec::new(alloc);
+    let mut is_at_end = false;
+    while !is_at_end && text.len() < MOST_READ {
+        is_at_end = read_more(&mut text, reader)?;
+    }
+    Ok(text)
+}
+
+// Reads once more, and says whether that was the end.
+fn read_more<I: Source>(text: &mut Vec<u8>, reader: &mut I) -> Result<bool, ReadFault>
+    requires whole { I.failed reader.old ≡ false }
+    requires room { length text.old.items < most_read }
+    ensures ok { IfOk result (λ is_at_end. ReadsMore most_read
+        (I.remaining reader.old) (I.remaining reader.new) text.old.items text.new.items is_at_end) }
+    ensures failed { (result ≡ Err ReadFault.Failed) ↔ (I.failed reader.new ≡ true) }
+{
+    let mut chunk = [0; CHUNK];
+    let room = CHUNK.min(MOST_READ - text.len());
+    let buffer = &mut chunk[..room];
+    let Ok(count) = reader.read(buffer) else {
+        return Err(ReadFault::Failed);
+    };
+    let Ok(()) = text.extend_from_slice(&buffer[..count]) else {
+        return Err(ReadFault::Memory);
+    };
+    Ok(count == 0)
 }
 
 /// A source over a reader of the standard library, any error of which is `Failed`.
