@@ -4,7 +4,10 @@ pub mod FirstLine
 pub mod FirstWord
 pub mod HeapLines
 mod HexadecimalLaws
+mod OnePlace
+pub mod OneRun
+pub mod OneStep
 pub mod Operands
 pub mod Reading
-mod Runs
+mod LongerRuns
 pub mod WholeText

@@ -1,11 +1,17 @@
-//! The laws that tie the grammar to how a text is read.
+//! The laws: the grammar is how a text is read, and a trace has one outcome.
 
 ghost use Rattle.std.specs.Prelude.{◌≡◌, ◌↔◌, ℕ, List, ◌∷◌, Ok, Err};
 ghost use Rattle.heap_trace.specs.declared.trace.Command.{Command as TheCommand};
+ghost use Rattle.heap_trace.specs.declared.reply.Reply.{Reply as TheReply};
+ghost use Rattle.heap_trace.specs.declared.running.Outcome.{Outcome as TheOutcome};
 ghost use Rattle.heap_trace.specs.declared.fault.LineFault.{LineFault as TheLineFault};
 ghost use Rattle.heap_trace.specs.declared.fault.TraceFault.{TraceFault as TheTraceFault};
 ghost use Rattle.heap_trace.specs.Grammar.{HasFault, IsCommand, IsFaulty, IsTrace};
+ghost use Rattle.heap_trace.specs.Outcome.{Answers, IsOutcome};
 ghost use Rattle.heap_trace.specs.Reading.{Script, command_of, trace_of};
+ghost use Rattle.heap_trace.specs.Run.{Run};
+ghost use Rattle.heap_trace.specs.State.{State};
+ghost use Rattle.heap_trace.specs.Step.{Step};
 
 /// The words of a line are read as a command exactly where they are it, and else their fault is read.
 pub fn command_lines()
@@ -21,4 +27,25 @@ pub fn texts()
         (trace_of text ≡ Ok script) ↔ IsTrace text script }
     ensures fault { (text : List ℕ) (fault : TheTraceFault) →
         (trace_of text ≡ Err fault) ↔ IsFaulty text fault }
+{}
+
+/// In each state a command has exactly one reply and leaves exactly one state.
+pub fn steps()
+    ensures one { (old : State) (command : TheCommand) →
+        (reply : TheReply) × (new : State) × Step old command reply new }
+    ensures only { (old : State) (command : TheCommand) (reply other : TheReply) (new left : State) →
+        Step old command reply new → Step old command other left → (reply ≡ other) × (new ≡ left) }
+{}
+
+/// From each state commands have exactly one run, so a trace has one outcome at most.
+pub fn runs()
+    ensures one { (first : State) (commands : List TheCommand) →
+        (replies : List TheReply) × (last : State) × Run first commands replies last }
+    ensures only { (first : State) (commands : List TheCommand) (replies others : List TheReply)
+        (last left : State) → Run first commands replies last → Run first commands others left →
+        (replies ≡ others) × (last ≡ left) }
+    ensures outcome { (script : Script) (a b : TheOutcome) → IsOutcome script a → IsOutcome script b →
+        (a.report.items ≡ b.report.items) × (a.registers ≡ b.registers) × (a.memory ≡ b.memory) }
+    ensures answer { (text : List ℕ) (a b : TheOutcome) → Answers text (Ok a) → Answers text (Ok b) →
+        (a.report.items ≡ b.report.items) × (a.registers ≡ b.registers) × (a.memory ≡ b.memory) }
 {}

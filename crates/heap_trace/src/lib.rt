@@ -19,7 +19,7 @@ mod words;
 
 pub use crate::display::{Hexadecimal, Place, bit};
 pub use crate::fault::TraceFault;
-pub use crate::laws::{command_lines, texts};
+pub use crate::laws::{command_lines, runs, steps, texts};
 pub use crate::machine::Machine;
 pub use crate::reply::{MachineFault, Reply, Shown, Trap};
 pub use crate::running::{Outcome, RunFault, run};
