@@ -15,6 +15,7 @@ use cap_codec::Word;
 use heap_core::{Heap, HeapFault};
 use std::alloc::Global;
 use std::marker::Model;
+use std::thread::Threads;
 use sweep_pool::{Cutting, Gate};
 use tag_memory::{Memory, MemoryFault, Registers};
 
@@ -70,7 +71,7 @@ impl Machine {
     }
 
     /// Does one command.
-    pub fn step<R, G: Gate>(
+    pub fn step<R: Threads + Sync, G: Gate + Sync>(
         &mut self,
         _rt: &R,
         _alloc: Global,
@@ -164,7 +165,7 @@ impl Machine {
     }
 
     /// What is left of a machine when its run is over.
-    pub fn finish(self, report: Vec<u8>) -> Outcome
+    pub(crate) fn finish(self, report: Vec<u8>) -> Outcome
         ensures report { result.report ≡ report }
         ensures memory { result.memory ≡ memory_of self }
         ensures registers { result.registers ≡ self.registers }

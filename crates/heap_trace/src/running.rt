@@ -15,6 +15,7 @@ use crate::report::{push_end, push_line};
 use crate::text::parse;
 use crate::trace::{Command, Trace};
 use std::alloc::{AllocError, Global};
+use std::thread::Threads;
 use sweep_pool::{Cutting, Open};
 use tag_memory::{Memory, Registers};
 use thiserror::Error;
@@ -39,7 +40,12 @@ pub enum RunFault {
 }
 
 /// Runs a trace from its text to its report. Nothing runs where the text is faulty.
-pub fn run<R>(rt: &R, alloc: Global, text: &[u8], cutting: Cutting) -> Result<Outcome, RunFault>
+pub fn run<R: Threads + Sync>(
+    rt: &R,
+    alloc: Global,
+    text: &[u8],
+    cutting: Cutting,
+) -> Result<Outcome, RunFault>
     ensures { Answers text.now result }
 {
     match parse(alloc, text) {
@@ -53,7 +59,12 @@ pub fn run<R>(rt: &R, alloc: Global, text: &[u8], cutting: Cutting) -> Result<Ou
 }
 
 // Runs a trace; `None` where memory runs out.
-fn run_trace<R>(rt: &R, alloc: Global, trace: &Trace, cutting: Cutting) -> Option<Outcome>
+fn run_trace<R: Threads + Sync>(
+    rt: &R,
+    alloc: Global,
+    trace: &Trace,
+    cutting: Cutting,
+) -> Option<Outcome>
     requires heap { IsHeap trace.now.base trace.now.pages }
     requires valid { All IsListed trace.now.commands.items }
     ensures { IfSome result (λ outcome. IsOutcome (script_of trace.now) outcome) }
@@ -69,7 +80,7 @@ fn run_trace<R>(rt: &R, alloc: Global, trace: &Trace, cutting: Cutting) -> Optio
 }
 
 // Runs the commands, and answers the lines of the report but the last; `None` where memory runs out.
-fn run_commands<R>(
+fn run_commands<R: Threads + Sync>(
     rt: &R,
     alloc: Global,
     machine: &mut Machine,

@@ -5,6 +5,7 @@ use crate::{
 };
 use std::alloc::{AllocError, Global};
 use std::test::Fail;
+use std::thread::Threads;
 use sweep_pool::{Cutting, Open};
 
 #[test]
@@ -273,7 +274,7 @@ const REPORTS: [(&str, &str); 4] = [
 ];
 
 // What a run of the text answers, for any cutting.
-fn answer<R>(rt: &R, alloc: Global, text: &str) -> Result<Outcome, RunFault> {
+fn answer<R: Threads + Sync>(rt: &R, alloc: Global, text: &str) -> Result<Outcome, RunFault> {
     let cutting = Cutting::new(1, 16).map_err(|_| RunFault::Memory)?;
     run(rt, alloc, text.as_bytes(), cutting)
 }
