@@ -1,5 +1,5 @@
 -- The first line of a text ends at the first line feed.
-use Rattle.std.proofs.Common.{◌≡◌, ℕ, zero, suc, add-one, ◌+◌, ◌<◌, ◌≤◌, Bool, true, false, cond, eqb, List, [], ◌∷◌, length, take, drop, get_or, refl, sym, ap, ◌∙◌, arith}
+use Rattle.std.proofs.Common.{◌≡◌, ℕ, zero, suc, ◌<◌, true, false, eqb, List, [], ◌∷◌, length, take, drop, get_or, refl, ap, arith}
 use Rattle.std.specs.List.{onto_first}
 use Rattle.heap_trace.specs.Lines.{lines_of}
 

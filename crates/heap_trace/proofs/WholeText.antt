@@ -1,7 +1,6 @@
 -- A text is read as a trace exactly where the grammar says that it is it, and else as its fault.
-use Rattle.std.proofs.Common.{◌≡◌, ◌≢◌, ℕ, zero, suc, ◌+◌, ◌*◌, ◌%◌, ◌^◌, ◌<◌, ◌≤◌, ◌&&◌, ◌==◌, Bool, true, false, cond, nat_le, nat_lt, IsTrue, List, [], ◌∷◌, ◌++◌, Option, Some, None, Result, Ok, Err, MatchResult, length, codes, bytes_eq, ◌⊎◌, inl, inr, refl, sym, ap, subst, ◌∙◌, arith}
+use Rattle.std.proofs.Common.{◌≡◌, ◌≢◌, ℕ, ◌+◌, Bool, true, false, cond, nat_lt, IsTrue, List, [], ◌∷◌, ◌++◌, Option, Some, None, Result, Ok, Err, MatchResult, length, ◌⊎◌, inl, inr, refl, sym, ap, subst, ◌∙◌, arith}
 use Rattle.std.specs.List.{AllByRecursion}
-use Rattle.std.specs.Option.{ok_or}
 use Rattle.std.proofs.lemmas.Bool.Decides.{nat_tests}
 use Rattle.heap_trace.specs.declared.trace.Command.{Command}
 use Rattle.heap_trace.specs.declared.trace.Command.TheVariants.{Malloc, Copy, Show}
@@ -9,10 +8,9 @@ use Rattle.heap_trace.specs.declared.fault.LineFault.{LineFault}
 use Rattle.heap_trace.specs.declared.fault.LineFault.TheVariants as line_fault
 use Rattle.heap_trace.specs.declared.fault.TraceFault.{TraceFault}
 use Rattle.heap_trace.specs.declared.fault.TraceFault.TheVariants.{Memory, TooLong, NoHeap, BadHeap, BadCommand, BadCount, BadRegister, BadNumber, BadData}
-use Rattle.heap_trace.specs.Grammar.{AreCommands, BeginsAsHeap, ComesAfter, HasBadHeap, HasFault, HasFaultyLine, IsCommand, IsFaulty, IsFine, IsHeapLine, IsNumber, IsPassedOver, IsShort, IsTrace, LacksHeap}
-use Rattle.heap_trace.specs.Heap.{IsHeap}
+use Rattle.heap_trace.specs.Grammar.{AreCommands, BeginsAsHeap, ComesAfter, HasFault, HasFaultyLine, IsCommand, IsFaulty, IsFine, IsHeapLine, IsPassedOver, IsShort, IsTrace, LacksHeap}
 use Rattle.heap_trace.specs.Lines.{is_passed_over, lines_of, words_of}
-use Rattle.heap_trace.specs.Reading.{◌>>=◌, Fails, Opening, Script, command_at, command_of, commands_from, fault_at, heap_at, heap_from, heap_of, is_heap, listed, number_of, opened, opening_from, read_at, trace_of}
+use Rattle.heap_trace.specs.Reading.{◌>>=◌, Fails, Opening, Script, command_at, command_of, commands_from, fault_at, heap_at, listed, opened, opening_from, read_at, trace_of}
 use Rattle.heap_trace.proofs.CommandLines.{Read, command_of-HasFault, command_of-IsCommand, command_read}
 use Rattle.heap_trace.proofs.HeapLines.{HeapFault, HeapRead, heap_at-IsHeapLine, heap_at-fault, heap_at-passed, heap_at-read}
 

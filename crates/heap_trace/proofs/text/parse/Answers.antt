@@ -1,6 +1,6 @@
 use Rattle.std.proofs.Common.{rules}
 use Rattle.std.proofs.lemmas.Result.{err_from_is_err_and}
-use Rattle.heap_trace.specs.Reading.{Fails, script_of, trace_of}
+use Rattle.heap_trace.specs.Reading.{trace_of}
 use Rattle.heap_trace.proofs.WholeText.{IsFaulty-answered, IsTrace-read}
 use Rattle.heap_trace.proofs.text.parse.Goals as goal
 

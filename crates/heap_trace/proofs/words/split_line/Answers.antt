@@ -1,9 +1,8 @@
-use Rattle.std.proofs.Common.{◌≡◌, ◌+◌, ◌-◌, ◌<◌, ◌≤◌, ◌∙◌, ℕ, Some, None, [], ◌∷◌, length, take, drop, eqb, get_or, false, sym, add-one, arith, length-drop}
+use Rattle.std.proofs.Common.{◌≡◌, ◌+◌, ◌-◌, ◌<◌, ℕ, [], length, take, drop, eqb, get_or, false, sym, add-one, arith, length-drop}
 use Rattle.std.proofs.lemmas.Bool.Decides.{nat_tests}
 use Rattle.std.proofs.lemmas.List.{take_all}
 use Rattle.std.proofs.Math.ListN.{drop_of_length-le}
 use Rattle.std.proofs.lemmas.List.Quantifiers.{position-Some}
-use Rattle.heap_trace.specs.Lines.{lines_of}
 use Rattle.heap_trace.proofs.FirstLine.{lines_at_feed, lines_without_feed}
 use Rattle.heap_trace.proofs.FirstWord.{position-None}
 use Rattle.heap_trace.proofs.words.split_line.Goals as goal

@@ -1,4 +1,4 @@
-use Rattle.std.proofs.Common.{rules, ◌≡◌, ◌∙◌, ap, sym, ℕ, ◌-◌, List, Some, None, length, take, drop, arith, length-drop}
+use Rattle.std.proofs.Common.{◌≡◌, sym, ◌-◌, length, take, drop, arith, length-drop}
 use Rattle.std.proofs.lemmas.List.{take_all}
 use Rattle.heap_trace.proofs.FirstWord.{words_of-first, words_of-none}
 use Rattle.heap_trace.proofs.words.split_word.Goals as goal
