@@ -1,10 +1,11 @@
 -- The table of a heap with no block.
-use Rattle.std.proofs.Common.{◌≡◌, ◌<◌, ◌≤◌, ◌+◌, ◌*◌, ◌%◌, ◌/◌, ◌^◌, ℕ, zero, suc, Bool, false, List, [], ◌∷◌, length, get_or, replicate, refl, sym, ◌∙◌, arith}
+use Rattle.std.proofs.Common.{◌≡◌, ◌<◌, ◌+◌, ◌*◌, ℕ, zero, suc, Bool, true, false, List, [], ◌∷◌, length, get_or, replicate, refl, sym, ◌∙◌, arith}
 use Rattle.std.proofs.lemmas.Bool.{le-ltb}
 use Rattle.std.proofs.lemmas.Bool.Decides.{nat_tests}
 use Rattle.std.proofs.lemmas.List.{length-replicate}
 use Rattle.heap_core.specs.Heap.{empty_heap}
 use Rattle.heap_core.specs.Table.{AreFree, IsTable, blocks_of, is_held, is_live, is_taken, table_state}
+use Rattle.tag_memory.specs.Span.{is_base, is_size}
 
 abbrev pub zeros : ℕ → List ℕ
 zeros n = replicate n 0
@@ -23,17 +24,16 @@ pub blocks_of-zeros : (keeps : Bool → Bool) (base i n : ℕ) → blocks_of kee
 blocks_of-zeros keeps base i zero = refl
 blocks_of-zeros keeps base i (suc n) = blocks_of-zeros keeps base (i + 1) n
 
-pub IsTable-zeros : (base n : ℕ) → base % 4096 ≡ 0 → n % 256 ≡ 0 → 0 < n → n ≤ 256 * 1024 → base + 16 * n ≤ 2 ^ 64
+pub IsTable-zeros : (base n pages : ℕ) → n ≡ 256 * pages → is_size pages ≡ true → is_base base pages ≡ true
     → IsTable base (zeros n) (replicate n false)
-IsTable-zeros base n multiple pages some limit end =
+IsTable-zeros base n pages count size place =
     let long : length (zeros n) ≡ n = length-replicate n zero in
     record {
       same = length-replicate n false ∙ sym long;
-      multiple = multiple;
-      pages = rw long pages;
-      some = rw long some;
-      limit = rw long limit;
-      end = rw long end;
+      pages = pages;
+      count = long ∙ count;
+      size = size;
+      place = place;
       inside = λ j lt. omega (arith, get_or-zeros n j);
       apart = λ j k lt block. absurd (omega (arith, get_or-zeros n k));
     }
@@ -47,8 +47,8 @@ AreFree-zeros n some =
       free = λ k lt. rw is_taken-zeros (grind (arith, nat_tests));
     }
 
-pub table_state-zeros : (base n : ℕ) → n % 256 ≡ 0
-    → table_state base (zeros n) (replicate n false) ≡ empty_heap base (n / 256)
-table_state-zeros base n pages =
-    let size : 16 * n ≡ 4096 * (n / 256) = omega arith in
+pub table_state-zeros : (base n pages : ℕ) → n ≡ 256 * pages
+    → table_state base (zeros n) (replicate n false) ≡ empty_heap base pages
+table_state-zeros base n pages count =
+    let size : 16 * n ≡ 4096 * pages = omega arith in
     rw (length-replicate n zero, size, blocks_of-zeros is_live base 0 n, blocks_of-zeros is_held base 0 n) refl

@@ -6,4 +6,5 @@ pub mod PlaceLaws
 pub mod RunLaws
 pub mod SizeLaws
 pub mod SoundLaws
+pub mod SpanLaws
 pub mod SumLaws

@@ -8,6 +8,7 @@ use Rattle.heap_core.specs.Table.{IsFirstRun, IsRun, IsTable, blocks_of, is_held
 use Rattle.heap_core.proofs.BlockLaws.{All-block, All-blocks_of}
 use Rattle.heap_core.proofs.RunLaws.{is_taken_by, run_is_apart}
 use Rattle.heap_core.proofs.SizeLaws.{HasGranules}
+use Rattle.heap_core.proofs.SpanLaws.{LiesWithin-table}
 
 -- Each block shares no address with a free run.
 All-IsApart : (keeps : Bool → Bool) (base : ℕ) (lengths : List ℕ) (marks : List Bool) (p n : ℕ) → IsRun lengths p n
@@ -46,7 +47,7 @@ IsFree-from_run : (base : ℕ) (lengths : List ℕ) (marks : List Bool) (size p 
     → IsRun lengths p n → IsFree (table_state base lengths marks) size (base + 16 * p)
 IsFree-from_run base lengths marks size p n table has run =
     record {
-      granule = omega (arith, table.multiple);
+      granule = omega (arith, (LiesWithin-table base lengths marks table).multiple);
       unit = rw has.unit (omega arith);
       from = omega arith;
       end = rw has.length (omega (arith, run.end));
@@ -59,7 +60,7 @@ pub IsRun-from_free : (base : ℕ) (lengths : List ℕ) (marks : List Bool) (siz
     → IsFree (table_state base lengths marks) size a → IsRun lengths ((a - base) / 16) n
 IsRun-from_free base lengths marks size a n table has free =
     let p = (a - base) / 16 in
-    let at : a ≡ base + 16 * ((a - base) / 16) = omega (arith, free.granule, free.from, table.multiple) in
+    let at : a ≡ base + 16 * ((a - base) / 16) = omega (arith, free.granule, free.from, (LiesWithin-table base lengths marks table).multiple) in
     let end : (a - base) / 16 + n ≤ length lengths = omega (arith, free.end, has.length) in
     let live = rw (has.length, at) at free.live in
     let held = rw (has.length, at) at free.held in

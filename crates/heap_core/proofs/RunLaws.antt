@@ -114,11 +114,10 @@ IsTable-set base lengths marks p n table run =
     let long : length (set lengths p n) ≡ length lengths = length-set lengths p n in
     record {
       same = length-set marks p false ∙ (table.same ∙ sym long);
-      multiple = table.multiple;
-      pages = rw long table.pages;
-      some = rw long table.some;
-      limit = rw long table.limit;
-      end = rw long table.end;
+      pages = table.pages;
+      count = long ∙ table.count;
+      size = table.size;
+      place = table.place;
       inside = λ j lt. rw long (inside-set lengths p n j table.inside run (omega arith));
       apart = λ j k lt some. apart-set lengths p n j k table.apart run lt some;
     }

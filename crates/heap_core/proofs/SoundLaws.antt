@@ -6,13 +6,15 @@ use Rattle.heap_core.specs.Blocks.{IsApart}
 use Rattle.heap_core.specs.Heap.{IsInside, IsSound}
 use Rattle.heap_core.specs.Table.{IsTable, blocks_of, is_held, is_live, table_state}
 use Rattle.heap_core.proofs.BlockLaws.{All-blocks_of, AllPairs-blocks_of}
+use Rattle.heap_core.proofs.SpanLaws.{LiesWithin-table}
 
 All-IsInside : (keeps : Bool → Bool) (base : ℕ) (lengths : List ℕ) (marks : List Bool) → IsTable base lengths marks
     → All (IsInside (table_state base lengths marks)) (blocks_of keeps base 0 lengths marks)
 All-IsInside keeps base lengths marks table =
+    let within = LiesWithin-table base lengths marks table in
     All-blocks_of (IsInside (table_state base lengths marks)) keeps base 0 lengths marks true
     (λ k start at lt some kept. record {
-      start = omega (arith, table.multiple);
+      start = omega (arith, within.multiple);
       length = omega arith;
       some = omega arith;
       from = omega arith;
@@ -44,11 +46,10 @@ All-IsApart base lengths marks table =
 pub IsSound-from_table : (base : ℕ) (lengths : List ℕ) (marks : List Bool) → IsTable base lengths marks → IsSound (table_state base lengths marks)
 IsSound-from_table base lengths marks table =
     record {
-      base = table.multiple;
-      pages = omega (arith, table.pages);
-      some = omega (arith, table.some);
-      limit = omega (arith, table.limit);
-      end = table.end;
+      pages = table.pages;
+      bytes = omega (arith, table.count);
+      size = table.size;
+      place = table.place;
       live_inside = All-IsInside is_live base lengths marks table;
       held_inside = All-IsInside is_held base lengths marks table;
       live_order = AllPairs-blocks_of is_live base 0 lengths marks table.apart;

@@ -1,8 +1,8 @@
 -- A heap as a caller sees it. Blocks in use are live. Blocks that were given up are held, in
 -- quarantine, until their bytes may be used again (Filardo et al. 2020, Cornucopia: the quarantine).
--- The sizes of pages and of heaps are this project's profile.
-use Rattle.std.specs.Prelude.{◌≡◌, ◌<◌, ◌≤◌, ◌+◌, ◌*◌, ◌%◌, ◌^◌, ℕ, List, [], All, AllPairs}
+use Rattle.std.specs.Prelude.{◌≡◌, ◌<◌, ◌≤◌, ◌+◌, ◌*◌, ◌%◌, ℕ, true, List, [], All, AllPairs}
 use Rattle.heap_core.specs.Blocks.{IsApart, IsBefore, Span, end_of, length_of, start_of}
+use Rattle.tag_memory.specs.Span.{is_base, is_size}
 
 -- The heap is the `size` addresses from `base` on.
 pub record HeapState : Type 0 where
@@ -10,17 +10,6 @@ pub record HeapState : Type 0 where
   pub size : ℕ
   pub live : List Span
   pub held : List Span
-
--- A heap has 1 to 1,024 pages.
-pub record IsSize (pages : ℕ) : Type 0 where
-  pub some : 0 < pages
-  pub limit : pages ≤ 1024
-
--- A heap of so many pages may start here: at a multiple of a page's 4,096 bytes, with its end at
--- most 2 ^ 64.
-pub record IsBase (base pages : ℕ) : Type 0 where
-  pub multiple : base % 4096 ≡ 0
-  pub end : base + 4096 * pages ≤ 2 ^ 64
 
 -- The heap in which no block is live or held.
 abbrev pub empty_heap : ℕ → ℕ → HeapState
@@ -34,14 +23,13 @@ pub record IsInside (s : HeapState) (block : Span) : Type 0 where
   pub from : s.base ≤ start_of block
   pub end : end_of block ≤ s.base + s.size
 
--- What holds of every heap: it is whole pages, its blocks lie inside it in the order of their starts,
--- and no two of them, live or held, share an address.
+-- What holds of every heap: it is some whole pages that may begin at its base, its blocks lie inside it
+-- in the order of their starts, and no two of them, live or held, share an address.
 pub record IsSound (s : HeapState) : Type 0 where
-  pub base : s.base % 4096 ≡ 0
-  pub pages : s.size % 4096 ≡ 0
-  pub some : 0 < s.size
-  pub limit : s.size ≤ 4096 * 1024
-  pub end : s.base + s.size ≤ 2 ^ 64
+  pub pages : ℕ
+  pub bytes : s.size ≡ 4096 * pages
+  pub size : is_size pages ≡ true
+  pub place : is_base s.base pages ≡ true
   pub live_inside : All (IsInside s) s.live
   pub held_inside : All (IsInside s) s.held
   pub live_order : AllPairs IsBefore s.live

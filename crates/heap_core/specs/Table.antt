@@ -1,11 +1,12 @@
 -- How a heap is stored: as a table, which has for each granule the length in granules of the block
 -- that starts there, or 0, and a mark that says whether that block is held; and as free extents.
-use Rattle.std.specs.Prelude.{◌≡◌, ◌<◌, ◌≤◌, ◌+◌, ◌*◌, ◌%◌, ◌^◌, nat_lt, ◌&&◌, ◌||◌, not, if◌then◌else◌, ℕ, zero, suc, Bool, false, List, [], ◌∷◌, ◌++◌, length, slice_index, vec_capacity}
+use Rattle.std.specs.Prelude.{◌≡◌, ◌<◌, ◌≤◌, ◌+◌, ◌*◌, nat_lt, ◌&&◌, ◌||◌, not, if◌then◌else◌, ℕ, zero, suc, Bool, true, false, List, [], ◌∷◌, ◌++◌, length, slice_index, vec_capacity}
 use Rattle.heap_core.specs.Blocks.{Span, bytes_of}
 use Rattle.heap_core.specs.Extents.{IsGapped, covers}
 use Rattle.heap_core.specs.Heap.{HeapState}
 use Rattle.heap_core.specs.declared.extent.Extent.{Extent}
 use Rattle.heap_core.specs.declared.heap.Heap.TheInside.{Inside}
+use Rattle.tag_memory.specs.Span.{is_base, is_size}
 
 -- The blocks whose marks pass the test, of a table that begins at granule i.
 abbrev pub blocks_of : (Bool → Bool) → ℕ → ℕ → List ℕ → List Bool → List Span
@@ -53,14 +54,13 @@ pub record IsFirstRun (lengths : List ℕ) (p n : ℕ) : Type 0 where
   pub run : IsRun lengths p n
   pub least : (q : ℕ) → IsRun lengths q n → p ≤ q
 
--- The table is one of whole pages, and each block ends inside it and before the next one starts.
+-- The table is one of some pages that may begin at the base, and each block ends inside it and before the next one starts.
 pub record IsTable (base : ℕ) (lengths : List ℕ) (marks : List Bool) : Type 0 where
   pub same : length marks ≡ length lengths
-  pub multiple : base % 4096 ≡ 0
-  pub pages : length lengths % 256 ≡ 0
-  pub some : 0 < length lengths
-  pub limit : length lengths ≤ 256 * 1024
-  pub end : base + 16 * length lengths ≤ 2 ^ 64
+  pub pages : ℕ
+  pub count : length lengths ≡ 256 * pages
+  pub size : is_size pages ≡ true
+  pub place : is_base base pages ≡ true
   pub inside : (j : ℕ) → j < length lengths → j + slice_index lengths j ≤ length lengths
   pub apart : (j k : ℕ) → j < k → 0 < slice_index lengths k → j + slice_index lengths j ≤ k
 

@@ -3,8 +3,7 @@
 ghost use Rattle.std.specs.Prelude.{◌≡◌, ◌≤◌, ◌*◌};
 ghost use Rattle.heap_core.specs.Place.{granule_size};
 
-// The bytes of a granule.
-pub const GRANULE: u64 = 16;
+use tag_memory::GRANULE;
 
 /// A block: the bytes from the address `base` on, before `top`, which is at most 2^64.
 #[derive(Debug, Clone, Copy, PartialEq, Eq, Hash)]

@@ -1,27 +1,18 @@
 //! One heap, and where its blocks lie.
 
-ghost use Rattle.std.specs.Prelude.{◌≡◌, ◌↔◌, ◌<◌, ◌≤◌, ◌+◌, ◌*◌, ◌/◌, ◌%◌, ◌^◌, ℕ, IfOk, IsOk, IsOkUnless};
+ghost use Rattle.std.specs.Prelude.{◌≡◌, ◌↔◌, ◌≤◌, ◌+◌, ℕ, IfOk, IsOk, IsOkUnless, false, true};
 ghost use Rattle.heap_core.specs.Blocks.{blocks_with, bytes_of};
-ghost use Rattle.heap_core.specs.Heap.{IsBase, IsSize, IsSound, empty_heap};
+ghost use Rattle.heap_core.specs.Heap.{IsSound, empty_heap};
 ghost use Rattle.heap_core.specs.Place.{IfOkSome, IsFree, IsPlace, block_length};
+ghost use Rattle.tag_memory.specs.Span as span;
 
-use crate::block::{Block, GRANULE, granules_for};
+use crate::block::{Block, granules_for};
 use crate::extent::{Extent, first_fit};
 use crate::fault::HeapFault;
 use crate::table::put_block;
 use std::alloc::Global;
 use std::marker::Model;
-
-// A page, in bytes and in granules.
-const PAGE: u64 = 4096;
-
-const PAGE_GRANULES: u32 = 256;
-
-// The most pages that a heap has.
-const MOST_PAGES: u32 = 1024;
-
-// How many addresses there are.
-const ADDRESSES: u128 = 1 << 64;
+use tag_memory::{GRANULE, PAGE_GRANULES, is_base, is_size};
 
 /// The live and the held blocks of one heap.
 #[derive(Drop)]
@@ -55,32 +46,31 @@ impl Heap {
     /// The empty heap of `pages` pages of 4,096 bytes, from the address `base` on. It errs with
     /// `BadSize` first, then `BadBase`, and `Memory` last.
     pub fn new(alloc: Global, base: u64, pages: u32) -> Result<Heap, HeapFault>
-        ensures bad_size { (result ≡ Err HeapFault.BadSize) ↔ ¬ IsSize pages }
-        ensures bad_base { (result ≡ Err HeapFault.BadBase) ↔ (IsSize pages × ¬ IsBase base pages) }
-        ensures memory { IsSize pages → IsBase base pages → IsOkUnless result HeapFault.Memory }
+        ensures bad_size { (result ≡ Err HeapFault.BadSize) ↔ (span.is_size pages ≡ false) }
+        ensures bad_base { (result ≡ Err HeapFault.BadBase)
+            ↔ ((span.is_size pages ≡ true) × (span.is_base base pages ≡ false)) }
+        ensures memory { span.is_size pages ≡ true → span.is_base base pages ≡ true
+            → IsOkUnless result HeapFault.Memory }
         ensures empty { IfOk result (λ heap. heap ≡ empty_heap base pages) }
         ensures sound { IfOk result IsSound }
     {
-        if pages == 0 || pages > MOST_PAGES {
+        if !is_size(u64::from(pages)) {
             return Err(HeapFault::BadSize);
         }
-        let end = u128::from(base) + u128::from(PAGE * u64::from(pages));
-        if !base.is_multiple_of(PAGE) || end > ADDRESSES {
+        if !is_base(base, u64::from(pages)) {
             return Err(HeapFault::BadBase);
         }
-        Heap::empty(alloc, base, PAGE_GRANULES * pages)
+        Heap::empty(alloc, base, pages)
     }
 
-    // The empty heap of so many granules.
-    fn empty(alloc: Global, base: u64, granules: u32) -> Result<Heap, HeapFault>
-        requires multiple { base % 4096 ≡ 0 }
-        requires pages { granules % 256 ≡ 0 }
-        requires some { 0 < granules }
-        requires limit { granules ≤ 256 * 1024 }
-        requires end { base + 16 * granules ≤ 2 ^ 64 }
+    // The empty heap, where it can lie.
+    fn empty(alloc: Global, base: u64, pages: u32) -> Result<Heap, HeapFault>
+        requires size { span.is_size pages ≡ true }
+        requires place { span.is_base base pages ≡ true }
         ensures memory { IsOkUnless result HeapFault.Memory }
-        ensures empty { IfOk result (λ heap. heap ≡ empty_heap base (granules / 256)) }
+        ensures empty { IfOk result (λ heap. heap ≡ empty_heap base pages) }
     {
+        let granules = PAGE_GRANULES * pages;
         let count = granules as usize;
         let lengths = vec![in alloc; 0; count]?;
         let held = vec![in alloc; false; count]?;

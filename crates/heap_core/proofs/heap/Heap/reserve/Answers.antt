@@ -7,6 +7,7 @@ use Rattle.heap_core.proofs.PlaceLaws.{IsPlace-from_run, IsRun-from_free}
 use Rattle.heap_core.proofs.RunLaws.{IsTable-set, held_blocks-set, live_blocks-set, table_state-set}
 use Rattle.heap_core.proofs.SizeLaws.{HasGranules_short}
 use Rattle.heap_core.proofs.SoundLaws.{IsSound-from_table}
+use Rattle.heap_core.proofs.SpanLaws.{LiesWithin-table}
 use Rattle.heap_core.proofs.SumLaws.{bytes_of-blocks_with, granules_fit}
 use Rattle.heap_core.proofs.heap.Heap.reserve.Goals as goal
 
@@ -25,7 +26,7 @@ pub overflow_add-self : goal.overflow_add-self
 overflow_add-self c =
     let h = c.self.invariant in
     let has = HasGranules_short c.args.size c.granules_for-granules.result c.requires c.granules_for-granules.ensures in
-    omega (arith, granules_fit _ _ _ _ _ h.table h.live h.held, h.table.limit, has.limit)
+    omega (arith, granules_fit _ _ _ _ _ h.table h.live h.held, h.table.count, (LiesWithin-table _ _ _ h.table).limit, has.limit)
 
 pub invariant_of-self : goal.invariant_of-self
 invariant_of-self c =
