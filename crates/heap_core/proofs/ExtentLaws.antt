@@ -1,14 +1,16 @@
--- Free extents: which granules they cover, the first that is long enough, and what is left of them once
--- its front is taken.
-use Rattle.std.proofs.Common.{◌≡◌, ◌<◌, ◌≤◌, ◌+◌, ◌-◌, ◌⊎◌, inl, inr, nat_le, nat_lt, ◌&&◌, ◌||◌, ℕ, zero, suc, Bool, true, false, List, [], ◌∷◌, ◌++◌, Some, None, length, get_or, set, refl, sym, ap, ◌∙◌, subst, arith}
-use Rattle.std.proofs.lemmas.Bool.{cases_lt, true≢false, leb-true, leb-false}
+-- Free extents: which granules they cover, the first into which a block fits, and what is left of them
+-- once a run is taken.
+use Rattle.std.proofs.Common.{◌≡◌, ◌<◌, ◌≤◌, ◌+◌, ◌-◌, ◌*◌, ◌/◌, ◌%◌, ◌⊎◌, inl, inr, nat_le, nat_lt, ◌&&◌, ◌||◌, ℕ, zero, suc, true, false, List, [], ◌∷◌, ◌++◌, Some, None, length, get_or, set, refl, sym, ap, ◌∙◌, subst, arith}
+use Rattle.std.proofs.Math.Nat.{div-add-mod, mod-eq_of_lt, mod-lt, mod_self, mul-le-mul_left, mul-mod_left, mul_comm}
+use Rattle.std.proofs.lemmas.Bool.{cases_lt, le-leb, leb-true, true≢false}
 use Rattle.std.proofs.lemmas.Bool.Decides.{nat_tests}
 use Rattle.std.proofs.lemmas.List.Quantifiers.{position-Some}
 use Rattle.std.proofs.lemmas.List.Sums.{fails_before_first}
 use Rattle.std.proofs.lemmas.Option.{slice_get_within, get_or_from_slice_get}
 use Rattle.std.specs.Prelude.{slice_get, remove}
-use Rattle.std.specs.List.{position_or_len}
-use Rattle.heap_core.specs.Extents.{IsGapped, covers, extent_or_none, extents_without, first_fit_of, has_granule}
+use Rattle.std.specs.Int.{next_multiple_of}
+use Rattle.std.specs.List.{insert, position_or_len}
+use Rattle.heap_core.specs.Extents.{IsGapped, aligned_from, covers, extent_or_none, extents_without, first_fit_of, fits_in, has_granule}
 use Rattle.heap_core.specs.declared.extent.Extent.{Extent}
 
 -- ---- the granules that extents cover
@@ -54,7 +56,54 @@ covers_at (x ∷ extents) zero e k there from before =
     rw here refl
 covers_at (x ∷ extents) (suc i) e k there from before = rw (covers_at extents i e k there from before) (grind arith)
 
--- ---- the first extent that is long enough
+-- ---- multiples of a unit
+
+-- x up to a multiple of y.
+next_multiple_of_is : (x y : ℕ) → 0 < y → (next_multiple_of x y % y ≡ 0) × (next_multiple_of x y < x + y)
+next_multiple_of_is x y some =
+    let split = div-add-mod x y in
+    let rest = mod-lt x some in
+    elim (cases_lt 0 (x % y)) [
+      | inl more ↦
+          let step : (y - x % y) % y ≡ y - x % y = mod-eq_of_lt (omega arith) in
+          let whole : x + (y - x % y) ≡ (x / y + 1) * y = omega (arith, mul_comm y (x / y)) in
+          rw (step, whole) (mul-mod_left (x / y + 1) y, omega arith)
+      | inr none ↦
+          let all : y - x % y ≡ y = omega arith in
+          let step : (y - x % y) % y ≡ 0 = rw all (mod_self y) in
+          let whole : x + 0 ≡ x / y * y = omega (arith, mul_comm y (x / y)) in
+          rw step (rw whole (mul-mod_left (x / y) y), omega arith)
+    ]
+
+-- A multiple from x on is none less.
+next_multiple_of_least : (x y m : ℕ) → 0 < y → x ≤ m → m % y ≡ 0 → next_multiple_of x y ≤ m
+next_multiple_of_least x y m some le multiple =
+    let is = next_multiple_of_is x y some in
+    let n = next_multiple_of x y in
+    let n_is = div-add-mod (next_multiple_of x y) y in
+    let m_is = div-add-mod m y in
+    elim (cases_lt (m / y) (next_multiple_of x y / y)) [
+      | inl less ↦
+          let step : y * (m / y + 1) ≤ y * (next_multiple_of x y / y) = mul-le-mul_left y (omega arith) in
+          absurd (omega (arith, is.0, is.1))
+      | inr more ↦
+          let step : y * (next_multiple_of x y / y) ≤ y * (m / y) = mul-le-mul_left y more in
+          omega (arith, is.0)
+    ]
+
+pub le-aligned_from : (origin unit k : ℕ) → k ≤ aligned_from origin unit k
+le-aligned_from origin unit k = omega arith
+
+pub aligned_from-multiple : (origin unit k : ℕ) → 0 < unit → (origin + aligned_from origin unit k) % unit ≡ 0
+aligned_from-multiple origin unit k some =
+    let same : origin + aligned_from origin unit k ≡ next_multiple_of (origin + k) unit = omega arith in
+    rw same (next_multiple_of_is (origin + k) unit some).0
+
+pub aligned_from-least : (origin unit k q : ℕ) → 0 < unit → k ≤ q → (origin + q) % unit ≡ 0 → aligned_from origin unit k ≤ q
+aligned_from-least origin unit k q some le multiple =
+    omega (arith, next_multiple_of_least (origin + k) unit (origin + q) some (omega arith) multiple)
+
+-- ---- the first extent into which a block fits
 
 -- A run of n granules from p on lies in one of the extents.
 pub record IsInOne (extents : List Extent) (p n : ℕ) : Type 0 where
@@ -112,38 +161,55 @@ starts_rise from end (x ∷ extents) (suc i) zero e f gapped at_i at_j le = absu
 starts_rise from end (x ∷ extents) (suc i) (suc j) e f gapped at_i at_j le =
     starts_rise (x.start + x.length + 1) end extents i j e f gapped.1.1.1 at_i at_j (omega arith)
 
--- The extent that the first fit names is long enough.
-pub first_fit_enough : (extents : List Extent) (n i : ℕ) (e : Extent) → first_fit_of n extents ≡ Some i
-    → slice_get extents i ≡ Some e → n ≤ e.length
-first_fit_enough extents n i e found there =
-    let passes = (position-Some (λ x. nat_le n x.length) extents i e found).1 in
-    let same : get_or extents i e ≡ e = get_or_from_slice_get extents i e e there in
-    leb-true n e.length (subst (λ (x : Extent). nat_le n x.length ≡ true) same passes)
+-- A run in an extent, from a multiple of the unit on, fits into it.
+fits_in-run : (origin unit n q : ℕ) (e : Extent) → 0 < unit → (origin + q) % unit ≡ 0 → e.start ≤ q → q + n ≤ e.start + e.length
+    → fits_in origin unit n e ≡ true
+fits_in-run origin unit n q e some multiple from end =
+    le-leb (aligned_from origin unit e.start + n) (e.start + e.length) (omega (arith, aligned_from-least origin unit e.start q some from multiple))
 
--- It starts no later than any run of that length.
-pub first_fit_least : (from end : ℕ) (extents : List Extent) (n i p : ℕ) (e : Extent) → first_fit_of n extents ≡ Some i
-    → slice_get extents i ≡ Some e → IsGapped from end extents → IsInOne extents p n → e.start ≤ p
-first_fit_least from end extents n i p e found there gapped run =
+-- The block fits into the extent that the first fit names.
+pub first_fit_enough : (origin unit n : ℕ) (extents : List Extent) (i : ℕ) (e : Extent) → first_fit_of origin unit n extents ≡ Some i
+    → slice_get extents i ≡ Some e → aligned_from origin unit e.start + n ≤ e.start + e.length
+first_fit_enough origin unit n extents i e found there =
+    let passes = (position-Some (fits_in origin unit n) extents i e found).1 in
+    let same : get_or extents i e ≡ e = get_or_from_slice_get extents i e e there in
+    leb-true (aligned_from origin unit e.start + n) (e.start + e.length)
+    (subst (λ (x : Extent). fits_in origin unit n x ≡ true) same passes)
+
+-- It lies no later there than any run of that length from a multiple of the unit on.
+pub first_fit_least : (origin unit n from end : ℕ) (extents : List Extent) (i p : ℕ) (e : Extent) → first_fit_of origin unit n extents ≡ Some i
+    → slice_get extents i ≡ Some e → IsGapped from end extents → IsInOne extents p n → 0 < unit → (origin + p) % unit ≡ 0
+    → aligned_from origin unit e.start ≤ p
+first_fit_least origin unit n from end extents i p e found there gapped run some multiple =
     elim (cases_lt run.index i) [
       | inl before ↦
-          let fails = (position-Some (λ x. nat_le n x.length) extents i run.extent found).2 run.index before in
+          let fails = (position-Some (fits_in origin unit n) extents i run.extent found).2 run.index before in
           let same : get_or extents run.index run.extent ≡ run.extent = get_or_from_slice_get extents run.index run.extent run.extent run.there in
-          let short = subst (λ (x : Extent). nat_le n x.length ≡ false) same fails in
-          absurd (omega (arith, leb-false n run.extent.length short, run.from, run.end))
-      | inr le ↦ omega (arith, starts_rise from end extents i run.index e run.extent gapped there run.there le, run.from)
+          let short = subst (λ (x : Extent). fits_in origin unit n x ≡ false) same fails in
+          absurd (true≢false (sym (fits_in-run origin unit n p run.extent some multiple run.from run.end) ∙ short))
+      | inr le ↦
+          let rises = starts_rise from end extents i run.index e run.extent gapped there run.there le in
+          aligned_from-least origin unit e.start p some (omega (arith, run.from)) multiple
     ]
 
 -- Where it names none, there is no such run.
-pub first_fit_none : (extents : List Extent) (n p : ℕ) → first_fit_of n extents ≡ None → IsInOne extents p n → ⊥
-first_fit_none extents n p found run =
-    let passes : Extent → Bool = λ x. nat_le n x.length in
-    let past : length extents ≤ position_or_len passes extents = grind (arith, nat_tests) in
-    let fails = fails_before_first passes extents run.index run.extent (omega (arith, slice_get_within extents run.index run.extent run.there)) in
+pub first_fit_none : (origin unit n : ℕ) (extents : List Extent) (p : ℕ) → first_fit_of origin unit n extents ≡ None → IsInOne extents p n
+    → 0 < unit → (origin + p) % unit ≡ 0 → ⊥
+first_fit_none origin unit n extents p found run some multiple =
+    let past : length extents ≤ position_or_len (fits_in origin unit n) extents = grind (arith, nat_tests) in
+    let within = slice_get_within extents run.index run.extent run.there in
+    let fails = fails_before_first (fits_in origin unit n) extents run.index run.extent (omega arith) in
     let same : get_or extents run.index run.extent ≡ run.extent = get_or_from_slice_get extents run.index run.extent run.extent run.there in
-    let short = subst (λ (x : Extent). nat_le n x.length ≡ false) same fails in
-    omega (arith, leb-false n run.extent.length short, run.from, run.end)
+    let short = subst (λ (x : Extent). fits_in origin unit n x ≡ false) same fails in
+    true≢false (sym (fits_in-run origin unit n p run.extent some multiple run.from run.end) ∙ short)
 
--- ---- what is left once the front of an extent is taken
+-- There are at most half as many extents as granules, rounded up.
+pub IsGapped-count : (from end : ℕ) (extents : List Extent) → IsGapped from end extents → from ≤ end + 1 → from + 2 * length extents ≤ end + 1
+IsGapped-count from end [] gapped le = omega arith
+IsGapped-count from end (e ∷ extents) gapped le =
+    omega (arith, gapped.0, gapped.1.0, IsGapped-count (e.start + e.length + 1) end extents gapped.1.1.1 (omega (arith, gapped.1.1.0)))
+
+-- ---- what is left once a run is taken
 
 extent_or_none_some : (s n : ℕ) → 0 < n → extent_or_none s n ≡ record { start = s; length = n } ∷ []
 extent_or_none_some s zero some = absurd (omega arith)
@@ -153,23 +219,46 @@ extent_or_none_none : (s n : ℕ) → n ≡ 0 → extent_or_none s n ≡ []
 extent_or_none_none s zero none = refl
 extent_or_none_none s (suc n) none = absurd (omega arith)
 
--- A part of the extent is left.
-pub extents_without_part : (extents : List Extent) (i n : ℕ) (e : Extent) → slice_get extents i ≡ Some e → n < e.length
-    → set extents i (record { start = e.start + n; length = e.length - n }) ≡ extents_without i n extents
-extents_without_part [] i n e there part = cc
-extents_without_part (x ∷ extents) zero n e there part =
+-- Nothing of the extent is left.
+pub extents_without_all : (extents : List Extent) (i p n : ℕ) (e : Extent) → slice_get extents i ≡ Some e → p ≤ e.start
+    → e.start + e.length ≤ p + n → remove extents i ≡ extents_without i p n extents
+extents_without_all [] i p n e there first last = cc
+extents_without_all (x ∷ extents) zero p n e there first last =
     let same : x ≡ e = cc in
-    rw (same, extent_or_none_some (e.start + n) (e.length - n) (omega arith)) refl
-extents_without_part (x ∷ extents) (suc i) n e there part = ap (λ xs. x ∷ xs) (extents_without_part extents i n e there part)
+    rw (same, extent_or_none_none e.start (p - e.start) (omega arith), extent_or_none_none (p + n) (e.start + e.length - (p + n)) (omega arith)) refl
+extents_without_all (x ∷ extents) (suc i) p n e there first last = ap (λ xs. x ∷ xs) (extents_without_all extents i p n e there first last)
 
--- Nothing of it is left.
-pub extents_without_all : (extents : List Extent) (i n : ℕ) (e : Extent) → slice_get extents i ≡ Some e → e.length ≤ n
-    → remove extents i ≡ extents_without i n extents
-extents_without_all [] i n e there all = cc
-extents_without_all (x ∷ extents) zero n e there all =
+-- What lies before the run is left.
+pub extents_without_end : (extents : List Extent) (i p n : ℕ) (e : Extent) → slice_get extents i ≡ Some e → e.start < p
+    → e.start + e.length ≤ p + n → set extents i (record { start = e.start; length = p - e.start }) ≡ extents_without i p n extents
+extents_without_end [] i p n e there first last = cc
+extents_without_end (x ∷ extents) zero p n e there first last =
     let same : x ≡ e = cc in
-    rw (same, extent_or_none_none (e.start + n) (e.length - n) (omega arith)) refl
-extents_without_all (x ∷ extents) (suc i) n e there all = ap (λ xs. x ∷ xs) (extents_without_all extents i n e there all)
+    rw (same, extent_or_none_some e.start (p - e.start) (omega arith), extent_or_none_none (p + n) (e.start + e.length - (p + n)) (omega arith)) refl
+extents_without_end (x ∷ extents) (suc i) p n e there first last = ap (λ xs. x ∷ xs) (extents_without_end extents i p n e there first last)
+
+-- What lies after it is left.
+pub extents_without_front : (extents : List Extent) (i p n : ℕ) (e : Extent) → slice_get extents i ≡ Some e → p ≤ e.start
+    → p + n < e.start + e.length
+    → set extents i (record { start = p + n; length = e.start + e.length - (p + n) }) ≡ extents_without i p n extents
+extents_without_front [] i p n e there first last = cc
+extents_without_front (x ∷ extents) zero p n e there first last =
+    let same : x ≡ e = cc in
+    rw (same, extent_or_none_none e.start (p - e.start) (omega arith), extent_or_none_some (p + n) (e.start + e.length - (p + n)) (omega arith)) refl
+extents_without_front (x ∷ extents) (suc i) p n e there first last = ap (λ xs. x ∷ xs) (extents_without_front extents i p n e there first last)
+
+-- Both are left.
+pub extents_without_middle : (extents : List Extent) (i p n : ℕ) (e : Extent) → slice_get extents i ≡ Some e → e.start < p
+    → p + n < e.start + e.length
+    → insert (set extents i (record { start = e.start; length = p - e.start })) (i + 1) (record { start = p + n; length = e.start + e.length - (p + n) })
+    ≡ extents_without i p n extents
+extents_without_middle [] i p n e there first last = cc
+extents_without_middle (x ∷ extents) zero p n e there first last =
+    let same : x ≡ e = cc in
+    rw (same, extent_or_none_some e.start (p - e.start) (omega arith), extent_or_none_some (p + n) (e.start + e.length - (p + n)) (omega arith)) refl
+extents_without_middle (x ∷ extents) (suc i) p n e there first last =
+    let next : suc i + 1 ≡ suc (i + 1) = omega arith in
+    rw next (ap (λ xs. x ∷ xs) (extents_without_middle extents i p n e there first last))
 
 IsGapped_earlier : (from less end : ℕ) (extents : List Extent) → less ≤ from → IsGapped from end extents → IsGapped less end extents
 IsGapped_earlier from less end [] le gapped = tt
@@ -180,46 +269,69 @@ IsGapped-extent_or_none : (from end s n : ℕ) (extents : List Extent) → from 
 IsGapped-extent_or_none from end s zero extents le fits gapped = IsGapped_earlier (s + 0 + 1) from end extents (omega arith) gapped
 IsGapped-extent_or_none from end s (suc n) extents le fits gapped = (le, (omega arith, (fits, gapped)))
 
+-- The n granules from p on, at least one, lie in the extent.
+pub record IsWithin (p n : ℕ) (e : Extent) : Type 0 where
+  pub some : 0 < n
+  pub from : e.start ≤ p
+  pub end : p + n ≤ e.start + e.length
+
 -- The rest is as well ordered.
-pub IsGapped-extents_without : (from end : ℕ) (extents : List Extent) (i n : ℕ) (e : Extent) → slice_get extents i ≡ Some e → n ≤ e.length
-    → IsGapped from end extents → IsGapped from end (extents_without i n extents)
-IsGapped-extents_without from end [] i n e there fits gapped = tt
-IsGapped-extents_without from end (x ∷ extents) zero n e there fits gapped =
-    let same : e.length ≡ x.length = ap (λ y. y.length) (let s : e ≡ x = cc in s) in
-    let whole : x.start + n + (x.length - n) ≡ x.start + x.length = omega arith in
-    IsGapped-extent_or_none from end (x.start + n) (x.length - n) extents (omega (arith, gapped.0)) (omega (arith, gapped.1.1.0))
-    (rw whole gapped.1.1.1)
-IsGapped-extents_without from end (x ∷ extents) (suc i) n e there fits gapped =
-    (gapped.0, (gapped.1.0, (gapped.1.1.0, IsGapped-extents_without (x.start + x.length + 1) end extents i n e there fits gapped.1.1.1)))
+pub IsGapped-extents_without : (from end : ℕ) (extents : List Extent) (i p n : ℕ) (e : Extent) → slice_get extents i ≡ Some e → IsWithin p n e
+    → IsGapped from end extents → IsGapped from end (extents_without i p n extents)
+IsGapped-extents_without from end [] i p n e there within gapped = tt
+IsGapped-extents_without from end (x ∷ extents) zero p n e there within gapped =
+    let same : e ≡ x = cc in
+    let run : IsWithin p n x = subst (IsWithin p n) same within in
+    let last : p + n + (x.start + x.length - (p + n)) ≡ x.start + x.length = omega (arith, run.end) in
+    let after : IsGapped (x.start + (p - x.start) + 1) end (extent_or_none (p + n) (x.start + x.length - (p + n)) ++ extents) =
+    IsGapped-extent_or_none (x.start + (p - x.start) + 1) end (p + n) (x.start + x.length - (p + n)) extents
+    (omega (arith, run.some, run.from)) (omega (arith, gapped.1.1.0)) (rw last gapped.1.1.1) in
+    IsGapped-extent_or_none from end x.start (p - x.start) (extent_or_none (p + n) (x.start + x.length - (p + n)) ++ extents)
+    gapped.0 (omega (arith, run.from, run.end, gapped.1.1.0)) after
+IsGapped-extents_without from end (x ∷ extents) (suc i) p n e there within gapped =
+    (gapped.0, (gapped.1.0, (gapped.1.1.0, IsGapped-extents_without (x.start + x.length + 1) end extents i p n e there within gapped.1.1.1)))
 
 covers-extent_or_none : (s n k : ℕ) (extents : List Extent)
     → covers (extent_or_none s n ++ extents) k ≡ ((nat_le s k && nat_lt k (s + n)) || covers extents k)
 covers-extent_or_none s zero k extents = grind (arith, nat_tests)
 covers-extent_or_none s (suc n) k extents = refl
 
+-- What is left of one extent.
+covers_pieces : (e : Extent) (p n k : ℕ) (extents : List Extent)
+    → covers (extents_without 0 p n (e ∷ extents)) k
+    ≡ ((nat_le e.start k && nat_lt k (e.start + (p - e.start)))
+    || ((nat_le (p + n) k && nat_lt k (p + n + (e.start + e.length - (p + n)))) || covers extents k))
+covers_pieces e p n k extents =
+    let last = extent_or_none (p + n) (e.start + e.length - (p + n)) ++ extents in
+    covers-extent_or_none e.start (p - e.start) k last
+    ∙ ap (λ rest. (nat_le e.start k && nat_lt k (e.start + (p - e.start))) || rest) (covers-extent_or_none (p + n) (e.start + e.length - (p + n)) k extents)
+
 -- It covers none of the granules taken.
-pub covers_taken : (from end : ℕ) (extents : List Extent) (i n : ℕ) (e : Extent) (k : ℕ) → slice_get extents i ≡ Some e → n ≤ e.length
-    → IsGapped from end extents → e.start ≤ k → k < e.start + n → covers (extents_without i n extents) k ≡ false
-covers_taken from end [] i n e k there fits gapped le lt = refl
-covers_taken from end (x ∷ extents) zero n e k there fits gapped le lt =
-    let same : x ≡ e = cc in
-    let start : x.start ≡ e.start = ap (λ y. y.start) same in
-    let length : x.length ≡ e.length = ap (λ y. y.length) same in
+pub covers_taken : (from end : ℕ) (extents : List Extent) (i p n : ℕ) (e : Extent) (k : ℕ) → slice_get extents i ≡ Some e → IsWithin p n e
+    → IsGapped from end extents → p ≤ k → k < p + n → covers (extents_without i p n extents) k ≡ false
+covers_taken from end [] i p n e k there within gapped le lt = refl
+covers_taken from end (x ∷ extents) zero p n e k there within gapped le lt =
+    let same : e ≡ x = cc in
+    let run : IsWithin p n x = subst (IsWithin p n) same within in
+    let first = run.from in
+    let last = run.end in
     let rest = covers_below (x.start + x.length + 1) end extents k gapped.1.1.1 (omega arith) in
-    covers-extent_or_none (x.start + n) (x.length - n) k extents ∙ grind (arith, nat_tests)
-covers_taken from end (x ∷ extents) (suc i) n e k there fits gapped le lt =
+    covers_pieces x p n k extents ∙ grind (arith, nat_tests)
+covers_taken from end (x ∷ extents) (suc i) p n e k there within gapped le lt =
     let after = extent_within (x.start + x.length + 1) end extents i e gapped.1.1.1 there in
-    let here : has_granule k x ≡ false = has_granule_above x k (omega (arith, after.0)) in
-    rw here (covers_taken (x.start + x.length + 1) end extents i n e k there fits gapped.1.1.1 le lt)
+    let here : has_granule k x ≡ false = has_granule_above x k (omega (arith, after.0, within.from)) in
+    rw here (covers_taken (x.start + x.length + 1) end extents i p n e k there within gapped.1.1.1 le lt)
 
 -- And all else as before.
-pub covers_other : (extents : List Extent) (i n : ℕ) (e : Extent) (k : ℕ) → slice_get extents i ≡ Some e → n ≤ e.length
-    → (k < e.start) ⊎ (e.start + n ≤ k) → covers (extents_without i n extents) k ≡ covers extents k
-covers_other [] i n e k there fits other = refl
-covers_other (x ∷ extents) zero n e k there fits other =
-    let same : x ≡ e = cc in
-    let start : x.start ≡ e.start = ap (λ y. y.start) same in
-    let length : x.length ≡ e.length = ap (λ y. y.length) same in
-    covers-extent_or_none (x.start + n) (x.length - n) k extents ∙ grind (arith, nat_tests)
-covers_other (x ∷ extents) (suc i) n e k there fits other =
-    ap (λ rest. has_granule k x || rest) (covers_other extents i n e k there fits other)
+pub covers_other : (extents : List Extent) (i p n : ℕ) (e : Extent) (k : ℕ) → slice_get extents i ≡ Some e → IsWithin p n e
+    → (k < p) ⊎ (p + n ≤ k) → covers (extents_without i p n extents) k ≡ covers extents k
+covers_other [] i p n e k there within other = refl
+covers_other (x ∷ extents) zero p n e k there within other =
+    let same : e ≡ x = cc in
+    let run : IsWithin p n x = subst (IsWithin p n) same within in
+    let some = run.some in
+    let first = run.from in
+    let last = run.end in
+    covers_pieces x p n k extents ∙ grind (arith, nat_tests)
+covers_other (x ∷ extents) (suc i) p n e k there within other =
+    ap (λ rest. has_granule k x || rest) (covers_other extents i p n e k there within other)

@@ -1,13 +1,13 @@
--- The places of a heap are the free runs of its table.
-use Rattle.std.proofs.Common.{◌≡◌, ◌<◌, ◌≤◌, ◌+◌, ◌-◌, ◌*◌, ◌/◌, inl, inr, ℕ, Bool, true, false, List, length, get_or, refl, arith}
+-- The places of a heap are the free runs of its table from multiples of the block's unit on.
+use Rattle.std.proofs.Common.{◌≡◌, ◌<◌, ◌≤◌, ◌+◌, ◌-◌, ◌*◌, ◌/◌, ◌%◌, inl, inr, ℕ, Bool, true, false, List, length, get_or, refl, subst, arith}
 use Rattle.std.proofs.lemmas.Bool.{cases_Bool}
 use Rattle.std.specs.Prelude.{All}
 use Rattle.heap_core.specs.Blocks.{IsApart, Span}
-use Rattle.heap_core.specs.Place.{IsFree, IsPlace}
+use Rattle.heap_core.specs.Place.{IsFree, IsPlace, block_unit, granule_size}
 use Rattle.heap_core.specs.Table.{IsFirstRun, IsRun, IsTable, blocks_of, is_held, is_live, is_taken, table_state}
 use Rattle.heap_core.proofs.BlockLaws.{All-block, All-blocks_of}
 use Rattle.heap_core.proofs.RunLaws.{is_taken_by, run_is_apart}
-use Rattle.heap_core.proofs.SizeLaws.{HasGranules}
+use Rattle.heap_core.proofs.SizeLaws.{HasShape, le-block_length}
 use Rattle.heap_core.proofs.SpanLaws.{LiesWithin-table}
 
 -- Each block shares no address with a free run.
@@ -42,13 +42,18 @@ apart_is_free base lengths marks p n k same live held le lt within =
       | inr free ↦ free
     ]
 
--- A block may start at a free run.
-IsFree-from_run : (base : ℕ) (lengths : List ℕ) (marks : List Bool) (size p n : ℕ) → IsTable base lengths marks → HasGranules size n
-    → IsRun lengths p n → IsFree (table_state base lengths marks) size (base + 16 * p)
-IsFree-from_run base lengths marks size p n table has run =
+-- The granule of a heap's base, counted from address 0.
+pub base_granule : (base : ℕ) (lengths : List ℕ) (marks : List Bool) → IsTable base lengths marks → base ≡ 16 * (base / 16)
+base_granule base lengths marks table = omega (arith, (LiesWithin-table base lengths marks table).multiple)
+
+-- A block may start at a free run from a multiple of its unit on.
+IsFree-from_run : (base : ℕ) (lengths : List ℕ) (marks : List Bool) (size p n unit : ℕ) → IsTable base lengths marks → HasShape size n unit
+    → IsRun lengths p n → (base / 16 + p) % unit ≡ 0 → IsFree (table_state base lengths marks) size (base + 16 * p)
+IsFree-from_run base lengths marks size p n unit table has run multiple =
+    let at : 16 * (base / 16 + p) ≡ base + 16 * p = omega (arith, base_granule base lengths marks table) in
     record {
-      granule = omega (arith, (LiesWithin-table base lengths marks table).multiple);
-      unit = rw has.unit (omega arith);
+      granule = omega arith;
+      unit = subst (λ a. a % block_unit size ≡ 0) at (has.units.from (base / 16 + p) multiple);
       from = omega arith;
       end = rw has.length (omega (arith, run.end));
       live = rw has.length (All-IsApart is_live base lengths marks p n run);
@@ -56,11 +61,11 @@ IsFree-from_run base lengths marks size p n table has run =
     }
 
 -- Where it may start, there is one.
-pub IsRun-from_free : (base : ℕ) (lengths : List ℕ) (marks : List Bool) (size a n : ℕ) → IsTable base lengths marks → HasGranules size n
-    → IsFree (table_state base lengths marks) size a → IsRun lengths ((a - base) / 16) n
-IsRun-from_free base lengths marks size a n table has free =
+pub IsRun-from_free : (base : ℕ) (lengths : List ℕ) (marks : List Bool) (size a n unit : ℕ) → IsTable base lengths marks
+    → HasShape size n unit → IsFree (table_state base lengths marks) size a → IsRun lengths ((a - base) / 16) n
+IsRun-from_free base lengths marks size a n unit table has free =
     let p = (a - base) / 16 in
-    let at : a ≡ base + 16 * ((a - base) / 16) = omega (arith, free.granule, free.from, (LiesWithin-table base lengths marks table).multiple) in
+    let at : a ≡ base + 16 * ((a - base) / 16) = omega (arith, free.granule, free.from, base_granule base lengths marks table) in
     let end : (a - base) / 16 + n ≤ length lengths = omega (arith, free.end, has.length) in
     let live = rw (has.length, at) at free.live in
     let held = rw (has.length, at) at free.held in
@@ -70,13 +75,26 @@ IsRun-from_free base lengths marks size a n table has free =
       free = λ k le lt. apart_is_free base lengths marks p n k table.same live held le lt (omega arith);
     }
 
--- The first free run is at the least place.
-pub IsPlace-from_run : (base : ℕ) (lengths : List ℕ) (marks : List Bool) (size p n : ℕ) → IsTable base lengths marks → HasGranules size n
-    → IsFirstRun lengths p n → IsPlace (table_state base lengths marks) size (base + 16 * p)
-IsPlace-from_run base lengths marks size p n table has first =
+-- And it is from a multiple of its unit on.
+pub multiple-from_free : (base : ℕ) (lengths : List ℕ) (marks : List Bool) (size a n unit : ℕ) → IsTable base lengths marks
+    → HasShape size n unit → IsFree (table_state base lengths marks) size a → (base / 16 + (a - base) / 16) % unit ≡ 0
+multiple-from_free base lengths marks size a n unit table has free =
+    let at : a ≡ 16 * (base / 16 + (a - base) / 16) = omega (arith, free.granule, free.from, base_granule base lengths marks table) in
+    has.units.to (base / 16 + (a - base) / 16) (subst (λ x. x % block_unit size ≡ 0) at free.unit)
+
+-- A block that is longer than the heap has no place.
+pub too_long : (base : ℕ) (lengths : List ℕ) (marks : List Bool) (size asked a : ℕ) → 16 * asked ≡ granule_size size → length lengths < asked
+    → IsFree (table_state base lengths marks) size a → ⊥
+too_long base lengths marks size asked a holds long free = omega (arith, free.from, free.end, le-block_length size asked holds)
+
+-- The first such run is at the least place.
+pub IsPlace-from_run : (base : ℕ) (lengths : List ℕ) (marks : List Bool) (size p n unit : ℕ) → IsTable base lengths marks
+    → HasShape size n unit → IsFirstRun (base / 16) unit lengths p n → IsPlace (table_state base lengths marks) size (base + 16 * p)
+IsPlace-from_run base lengths marks size p n unit table has first =
     record {
-      free = IsFree-from_run base lengths marks size p n table has first.run;
+      free = IsFree-from_run base lengths marks size p n unit table has first.run first.multiple;
       least = λ a free.
-          let le = first.least ((a - base) / 16) (IsRun-from_free base lengths marks size a n table has free) in
+          let le = first.least ((a - base) / 16) (IsRun-from_free base lengths marks size a n unit table has free)
+          (multiple-from_free base lengths marks size a n unit table has free) in
           omega (arith, free.from);
     }

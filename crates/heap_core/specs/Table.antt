@@ -1,6 +1,6 @@
 -- How a heap is stored: as a table, which has for each granule the length in granules of the block
 -- that starts there, or 0, and a mark that says whether that block is held; and as free extents.
-use Rattle.std.specs.Prelude.{◌≡◌, ◌<◌, ◌≤◌, ◌+◌, ◌*◌, nat_lt, ◌&&◌, ◌||◌, not, if◌then◌else◌, ℕ, zero, suc, Bool, true, false, List, [], ◌∷◌, ◌++◌, length, slice_index, vec_capacity}
+use Rattle.std.specs.Prelude.{◌≡◌, ◌<◌, ◌≤◌, ◌+◌, ◌*◌, ◌%◌, nat_lt, ◌&&◌, ◌||◌, not, if◌then◌else◌, ℕ, zero, suc, Bool, true, false, List, [], ◌∷◌, ◌++◌, length, slice_index, vec_capacity}
 use Rattle.heap_core.specs.Blocks.{Span, bytes_of}
 use Rattle.heap_core.specs.Extents.{IsGapped, covers}
 use Rattle.heap_core.specs.Heap.{HeapState}
@@ -49,10 +49,12 @@ pub record IsRun (lengths : List ℕ) (p n : ℕ) : Type 0 where
   pub end : p + n ≤ length lengths
   pub free : (k : ℕ) → p ≤ k → k < p + n → is_taken k lengths ≡ false
 
--- And no n granules from an earlier one on do.
-pub record IsFirstRun (lengths : List ℕ) (p n : ℕ) : Type 0 where
+-- And p is the first such granule that is a multiple of the unit. Multiples are counted from address 0,
+-- of which the heap's base is granule `origin`.
+pub record IsFirstRun (origin unit : ℕ) (lengths : List ℕ) (p n : ℕ) : Type 0 where
   pub run : IsRun lengths p n
-  pub least : (q : ℕ) → IsRun lengths q n → p ≤ q
+  pub multiple : (origin + p) % unit ≡ 0
+  pub least : (q : ℕ) → IsRun lengths q n → (origin + q) % unit ≡ 0 → p ≤ q
 
 -- The table is one of some pages that may begin at the base, and each block ends inside it and before the next one starts.
 pub record IsTable (base : ℕ) (lengths : List ℕ) (marks : List Bool) : Type 0 where

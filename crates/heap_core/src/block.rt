@@ -1,8 +1,10 @@
-//! Blocks, and how many granules they have.
+//! Blocks, and what a block of a size needs.
 
-ghost use Rattle.std.specs.Prelude.{◌≡◌, ◌≤◌, ◌*◌};
+ghost use Rattle.std.specs.Prelude.{◌≡◌, ◌<◌, ◌≤◌, ◌*◌, ◌^◌, max};
+ghost use Rattle.cap_codec.specs.Rounding.{length_for, unit_for};
 ghost use Rattle.heap_core.specs.Place.{granule_size};
 
+use cap_codec::{alignment_mask, representable_length};
 use tag_memory::GRANULE;
 
 /// A block: the bytes from the address `base` on, before `top`, which is at most 2^64.
@@ -12,10 +14,37 @@ pub struct Block {
     pub top: u128,
 }
 
-// How many granules a block of `size` bytes has.
-pub fn granules_for(size: u64) -> u32
-    requires { size ≤ 4080 }
+/// How many granules a block has, and the number of which its first granule, counted from address
+/// 0, is a multiple.
+#[derive(Clone, Copy)]
+pub struct Shape {
+    pub granules: u64,
+    pub unit: u64,
+}
+
+// How many granules hold `size` bytes.
+pub fn granules_for(size: u64) -> u64
     ensures { 16 * result ≡ granule_size size }
 {
-    size.max(1).div_ceil(GRANULE) as u32
+    size.max(1).div_ceil(GRANULE)
+}
+
+// The shape of a block that holds so many granules.
+pub fn shape_for(granules: u64) -> Shape
+    requires some { 0 < granules }
+    requires limit { 16 * granules < 2 ^ 64 }
+    ensures granules { 16 * result.granules ≡ length_for (16 * granules) }
+    ensures unit { 16 * result.unit ≡ max 16 (unit_for (16 * granules)) }
+    ensures some { 0 < result.granules }
+    ensures granules_limit { result.granules ≤ 2 ^ 60 }
+    ensures unit_limit { result.unit ≤ 2 ^ 60 }
+{
+    let bytes = GRANULE * granules;
+    let length = representable_length(bytes);
+    // The unit in bytes is one more than what the mask leaves out.
+    let rest = u64::MAX - alignment_mask(bytes);
+    Shape {
+        granules: (length / u128::from(GRANULE)) as u64,
+        unit: rest / GRANULE + 1,
+    }
 }

@@ -6,7 +6,7 @@ ghost use Rattle.heap_core.specs.Heap.{IsSound, empty_heap};
 ghost use Rattle.heap_core.specs.Place.{IfOkSome, IsFree, IsPlace, block_length};
 ghost use Rattle.tag_memory.specs.Span as span;
 
-use crate::block::{Block, granules_for};
+use crate::block::{Block, granules_for, shape_for};
 use crate::extent::{Extent, first_fit};
 use crate::fault::HeapFault;
 use crate::table::put_block;
@@ -92,10 +92,9 @@ impl Heap {
     }
 
     /// Makes a block of `size` bytes live, at the least place for it; `None` where it has no place.
-    /// Sizes are rounded up to 16 bytes, and 0 counts as 1. It never errs.
+    /// Sizes are rounded up to 16 bytes and then to what a capability can hold, and 0 counts as 1. It
+    /// never errs.
     pub fn reserve(&mut self, size: u64) -> Result<Option<Block>, HeapFault>
-        // Larger sizes come with rounding.
-        requires { size ≤ 4080 }
         // The table has an entry for each granule, so a block needs no memory.
         ensures ok { IsOk result }
 
@@ -109,15 +108,20 @@ impl Heap {
         }) }
         ensures sound { IsSound self.new }
     {
-        let granules = granules_for(size);
-        let Some(index) = first_fit(&self.extents, granules) else {
+        let asked = granules_for(size);
+        if asked > self.lengths.len() as u64 {
+            return Ok(None);
+        }
+        let shape = shape_for(asked);
+        let origin = self.base / GRANULE;
+        let Some(index) = first_fit(&self.extents, origin, shape) else {
             return Ok(None);
         };
-        let start = put_block(&mut self.lengths, &mut self.extents, index, granules);
-        self.held[start as usize] = false;
-        self.live_granules += granules;
-        let base = self.base + GRANULE * u64::from(start);
-        let top = u128::from(base) + u128::from(GRANULE * u64::from(granules));
+        let run = put_block(&mut self.lengths, &mut self.extents, index, origin, shape);
+        self.held[run.start as usize] = false;
+        self.live_granules += run.length;
+        let base = self.base + GRANULE * u64::from(run.start);
+        let top = u128::from(base) + u128::from(GRANULE * u64::from(run.length));
         Ok(Some(Block { base, top }))
     }
 

@@ -1,30 +1,41 @@
 //! The table of a heap, beside the extents that are free in it.
 
-ghost use Rattle.std.specs.Prelude.{◌≡◌, ◌<◌, ◌≤◌, ◌*◌, length, slice_set, vec_capacity, Some};
+ghost use Rattle.std.specs.Prelude.{◌≡◌, ◌<◌, ◌≤◌, ◌*◌, ◌^◌, length, slice_set, vec_capacity, vec_len, Some};
 ghost use Rattle.heap_core.specs.Extents.{first_fit_of};
 ghost use Rattle.heap_core.specs.Table.{AreFree, IsFirstRun};
 
-use crate::extent::{Extent, take_front};
+use crate::block::Shape;
+use crate::extent::{Extent, aligned_start, take_run};
 
-// Puts a block of this many granules at the start of the extent that the first fit names. Answers
-// its first granule.
+// Puts a block of this shape into the extent that the first fit names, as early as it can lie there.
+// Answers the granules that it took.
 pub fn put_block(
     lengths: &mut Vec<u32>,
     extents: &mut Vec<Extent>,
     index: usize,
-    granules: u32,
-) -> u32
+    origin: u64,
+    shape: Shape,
+) -> Extent
     requires limit { length lengths.old.items ≤ 256 * 1024 }
+    requires room { vec_len extents.old < vec_capacity extents.old }
     requires free { AreFree lengths.old.items extents.old.items }
-    requires some { 0 < granules }
-    requires fit { first_fit_of granules extents.old.items ≡ Some index }
-    ensures first { IsFirstRun lengths.old.items result granules }
-    ensures block { lengths.new.items ≡ slice_set lengths.old.items result granules }
+    requires origin { origin ≤ 2 ^ 60 }
+    requires some { 0 < shape.granules }
+    requires unit { 0 < shape.unit }
+    requires unit_limit { shape.unit ≤ 2 ^ 60 }
+    requires fit { first_fit_of origin shape.unit shape.granules extents.old.items ≡ Some index }
+    ensures granules { result.length ≡ shape.granules }
+    ensures first { IsFirstRun origin shape.unit lengths.old.items result.start result.length }
+    ensures block { lengths.new.items ≡ slice_set lengths.old.items result.start result.length }
     ensures free { AreFree lengths.new.items extents.new.items }
     ensures capacity { vec_capacity extents.old ≤ vec_capacity extents.new }
 {
     let extent = extents[index];
-    take_front(extents, index, extent, granules);
-    lengths[extent.start as usize] = granules;
-    extent.start
+    let run = Extent {
+        start: aligned_start(extent, origin, shape.unit) as u32,
+        length: shape.granules as u32,
+    };
+    take_run(extents, index, extent, run);
+    lengths[run.start as usize] = run.length;
+    run
 }

@@ -1,6 +1,7 @@
 //! Heaps that are refused, and blocks that lie where they should.
 
 use crate::{Block, Heap, HeapFault};
+use std::process::Abort;
 
 const BASE: u64 = 0x4000_0000;
 
@@ -25,25 +26,75 @@ fn faults_are_told(rt: HostRuntime) {
     }
 }
 
+// A size that is asked for, with the base and top of the block that it gets, if any.
+type Request = (u64, Option<(u64, u128)>);
+
+// Reserves one size after the other.
+fn blocks_lie(rt: &impl Abort, heap: &mut Heap, requests: &[Request]) {
+    for (size, place) in requests {
+        let reserved = heap.reserve(*size).expect(rt, "memory");
+        let block = place.map(|(base, top)| Block { base, top });
+        assert_eq!(rt; reserved, block, "at size {size}");
+    }
+}
+
 #[test]
 fn one_page_is_filled(rt: HostRuntime) {
     let mut heap = Heap::new(rt.alloc(), BASE, 1).expect(&rt, "a heap");
-    let blocks = [
-        (4080, Some((BASE, BASE + 4080))),
+    let requests = [
+        (4080, Some((0x4000_0000, 0x4000_0ff0))),
         (32, None),
-        (16, Some((BASE + 4080, BASE + 4096))),
+        (16, Some((0x4000_0ff0, 0x4000_1000))),
         (1, None),
     ];
-    for (size, place) in blocks {
-        let reserved = heap.reserve(size).expect(&rt, "memory");
-        let block = place.map(|(base, top)| Block {
-            base,
-            top: u128::from(top),
-        });
-        assert_eq!(rt; reserved, block, "at size {size}");
-    }
+    blocks_lie(&rt, &mut heap, &requests);
     let sums = (heap.live_bytes(), heap.held_bytes(), heap.free_bytes());
     assert_eq!(rt; sums, (4096, 0, 0));
+}
+
+#[test]
+fn a_gap_before_an_aligned_block_is_filled(rt: HostRuntime) {
+    let mut heap = Heap::new(rt.alloc(), BASE, 16).expect(&rt, "a heap");
+    let requests = [
+        (16, Some((0x4000_0000, 0x4000_0010))),
+        (16_384, Some((0x4000_0020, 0x4000_4020))),
+        (16, Some((0x4000_0010, 0x4000_0020))),
+    ];
+    blocks_lie(&rt, &mut heap, &requests);
+    let sums = (heap.live_bytes(), heap.held_bytes(), heap.free_bytes());
+    assert_eq!(rt; sums, (16_416, 0, 49_120));
+}
+
+// From the first multiple of the unit, 0x2000, on the block would end past the heap.
+#[test]
+fn alignment_finds_no_place(rt: HostRuntime) {
+    let mut heap = Heap::new(rt.alloc(), 0x1000, 1024).expect(&rt, "a heap");
+    blocks_lie(&rt, &mut heap, &[(4_194_304, None)]);
+    let sums = (heap.live_bytes(), heap.held_bytes(), heap.free_bytes());
+    assert_eq!(rt; sums, (0, 0, 4_194_304));
+}
+
+#[test]
+fn lengths_are_rounded(rt: HostRuntime) {
+    let mut heap = Heap::new(rt.alloc(), BASE, 64).expect(&rt, "a heap");
+    let requests = [
+        (131_056, Some((0x4000_0000, 0x4002_0000))),
+        (100_000, Some((0x4002_0000, 0x4003_8700))),
+    ];
+    blocks_lie(&rt, &mut heap, &requests);
+    let sums = (heap.live_bytes(), heap.held_bytes(), heap.free_bytes());
+    assert_eq!(rt; sums, (231_168, 0, 30_976));
+}
+
+#[test]
+fn the_last_page_is_filled(rt: HostRuntime) {
+    let mut heap = Heap::new(rt.alloc(), LAST_PAGE, 1).expect(&rt, "a heap");
+    let requests = [
+        (u64::MAX, None),
+        (4097, None),
+        (4096, Some((LAST_PAGE, 1 << 64))),
+    ];
+    blocks_lie(&rt, &mut heap, &requests);
 }
 
 #[test]
