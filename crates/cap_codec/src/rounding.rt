@@ -23,6 +23,7 @@ pub fn with_bounds(w: Word, base: u64, top: u128) -> (Word, bool)
     ensures fields { fields_of result.0 ≡ with_bounds_of (fields_of w) base top }
     ensures word { result.0.bits ≡ bits_with (with_bounds_of (fields_of w) base top) }
     ensures bounds { bounds_of (fields_of result.0) ≡ outward base top }
+    ensures limit { (outward base top).top ≤ 2 ^ 64 }
     ensures exact { IsTrue result.1 ↔ (outward base top ≡ record { base = base; top = top }) }
 
     // Bounds that aren't short get the least exponent that is enough.

@@ -2,12 +2,12 @@
 use Rattle.std.proofs.Common.{◌≡◌, ◌≢◌, ℕ, suc, Bool, true, false, cond, List, [], ◌∷◌, ◌++◌, Option, Some, None, Result, Ok, Err, MatchResult, length, codes, bytes_eq, ◌⊎◌, inl, inr, refl, sym, ap, subst, ◌∙◌, arith}
 use Rattle.std.specs.Option.{ok_or}
 use Rattle.heap_trace.specs.declared.trace.Command.{Command}
-use Rattle.heap_trace.specs.declared.trace.Command.TheVariants.{Malloc, Copy, Show}
+use Rattle.heap_trace.specs.declared.trace.Command.TheVariants.{Malloc, Copy, SetAddr, Narrow, AndPerm, Show}
 use Rattle.heap_trace.specs.declared.fault.LineFault.{LineFault}
 use Rattle.heap_trace.specs.declared.fault.LineFault.TheVariants as line_fault
-use Rattle.heap_trace.specs.Grammar.{FirstLacks, Form, Register, Size, HasFault, HasForm, HaveForms, IsCommand, IsRegister, IsSize, fault_of, forms_of}
-use Rattle.heap_trace.specs.Reading.{◌>>=◌, below, command_of, number_of, one_of, register_in, register_of, size_in, two_of}
-use Rattle.heap_trace.proofs.Operands.{IsRegister-read, IsSize-read, below-IsSize, register_of-IsRegister, same_bytes}
+use Rattle.heap_trace.specs.Grammar.{FirstLacks, Form, Register, Number, Mask, HasFault, HasForm, HaveForms, IsCommand, IsMask, IsNumber, IsRegister, fault_of, forms_of}
+use Rattle.heap_trace.specs.Reading.{◌>>=◌, below, command_of, mask_in, number_in, number_of, one_of, register_in, register_of, three_of, two_of}
+use Rattle.heap_trace.proofs.Operands.{IsMask-read, IsNumber-read, IsRegister-read, below-IsMask, number_of-IsNumber, register_of-IsRegister, same_bytes}
 
 -- ---- one word
 
@@ -21,11 +21,17 @@ reads_register word = go (register_of word) refl where
   go (Some register) is = rw is (register, IsRegister-read word register is)
   go None is = rw is (refl, λ h. let e = register_of-IsRegister word h.0 h.1 in absurd cc)
 
-reads_size : (word : List ℕ) → Reads Size word (size_in word)
-reads_size word = go (below 4081 (number_of word)) refl where
-  go : (found : Option ℕ) → below 4081 (number_of word) ≡ found → Reads Size word (size_in word)
-  go (Some size) is = rw is (size, IsSize-read word size is)
-  go None is = rw is (refl, λ h. let e = below-IsSize word h.0 h.1 in absurd cc)
+reads_number : (word : List ℕ) → Reads Number word (number_in word)
+reads_number word = go (number_of word) refl where
+  go : (found : Option ℕ) → number_of word ≡ found → Reads Number word (number_in word)
+  go (Some number) is = rw is (number, IsNumber-read word number is)
+  go None is = rw is (refl, λ h. let e = number_of-IsNumber word h.0 h.1 in absurd cc)
+
+reads_mask : (word : List ℕ) → Reads Mask word (mask_in word)
+reads_mask word = go (below 65536 (number_of word)) refl where
+  go : (found : Option ℕ) → below 65536 (number_of word) ≡ found → Reads Mask word (mask_in word)
+  go (Some mask) is = rw is (mask, IsMask-read word mask is)
+  go None is = rw is (refl, λ h. let e = below-IsMask word h.0 h.1 in absurd cc)
 
 Ok_from : {A F : Type 0} (fault : F) (found : Option A) (x : A) → ok_or found fault ≡ Ok x → found ≡ Some x
 Ok_from fault None x e = absurd cc
@@ -34,8 +40,11 @@ Ok_from fault (Some y) x e = let same : y ≡ x = cc in ap Some same
 register_in_is : (word : List ℕ) (register : ℕ) → register_in word ≡ Ok register → IsRegister word register
 register_in_is word register e = IsRegister-read word register (Ok_from line_fault.BadRegister (register_of word) register e)
 
-size_in_is : (word : List ℕ) (size : ℕ) → size_in word ≡ Ok size → IsSize word size
-size_in_is word size e = IsSize-read word size (Ok_from line_fault.BadNumber (below 4081 (number_of word)) size e)
+number_in_is : (word : List ℕ) (number : ℕ) → number_in word ≡ Ok number → IsNumber word number
+number_in_is word number e = IsNumber-read word number (Ok_from line_fault.BadNumber (number_of word) number e)
+
+mask_in_is : (word : List ℕ) (mask : ℕ) → mask_in word ≡ Ok mask → IsMask word mask
+mask_in_is word mask e = IsMask-read word mask (Ok_from line_fault.BadNumber (below 65536 (number_of word)) mask e)
 
 -- ---- the words after a name
 
@@ -93,7 +102,8 @@ HasFault-words name forms words fault is (inl h) = subst (HasFault (name ∷ wor
 HasFault-words name forms words fault is (inr h) = subst (HasFault (name ∷ words)) h.3 (go h.0 h.2) where
   go : (form : Form) → FirstLacks forms words form → HasFault (name ∷ words) (fault_of form)
   go Register lacks = (forms, Register, is, h.1, lacks, refl)
-  go Size lacks = (forms, Size, is, h.1, lacks, refl)
+  go Number lacks = (forms, Number, is, h.1, lacks, refl)
+  go Mask lacks = (forms, Mask, is, h.1, lacks, refl)
 
 -- the rules of HasFault, as alternatives
 abbrev Faults : List ℕ → List (List ℕ) → LineFault → Type 0
@@ -133,6 +143,9 @@ Fits (name ∷ words) = (forms : List Form) × (forms_of name ≡ Some forms) ×
 IsCommand-fits : (words : List (List ℕ)) (command : Command) → IsCommand words command → Fits words
 IsCommand-fits words (Malloc rd size) h = subst Fits (sym h.2) (_, refl, ((rd, h.3), ((size, h.4), tt)))
 IsCommand-fits words (Copy rd rs) h = subst Fits (sym h.2) (_, refl, ((rd, h.3), ((rs, h.4), tt)))
+IsCommand-fits words (SetAddr rd rs address) h = subst Fits (sym h.3) (_, refl, ((rd, h.4), ((rs, h.5), ((address, h.6), tt))))
+IsCommand-fits words (Narrow rd rs length) h = subst Fits (sym h.3) (_, refl, ((rd, h.4), ((rs, h.5), ((length, h.6), tt))))
+IsCommand-fits words (AndPerm rd rs mask) h = subst Fits (sym h.3) (_, refl, ((rd, h.4), ((rs, h.5), ((mask, h.6), tt))))
 IsCommand-fits words (Show rs) h = subst Fits (sym h.1) (_, refl, ((rs, h.2), tt))
 
 no_fault : (name : List ℕ) (words : List (List ℕ)) (fault : LineFault) → Fits (name ∷ words) → HasFault (name ∷ words) fault → ⊥
@@ -183,6 +196,32 @@ two_read {A} {B} name form1 form2 read1 read2 is reads1 reads2 build built (a �
       (inr (form1, refl, FirstLacks-from (form1 ∷ form2 ∷ []) (a ∷ b ∷ []) form1 (inl (lacks1.1, refl)), lacks1.0))
 two_read {A} {B} name form1 form2 read1 read2 is reads1 reads2 build built (a ∷ b ∷ d ∷ ws) = HasFault-words name (form1 ∷ form2 ∷ []) (a ∷ b ∷ d ∷ ws) line_fault.BadCount is (inl (λ e. omega arith, refl))
 
+abbrev tripled : {A B C : Type 0} → Result A LineFault → Result B LineFault → Result C LineFault → Result (A × B × C) LineFault
+tripled first second third = first >>= λ x. second >>= λ y. third >>= λ z. Ok (x, y, z)
+
+three_read : {A B C : Type 0} (name : List ℕ) (form1 form2 form3 : Form) (read1 : List ℕ → Result A LineFault) (read2 : List ℕ → Result B LineFault) (read3 : List ℕ → Result C LineFault)
+    → forms_of name ≡ Some (form1 ∷ form2 ∷ form3 ∷ [])
+    → ((word : List ℕ) → Reads form1 word (read1 word)) → ((word : List ℕ) → Reads form2 word (read2 word)) → ((word : List ℕ) → Reads form3 word (read3 word))
+    → (build : A → B → C → Command)
+    → ((a b c : List ℕ) (x : A) (y : B) (z : C) → read1 a ≡ Ok x → read2 b ≡ Ok y → read3 c ≡ Ok z → IsCommand (name ∷ a ∷ b ∷ c ∷ []) (build x y z))
+    → (words : List (List ℕ)) → Read (name ∷ words) (three_of read1 read2 read3 words >>= λ read. Ok (build read.0 read.1 read.2))
+unfolding three_of
+three_read {A} {B} {C} name form1 form2 form3 read1 read2 read3 is reads1 reads2 reads3 build built [] = HasFault-words name (form1 ∷ form2 ∷ form3 ∷ []) [] line_fault.BadCount is (inl (λ e. omega arith, refl))
+three_read {A} {B} {C} name form1 form2 form3 read1 read2 read3 is reads1 reads2 reads3 build built (a ∷ []) = HasFault-words name (form1 ∷ form2 ∷ form3 ∷ []) (a ∷ []) line_fault.BadCount is (inl (λ e. omega arith, refl))
+three_read {A} {B} {C} name form1 form2 form3 read1 read2 read3 is reads1 reads2 reads3 build built (a ∷ b ∷ []) = HasFault-words name (form1 ∷ form2 ∷ form3 ∷ []) (a ∷ b ∷ []) line_fault.BadCount is (inl (λ e. omega arith, refl))
+three_read {A} {B} {C} name form1 form2 form3 read1 read2 read3 is reads1 reads2 reads3 build built (a ∷ b ∷ c ∷ []) =
+    go (read1 a) (read2 b) (read3 c) refl refl refl (reads1 a) (reads2 b) (reads3 c) where
+      lacks_one : (fault : LineFault) (form : Form) → (fault_of form ≡ fault) → Lacks (form1 ∷ form2 ∷ form3 ∷ []) (a ∷ b ∷ c ∷ []) form → HasFault (name ∷ a ∷ b ∷ c ∷ []) fault
+      lacks_one fault form e lacks = HasFault-words name (form1 ∷ form2 ∷ form3 ∷ []) (a ∷ b ∷ c ∷ []) fault is (inr (form, refl, FirstLacks-from _ _ form lacks, e))
+
+      go : (r : Result A LineFault) (s : Result B LineFault) (t : Result C LineFault) → read1 a ≡ r → read2 b ≡ s → read3 c ≡ t
+          → Reads form1 a r → Reads form2 b s → Reads form3 c t → Read (name ∷ a ∷ b ∷ c ∷ []) (tripled r s t >>= λ read. Ok (build read.0 read.1 read.2))
+      go (Ok x) (Ok y) (Ok z) e f g has1 has2 has3 = built a b c x y z e f g
+      go (Ok x) (Ok y) (Err fault) e f g has1 has2 lacks3 = lacks_one fault form3 lacks3.0 (inr (has1, inr (has2, inl (lacks3.1, refl))))
+      go (Ok x) (Err fault) t e f g has1 lacks2 reads = lacks_one fault form2 lacks2.0 (inr (has1, inl (lacks2.1, refl)))
+      go (Err fault) s t e f g lacks1 reads others = lacks_one fault form1 lacks1.0 (inl (lacks1.1, refl))
+three_read {A} {B} {C} name form1 form2 form3 read1 read2 read3 is reads1 reads2 reads3 build built (a ∷ b ∷ c ∷ d ∷ ws) = HasFault-words name (form1 ∷ form2 ∷ form3 ∷ []) (a ∷ b ∷ c ∷ d ∷ ws) line_fault.BadCount is (inl (λ e. omega arith, refl))
+
 -- a name that is this word or another
 named : (word name : List ℕ) (words : List (List ℕ)) (this other : Result Command LineFault) → Read (word ∷ words) this → (bytes_eq name word ≡ false → Read (name ∷ words) other)
     → Read (name ∷ words) (cond (bytes_eq name word) this other)
@@ -194,15 +233,27 @@ named word name words this other if_this if_other = go (bytes_eq name word) refl
 pub command_read : (name : List ℕ) (words : List (List ℕ)) → Read (name ∷ words) (command_of (name ∷ words))
 unfolding command_of
 command_read name words =
-    named (codes "malloc") name words _ _ (two_read (codes "malloc") Register Size register_in size_in refl reads_register reads_size Malloc malloc words) (λ malloc.
+    named (codes "malloc") name words _ _ (two_read (codes "malloc") Register Number register_in number_in refl reads_register reads_number Malloc malloc words) (λ malloc.
     named (codes "copy") name words _ _ (two_read (codes "copy") Register Register register_in register_in refl reads_register reads_register Copy copy words) (λ copy.
+    named (codes "setaddr") name words _ _ (three_read (codes "setaddr") Register Register Number register_in register_in number_in refl reads_register reads_register reads_number SetAddr setaddr words) (λ setaddr.
+    named (codes "narrow") name words _ _ (three_read (codes "narrow") Register Register Number register_in register_in number_in refl reads_register reads_register reads_number Narrow narrow words) (λ narrow.
+    named (codes "andperm") name words _ _ (three_read (codes "andperm") Register Register Mask register_in register_in mask_in refl reads_register reads_register reads_mask AndPerm andperm words) (λ andperm.
     named (codes "show") name words _ _ (one_read (codes "show") Register register_in refl reads_register Show show words) (λ show.
-    rw (malloc, copy, show) refl))) where
-      malloc : (a b : List ℕ) (x y : ℕ) → register_in a ≡ Ok x → size_in b ≡ Ok y → IsCommand (codes "malloc" ∷ a ∷ b ∷ []) (Malloc x y)
-      malloc a b x y e f = (a, b, refl, register_in_is a x e, size_in_is b y f)
+    rw (malloc, copy, setaddr, narrow, andperm, show) refl)))))) where
+      malloc : (a b : List ℕ) (x y : ℕ) → register_in a ≡ Ok x → number_in b ≡ Ok y → IsCommand (codes "malloc" ∷ a ∷ b ∷ []) (Malloc x y)
+      malloc a b x y e f = (a, b, refl, register_in_is a x e, number_in_is b y f)
 
       copy : (a b : List ℕ) (x y : ℕ) → register_in a ≡ Ok x → register_in b ≡ Ok y → IsCommand (codes "copy" ∷ a ∷ b ∷ []) (Copy x y)
       copy a b x y e f = (a, b, refl, register_in_is a x e, register_in_is b y f)
+
+      setaddr : (a b c : List ℕ) (x y z : ℕ) → register_in a ≡ Ok x → register_in b ≡ Ok y → number_in c ≡ Ok z → IsCommand (codes "setaddr" ∷ a ∷ b ∷ c ∷ []) (SetAddr x y z)
+      setaddr a b c x y z e f g = (a, b, c, refl, register_in_is a x e, register_in_is b y f, number_in_is c z g)
+
+      narrow : (a b c : List ℕ) (x y z : ℕ) → register_in a ≡ Ok x → register_in b ≡ Ok y → number_in c ≡ Ok z → IsCommand (codes "narrow" ∷ a ∷ b ∷ c ∷ []) (Narrow x y z)
+      narrow a b c x y z e f g = (a, b, c, refl, register_in_is a x e, register_in_is b y f, number_in_is c z g)
+
+      andperm : (a b c : List ℕ) (x y z : ℕ) → register_in a ≡ Ok x → register_in b ≡ Ok y → mask_in c ≡ Ok z → IsCommand (codes "andperm" ∷ a ∷ b ∷ c ∷ []) (AndPerm x y z)
+      andperm a b c x y z e f g = (a, b, c, refl, register_in_is a x e, register_in_is b y f, mask_in_is c z g)
 
       show : (a : List ℕ) (x : ℕ) → register_in a ≡ Ok x → IsCommand (codes "show" ∷ a ∷ []) (Show x)
       show a x e = (a, refl, register_in_is a x e)
@@ -210,9 +261,12 @@ command_read name words =
 -- ---- the laws
 
 pub command_of-IsCommand : (words : List (List ℕ)) (command : Command) → IsCommand words command → command_of words ≡ Ok command
-unfolding command_of one_of two_of
-command_of-IsCommand words (Malloc rd size) h = rw (h.2, register_of-IsRegister h.0 rd h.3, below-IsSize h.1 size h.4) refl
+unfolding command_of one_of two_of three_of
+command_of-IsCommand words (Malloc rd size) h = rw (h.2, register_of-IsRegister h.0 rd h.3, number_of-IsNumber h.1 size h.4) refl
 command_of-IsCommand words (Copy rd rs) h = rw (h.2, register_of-IsRegister h.0 rd h.3, register_of-IsRegister h.1 rs h.4) refl
+command_of-IsCommand words (SetAddr rd rs address) h = rw (h.3, register_of-IsRegister h.0 rd h.4, register_of-IsRegister h.1 rs h.5, number_of-IsNumber h.2 address h.6) refl
+command_of-IsCommand words (Narrow rd rs length) h = rw (h.3, register_of-IsRegister h.0 rd h.4, register_of-IsRegister h.1 rs h.5, number_of-IsNumber h.2 length h.6) refl
+command_of-IsCommand words (AndPerm rd rs mask) h = rw (h.3, register_of-IsRegister h.0 rd h.4, register_of-IsRegister h.1 rs h.5, below-IsMask h.2 mask h.6) refl
 command_of-IsCommand words (Show rs) h = rw (h.1, register_of-IsRegister h.0 rs h.2) refl
 
 pub IsCommand-read : (words : List (List ℕ)) (command : Command) → command_of words ≡ Ok command → IsCommand words command

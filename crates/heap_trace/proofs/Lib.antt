@@ -9,5 +9,6 @@ pub mod OneRun
 pub mod OneStep
 pub mod Operands
 pub mod Reading
+mod SoundLaws
 mod LongerRuns
 pub mod WholeText

@@ -8,7 +8,7 @@ use Rattle.std.proofs.lemmas.Fmt.{decimal-digits_value, decimal_digit, decimal_n
 use Rattle.std.proofs.lemmas.List.{take-append-drop}
 use Rattle.std.proofs.lemmas.Slice.Eq.{bytes_eq-Decides}
 use Rattle.std.proofs.lemmas.Str.Parse.{IsNumeralModel, numerals_by_value, tells_digits}
-use Rattle.heap_trace.specs.Grammar.{AreDigits, IsNumber, IsRegister, IsSize}
+use Rattle.heap_trace.specs.Grammar.{AreDigits, IsMask, IsNumber, IsRegister}
 use Rattle.heap_trace.specs.Reading.{all_digits_in, are_digits, below, has_leading_zero, number_of, numeral_of, register_of}
 use Rattle.heap_trace.proofs.Digits.{all_digits_are, and_true}
 
@@ -127,12 +127,12 @@ register_of-IsRegister word register h =
     } in
     ap register_of h.1 ∙ rw (no_zero register h.0, numeral_of-AreDigits 10 2 (decimal register) register digits) (below-is 32 register h.0)
 
--- ---- sizes
+-- ---- masks
 
-pub IsSize-read : (word : List ℕ) (size : ℕ) → below 4081 (number_of word) ≡ Some size → IsSize word size
-IsSize-read word size e =
-    let found = below-some 4081 (number_of word) size e in
-    (IsNumber-read word size found.0, omega arith)
+pub IsMask-read : (word : List ℕ) (mask : ℕ) → below 65536 (number_of word) ≡ Some mask → IsMask word mask
+IsMask-read word mask e =
+    let found = below-some 65536 (number_of word) mask e in
+    (IsNumber-read word mask found.0, omega arith)
 
-pub below-IsSize : (word : List ℕ) (size : ℕ) → IsSize word size → below 4081 (number_of word) ≡ Some size
-below-IsSize word size h = ap (below 4081) (number_of-IsNumber word size h.0) ∙ below-is 4081 size (omega arith)
+pub below-IsMask : (word : List ℕ) (mask : ℕ) → IsMask word mask → below 65536 (number_of word) ≡ Some mask
+below-IsMask word mask h = ap (below 65536) (number_of-IsNumber word mask h.0) ∙ below-is 65536 mask (omega arith)

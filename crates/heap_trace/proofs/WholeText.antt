@@ -3,7 +3,7 @@ use Rattle.std.proofs.Common.{◌≡◌, ◌≢◌, ℕ, ◌+◌, Bool, true, fa
 use Rattle.std.specs.List.{AllByRecursion}
 use Rattle.std.proofs.lemmas.Bool.Decides.{nat_tests}
 use Rattle.heap_trace.specs.declared.trace.Command.{Command}
-use Rattle.heap_trace.specs.declared.trace.Command.TheVariants.{Malloc, Copy, Show}
+use Rattle.heap_trace.specs.declared.trace.Command.TheVariants.{Malloc, Copy, SetAddr, Narrow, AndPerm, Show}
 use Rattle.heap_trace.specs.declared.fault.LineFault.{LineFault}
 use Rattle.heap_trace.specs.declared.fault.LineFault.TheVariants as line_fault
 use Rattle.heap_trace.specs.declared.fault.TraceFault.{TraceFault}
@@ -38,6 +38,9 @@ command_at-passed number words over = rw over refl
 not_passed : (words : List (List ℕ)) (command : Command) → IsCommand words command → is_passed_over words ≡ false
 not_passed words (Malloc rd size) h = ap is_passed_over h.2
 not_passed words (Copy rd rs) h = ap is_passed_over h.2
+not_passed words (SetAddr rd rs address) h = ap is_passed_over h.3
+not_passed words (Narrow rd rs length) h = ap is_passed_over h.3
+not_passed words (AndPerm rd rs mask) h = ap is_passed_over h.3
 not_passed words (Show rs) h = ap is_passed_over h.1
 
 command_at-IsCommand : (number : ℕ) (words : List (List ℕ)) (command : Command) → IsCommand words command → command_at number words ≡ Ok (Some command)

@@ -1,12 +1,15 @@
 -- Commands that can be carried out, in this project's own trace language.
-use Rattle.std.specs.Prelude.{ℕ, ◌<◌, ◌≤◌, ◌^◌}
+use Rattle.std.specs.Prelude.{ℕ, ◌<◌, ◌^◌}
 use Rattle.heap_trace.specs.declared.trace.Command.{Command}
-use Rattle.heap_trace.specs.declared.trace.Command.TheVariants.{Malloc, Copy, Show}
+use Rattle.heap_trace.specs.declared.trace.Command.TheVariants.{Malloc, Copy, SetAddr, Narrow, AndPerm, Show}
 
--- each register number is below 32, and a size is at most 4,080 bytes
+-- each register number is below 32
 abbrev pub IsValid : Command → Type 0
-IsValid (Malloc rd size) = (rd < 32) × (size ≤ 4080)
+IsValid (Malloc rd size) = rd < 32
 IsValid (Copy rd rs) = (rd < 32) × (rs < 32)
+IsValid (SetAddr rd rs address) = (rd < 32) × (rs < 32)
+IsValid (Narrow rd rs length) = (rd < 32) × (rs < 32)
+IsValid (AndPerm rd rs mask) = (rd < 32) × (rs < 32)
 IsValid (Show rs) = rs < 32
 
 -- a valid command with the number of its line, which has 32 bits

@@ -9,7 +9,7 @@ use Rattle.heap_trace.specs.declared.fault.LineFault.TheVariants as line_fault
 use Rattle.heap_trace.specs.declared.fault.TraceFault.{TraceFault}
 use Rattle.heap_trace.specs.declared.fault.TraceFault.TheVariants.{Memory, TooLong, NoHeap, BadHeap, BadCommand, BadCount, BadRegister, BadNumber, BadData}
 use Rattle.heap_trace.specs.declared.trace.Command.{Command}
-use Rattle.heap_trace.specs.declared.trace.Command.TheVariants.{Malloc, Copy, Show}
+use Rattle.heap_trace.specs.declared.trace.Command.TheVariants.{Malloc, Copy, SetAddr, Narrow, AndPerm, Show}
 use Rattle.heap_trace.specs.Heap.{IsHeap}
 use Rattle.heap_trace.specs.Lines.{is_passed_over, lines_of, words_of}
 use Rattle.heap_trace.specs.Reading.{Script}
@@ -34,40 +34,52 @@ IsNumber word number =
     AreDigits 10 20 word number
     ⊎ ((digits : List ℕ) × (word ≡ codes "0x" ++ digits) × AreDigits 16 16 digits number)
 
--- a number of bytes that can be had today
-abbrev pub IsSize : List ℕ → ℕ → Type 0
-IsSize word size = IsNumber word size × (size ≤ 4080)
+-- a number of at most 16 bits
+abbrev pub IsMask : List ℕ → ℕ → Type 0
+IsMask word mask = IsNumber word mask × (mask < 2 ^ 16)
 
 -- ---- command lines
 
 -- which words are which command
 abbrev pub IsCommand : List (List ℕ) → Command → Type 0
 IsCommand words (Malloc rd size) =
-    (first second : List ℕ) × (words ≡ codes "malloc" ∷ first ∷ second ∷ []) × IsRegister first rd × IsSize second size
+    (first second : List ℕ) × (words ≡ codes "malloc" ∷ first ∷ second ∷ []) × IsRegister first rd × IsNumber second size
 IsCommand words (Copy rd rs) =
     (first second : List ℕ) × (words ≡ codes "copy" ∷ first ∷ second ∷ []) × IsRegister first rd × IsRegister second rs
+IsCommand words (SetAddr rd rs address) =
+    (first second third : List ℕ) × (words ≡ codes "setaddr" ∷ first ∷ second ∷ third ∷ []) × IsRegister first rd × IsRegister second rs × IsNumber third address
+IsCommand words (Narrow rd rs length) =
+    (first second third : List ℕ) × (words ≡ codes "narrow" ∷ first ∷ second ∷ third ∷ []) × IsRegister first rd × IsRegister second rs × IsNumber third length
+IsCommand words (AndPerm rd rs mask) =
+    (first second third : List ℕ) × (words ≡ codes "andperm" ∷ first ∷ second ∷ third ∷ []) × IsRegister first rd × IsRegister second rs × IsMask third mask
 IsCommand words (Show rs) =
     (first : List ℕ) × (words ≡ codes "show" ∷ first ∷ []) × IsRegister first rs
 
 -- the forms of the words after a command's name
 pub data Form : Type 0 where
   Register : Form
-  Size : Form
+  Number : Form
+  Mask : Form
 
 abbrev pub HasForm : Form → List ℕ → Type 0
 HasForm Register word = (register : ℕ) × IsRegister word register
-HasForm Size word = (size : ℕ) × IsSize word size
+HasForm Number word = (number : ℕ) × IsNumber word number
+HasForm Mask word = (mask : ℕ) × IsMask word mask
 
 -- what is wrong with a word that lacks its form
 abbrev pub fault_of : Form → LineFault
 fault_of Register = line_fault.BadRegister
-fault_of Size = line_fault.BadNumber
+fault_of Number = line_fault.BadNumber
+fault_of Mask = line_fault.BadNumber
 
 -- the table of commands: each name, and the forms of the words after it
 abbrev pub forms_of : List ℕ → Option (List Form)
 forms_of name =
-    if bytes_eq name (codes "malloc") then Some (Register ∷ Size ∷ [])
+    if bytes_eq name (codes "malloc") then Some (Register ∷ Number ∷ [])
     else if bytes_eq name (codes "copy") then Some (Register ∷ Register ∷ [])
+    else if bytes_eq name (codes "setaddr") then Some (Register ∷ Register ∷ Number ∷ [])
+    else if bytes_eq name (codes "narrow") then Some (Register ∷ Register ∷ Number ∷ [])
+    else if bytes_eq name (codes "andperm") then Some (Register ∷ Register ∷ Mask ∷ [])
     else if bytes_eq name (codes "show") then Some (Register ∷ [])
     else None
 

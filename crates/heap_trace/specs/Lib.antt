@@ -7,5 +7,6 @@ pub mod Outcome
 pub mod Reading
 pub mod Report
 pub mod Run
+pub mod Sound
 pub mod State
 pub mod Step

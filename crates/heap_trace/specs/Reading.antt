@@ -10,7 +10,7 @@ use Rattle.heap_trace.specs.declared.fault.LineFault.TheVariants as line_fault
 use Rattle.heap_trace.specs.declared.fault.TraceFault.{TraceFault}
 use Rattle.heap_trace.specs.declared.fault.TraceFault.TheVariants.{Memory, TooLong, NoHeap, BadHeap, BadCommand, BadCount, BadRegister, BadNumber, BadData}
 use Rattle.heap_trace.specs.declared.trace.Command.{Command}
-use Rattle.heap_trace.specs.declared.trace.Command.TheVariants.{Malloc, Copy, Show}
+use Rattle.heap_trace.specs.declared.trace.Command.TheVariants.{Malloc, Copy, SetAddr, Narrow, AndPerm, Show}
 use Rattle.heap_trace.specs.declared.trace.Trace.{Trace}
 use Rattle.heap_trace.specs.Lines.{is_passed_over, lines_of, words_of}
 
@@ -62,9 +62,13 @@ register_of word =
 abbrev pub register_in : List ℕ → Result ℕ LineFault
 register_in word = ok_or (register_of word) line_fault.BadRegister
 
--- a size of at most 4,080 bytes, or what is wrong with a word that writes none
-abbrev pub size_in : List ℕ → Result ℕ LineFault
-size_in word = ok_or (below 4081 (number_of word)) line_fault.BadNumber
+-- a number, or what is wrong with a word that writes none
+abbrev pub number_in : List ℕ → Result ℕ LineFault
+number_in word = ok_or (number_of word) line_fault.BadNumber
+
+-- a mask of 16 bits, or what is wrong with a word that writes none
+abbrev pub mask_in : List ℕ → Result ℕ LineFault
+mask_in word = ok_or (below 65536 (number_of word)) line_fault.BadNumber
 
 -- ---- the words after a command's name
 
@@ -75,6 +79,10 @@ one_word_in _ = None
 abbrev pub two_words_in : List (List ℕ) → Option (List ℕ × List ℕ)
 two_words_in (first ∷ second ∷ []) = Some (first, second)
 two_words_in _ = None
+
+abbrev pub three_words_in : List (List ℕ) → Option (List ℕ × List ℕ × List ℕ)
+three_words_in (first ∷ second ∷ third ∷ []) = Some (first, second, third)
+three_words_in _ = None
 
 -- one word, read so
 unfoldable pub one_of : {A : Type 0} → (List ℕ → Result A LineFault) → List (List ℕ) → Result A LineFault
@@ -91,14 +99,27 @@ two_of read_first read_second words = do
   second ← read_second both.1
   Ok (first, second)
 
+-- three words, read so from the left
+unfoldable pub three_of : {A B C : Type 0} → (List ℕ → Result A LineFault) → (List ℕ → Result B LineFault)
+    → (List ℕ → Result C LineFault) → List (List ℕ) → Result (A × B × C) LineFault
+three_of read_first read_second read_third words = do
+  all ← ok_or (three_words_in words) line_fault.BadCount
+  first ← read_first all.0
+  second ← read_second all.1
+  third ← read_third all.2
+  Ok (first, second, third)
+
 -- ---- lines
 
 -- the words of a line as a command, or what is wrong with them first
 unfoldable pub command_of : List (List ℕ) → Result Command LineFault
 command_of [] = Err line_fault.BadCommand
 command_of (name ∷ words) =
-    if bytes_eq name (codes "malloc") then (two_of register_in size_in words >>= λ read. Ok (Malloc read.0 read.1))
+    if bytes_eq name (codes "malloc") then (two_of register_in number_in words >>= λ read. Ok (Malloc read.0 read.1))
     else if bytes_eq name (codes "copy") then (two_of register_in register_in words >>= λ read. Ok (Copy read.0 read.1))
+    else if bytes_eq name (codes "setaddr") then (three_of register_in register_in number_in words >>= λ read. Ok (SetAddr read.0 read.1 read.2))
+    else if bytes_eq name (codes "narrow") then (three_of register_in register_in number_in words >>= λ read. Ok (Narrow read.0 read.1 read.2))
+    else if bytes_eq name (codes "andperm") then (three_of register_in register_in mask_in words >>= λ read. Ok (AndPerm read.0 read.1 read.2))
     else if bytes_eq name (codes "show") then (one_of register_in words >>= λ rs. Ok (Show rs))
     else Err line_fault.BadCommand
 

@@ -5,7 +5,7 @@ use Rattle.std.specs.List.{concat}
 use Rattle.heap_core.specs.Blocks.{bytes_of}
 use Rattle.heap_core.specs.Heap.{HeapState}
 use Rattle.heap_trace.specs.declared.trace.Command.{Command}
-use Rattle.heap_trace.specs.declared.trace.Command.TheVariants.{Malloc, Copy, Show}
+use Rattle.heap_trace.specs.declared.trace.Command.TheVariants.{Malloc, Copy, SetAddr, Narrow, AndPerm, Show}
 use Rattle.heap_trace.specs.declared.reply.Reply.{Reply}
 use Rattle.heap_trace.specs.declared.reply.Reply.TheVariants.{Block, NoSpace, Held, Done, Cleared, Swept}
 use Rattle.heap_trace.specs.declared.reply.Reply.TheVariants as reply
@@ -19,6 +19,9 @@ use Rattle.heap_trace.specs.Display.{bit_text, hexadecimal_text, joined, place_t
 abbrev pub name_of : Command → List ℕ
 name_of (Malloc rd size) = codes "malloc"
 name_of (Copy rd rs) = codes "copy"
+name_of (SetAddr rd rs address) = codes "setaddr"
+name_of (Narrow rd rs length) = codes "narrow"
+name_of (AndPerm rd rs mask) = codes "andperm"
 name_of (Show rs) = codes "show"
 
 abbrev pub trap_name : Trap → List ℕ

@@ -1,10 +1,13 @@
 //! The words that commands make, and what is shown of one.
 
-ghost use Rattle.std.specs.Prelude.{◌≡◌, ◌≤◌, ◌<◌, ◌^◌};
-ghost use Rattle.heap_trace.specs.Step.{capability_of, shown_of};
+ghost use Rattle.std.specs.Prelude.{◌≡◌, ◌≤◌, ◌<◌, ◌^◌, IsTrue};
+ghost use Rattle.heap_trace.specs.Step.{address_in, bounds_in, capability_of, is_exact, keeps_bounds, narrowed, shown_of, with_address, with_perms};
 
 use crate::reply::Shown;
-use cap_codec::{Fields, Word, bounds, exponent, fields, with_bounds, word_of};
+use cap_codec::{
+    Bounds, Fields, Word, and_perms, bounds, exponent, fields, representable, set_address,
+    with_bounds, word_of,
+};
 use heap_core::Block;
 
 // The permissions of a new block: GLOBAL, LOAD, STORE, LOAD_CAPABILITY and STORE_CAPABILITY.
@@ -14,7 +17,8 @@ const BLOCK_PERMS: u16 = 0x3d;
 pub fn capability(block: Block) -> Word
     requires order { block.base ≤ block.top }
     requires room { block.top ≤ 2 ^ 64 }
-    ensures { result ≡ capability_of block.base block.top }
+    ensures value { result ≡ capability_of block.base block.top }
+    ensures limit { (bounds_in result).top ≤ 2 ^ 64 }
 {
     let root = word_of(Fields {
         perms: BLOCK_PERMS,
@@ -39,4 +43,48 @@ pub fn shown(word: Word, tag: bool) -> Shown
         otype: f.otype,
         exponent: exponent(word),
     }
+}
+
+// The address of a word.
+#[tactic(auto, unfolding(crate::specs::Step::address_in))]
+pub fn address_of(word: Word) -> u64
+    ensures { result ≡ address_in word }
+{
+    fields(word).address
+}
+
+// The bounds of a word.
+#[tactic(auto, unfolding(crate::specs::Step::bounds_in))]
+pub fn bounds_of_word(word: Word) -> Bounds
+    ensures { result ≡ bounds_in word }
+{
+    bounds(word)
+}
+
+// The word with this address, and whether it keeps its bounds there.
+pub fn moved(word: Word, address: u64) -> (Word, bool)
+    ensures word { result.0 ≡ with_address word address }
+    ensures keeps { result.1 ≡ keeps_bounds word address }
+    ensures bounds { IsTrue result.1 → bounds_in result.0 ≡ bounds_in word }
+{
+    (set_address(word, address), representable(word, address))
+}
+
+// The word with those of its permissions that the mask has too.
+pub fn masked(word: Word, mask: u16) -> Word
+    ensures word { result ≡ with_perms word mask }
+    ensures bounds { bounds_in result ≡ bounds_in word }
+{
+    and_perms(word, mask)
+}
+
+// The word with these bounds, and whether it holds them as they are.
+pub fn bounded(word: Word, base: u64, top: u128) -> (Word, bool)
+    requires order { base ≤ top }
+    requires room { top ≤ 2 ^ 64 }
+    ensures word { result.0 ≡ narrowed word base top }
+    ensures exact { result.1 ≡ is_exact base top }
+    ensures bounds { IsTrue result.1 → bounds_in result.0 ≡ record { base = base; top = top } }
+{
+    with_bounds(word, base, top)
 }

@@ -4,25 +4,25 @@ ghost use Rattle.std.specs.Prelude.{◌≡◌, ◌≤◌, ◌<◌, ◌∷◌, �
 ghost use Rattle.heap_trace.specs.Command.{IsValid};
 ghost use Rattle.heap_trace.specs.Heap.{IsHeap};
 ghost use Rattle.heap_trace.specs.Lines.{words_of};
-ghost use Rattle.heap_trace.specs.Reading.{command_of, command_at, heap_at, heap_of, is_heap, one_of, register_in, size_in, two_of};
+ghost use Rattle.heap_trace.specs.Reading.{command_of, command_at, heap_at, heap_of, is_heap, mask_in, number_in, one_of, register_in, three_of, two_of};
 
 use crate::fault::{LineFault, TraceFault};
-use crate::operand::{number, register, size};
+use crate::operand::{mask, number, operand_number, register};
 use crate::trace::Command;
-use crate::words::{one_word, split_name, two_words};
+use crate::words::{one_word, split_name, three_words, two_words};
 
-// A register and a size.
+// A register and a number.
 #[tactic(auto, unfolding(crate::specs::Reading::two_of))]
-fn register_size(operands: &[u8]) -> Result<(u8, u64), LineFault>
-    ensures value { result ≡ two_of register_in size_in (words_of operands.now) }
-    ensures valid { IfOk result (λ read. (read.0 < 32) × (read.1 ≤ 4080)) }
+fn register_and_number(operands: &[u8]) -> Result<(u8, u64), LineFault>
+    ensures value { result ≡ two_of register_in number_in (words_of operands.now) }
+    ensures valid { IfOk result (λ read. read.0 < 32) }
 {
     let Some((first, second)) = two_words(operands) else {
         return Err(LineFault::BadCount);
     };
     let register = register(first)?;
-    let size = size(second)?;
-    Ok((register, size))
+    let number = operand_number(second)?;
+    Ok((register, number))
 }
 
 // Two registers.
@@ -37,6 +37,36 @@ fn two_registers(operands: &[u8]) -> Result<(u8, u8), LineFault>
     let first = register(first)?;
     let second = register(second)?;
     Ok((first, second))
+}
+
+// Two registers and a number.
+#[tactic(auto, unfolding(crate::specs::Reading::three_of))]
+fn registers_and_number(operands: &[u8]) -> Result<(u8, u8, u64), LineFault>
+    ensures value { result ≡ three_of register_in register_in number_in (words_of operands.now) }
+    ensures valid { IfOk result (λ read. (read.0 < 32) × (read.1 < 32)) }
+{
+    let Some((first, second, third)) = three_words(operands) else {
+        return Err(LineFault::BadCount);
+    };
+    let first = register(first)?;
+    let second = register(second)?;
+    let number = operand_number(third)?;
+    Ok((first, second, number))
+}
+
+// Two registers and a mask.
+#[tactic(auto, unfolding(crate::specs::Reading::three_of))]
+fn registers_and_mask(operands: &[u8]) -> Result<(u8, u8, u16), LineFault>
+    ensures value { result ≡ three_of register_in register_in mask_in (words_of operands.now) }
+    ensures valid { IfOk result (λ read. (read.0 < 32) × (read.1 < 32)) }
+{
+    let Some((first, second, third)) = three_words(operands) else {
+        return Err(LineFault::BadCount);
+    };
+    let first = register(first)?;
+    let second = register(second)?;
+    let mask = mask(third)?;
+    Ok((first, second, mask))
 }
 
 // One register.
@@ -58,12 +88,24 @@ fn command(name: &[u8], operands: &[u8]) -> Result<Command, LineFault>
     ensures valid { IfOk result IsValid }
 {
     if name == b"malloc".as_slice() {
-        let (rd, size) = register_size(operands)?;
+        let (rd, size) = register_and_number(operands)?;
         return Ok(Command::Malloc { rd, size });
     }
     if name == b"copy".as_slice() {
         let (rd, rs) = two_registers(operands)?;
         return Ok(Command::Copy { rd, rs });
+    }
+    if name == b"setaddr".as_slice() {
+        let (rd, rs, address) = registers_and_number(operands)?;
+        return Ok(Command::SetAddr { rd, rs, address });
+    }
+    if name == b"narrow".as_slice() {
+        let (rd, rs, length) = registers_and_number(operands)?;
+        return Ok(Command::Narrow { rd, rs, length });
+    }
+    if name == b"andperm".as_slice() {
+        let (rd, rs, mask) = registers_and_mask(operands)?;
+        return Ok(Command::AndPerm { rd, rs, mask });
     }
     if name == b"show".as_slice() {
         let rs = one_register(operands)?;

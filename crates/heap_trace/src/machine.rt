@@ -7,8 +7,8 @@ ghost use Rattle.heap_trace.specs.Command.{IsValid};
 ghost use Rattle.heap_trace.specs.State.{first_state, memory_of};
 ghost use Rattle.heap_trace.specs.Step.{Step, TakesNoMemory};
 
-use crate::capability::{capability, shown};
-use crate::reply::{MachineFault, Reply};
+use crate::capability::{address_of, bounded, bounds_of_word, capability, masked, moved, shown};
+use crate::reply::{MachineFault, Reply, Trap};
 use crate::running::Outcome;
 use crate::trace::Command;
 use cap_codec::Word;
@@ -30,13 +30,15 @@ pub struct Machine {
 
 impl Model for Machine {
     ghost use Rattle.std.specs.Prelude.{◌≡◌, ◌*◌, length};
+    ghost use Rattle.heap_trace.specs.Sound.{IsSound};
     ghost use Rattle.heap_trace.specs.State.{State};
 
     ghost Value = { State };
 
     ghost view = { λ m. record { heap = m.heap; cells = m.memory.cells; registers = m.registers } };
 
-    ghost invariant = { λ m. m.memory.base ≡ m.heap.base };
+    ghost invariant = { λ m. (m.memory.base ≡ m.heap.base)
+        × IsSound (record { heap = m.heap; cells = m.memory.cells; registers = m.registers }) };
 }
 
 impl Machine {
@@ -87,6 +89,9 @@ impl Machine {
         match command {
             Command::Malloc { rd, size } => self.malloc(rd, size),
             Command::Copy { rd, rs } => Ok(self.copy(rd, rs)),
+            Command::SetAddr { rd, rs, address } => Ok(self.set_address(rd, rs, address)),
+            Command::Narrow { rd, rs, length } => Ok(self.narrow(rd, rs, length)),
+            Command::AndPerm { rd, rs, mask } => Ok(self.and_perms(rd, rs, mask)),
             Command::Show { rs } => Ok(self.show(rs)),
         }
     }
@@ -117,6 +122,53 @@ impl Machine {
     {
         let (word, tag) = self.registers.get(rs);
         self.registers.set(rd, word, tag);
+        Reply::Done
+    }
+
+    fn set_address(&mut self, rd: u8, rs: u8, address: u64) -> Reply
+        requires { IsValid (Command.SetAddr rd rs address) }
+        ensures { Step self.old (Command.SetAddr rd rs address) result self.new }
+    {
+        let (word, tag) = self.registers.get(rs);
+        let (word, keeps) = moved(word, address);
+        self.registers.set(rd, word, tag & keeps);
+        if tag & !keeps {
+            return Reply::Cleared;
+        }
+        Reply::Done
+    }
+
+    fn narrow(&mut self, rd: u8, rs: u8, length: u64) -> Reply
+        requires { IsValid (Command.Narrow rd rs length) }
+        ensures { Step self.old (Command.Narrow rd rs length) result self.new }
+    {
+        let (word, tag) = self.registers.get(rs);
+        if !tag {
+            return Reply::Trap(Trap::Tag);
+        }
+        if length == 0 {
+            return Reply::Trap(Trap::Empty);
+        }
+        let within = bounds_of_word(word);
+        let base = address_of(word);
+        let top = u128::from(base) + u128::from(length);
+        if base < within.base || within.top < top {
+            return Reply::Trap(Trap::Bounds);
+        }
+        let (word, exact) = bounded(word, base, top);
+        if !exact {
+            return Reply::Trap(Trap::Inexact);
+        }
+        self.registers.set(rd, word, true);
+        Reply::Done
+    }
+
+    fn and_perms(&mut self, rd: u8, rs: u8, mask: u16) -> Reply
+        requires { IsValid (Command.AndPerm rd rs mask) }
+        ensures { Step self.old (Command.AndPerm rd rs mask) result self.new }
+    {
+        let (word, tag) = self.registers.get(rs);
+        self.registers.set(rd, masked(word, mask), tag);
         Reply::Done
     }
 

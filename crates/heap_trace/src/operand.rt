@@ -1,10 +1,10 @@
-//! Registers, numbers and sizes.
+//! Registers, numbers and masks.
 
 ghost use Rattle.std.specs.Prelude.{◌≡◌, ◌<◌, ◌≤◌, IfOk, IfSome};
-ghost use Rattle.heap_trace.specs.Reading.{all_digits_in, number_of, numeral_of, register_in, register_of, size_in};
+ghost use Rattle.heap_trace.specs.Reading.{all_digits_in, mask_in, number_in, number_of, numeral_of, register_in, register_of};
 
 use crate::fault::LineFault;
-use crate::trace::{LARGEST_SIZE, REGISTERS};
+use crate::trace::REGISTERS;
 
 fn all_digits(digits: &[u8], radix: u32) -> bool
     requires low { 2 ≤ radix }
@@ -65,13 +65,19 @@ pub fn register(word: &[u8]) -> Result<u8, LineFault>
     register_number(word).ok_or(LineFault::BadRegister)
 }
 
-/// The size that an operand writes, in bytes.
-pub fn size(word: &[u8]) -> Result<u64, LineFault>
-    ensures value { result ≡ size_in word.now }
-    ensures most { IfOk result (λ size. size ≤ 4080) }
+/// The number that an operand writes.
+pub fn operand_number(word: &[u8]) -> Result<u64, LineFault>
+    ensures { result ≡ number_in word.now }
+{
+    number(word).ok_or(LineFault::BadNumber)
+}
+
+/// The mask of permissions that an operand writes.
+pub fn mask(word: &[u8]) -> Result<u16, LineFault>
+    ensures { result ≡ mask_in word.now }
 {
     match number(word) {
-        Some(size) if size <= LARGEST_SIZE => Ok(size),
+        Some(mask) if mask <= u64::from(u16::MAX) => Ok(mask as u16),
         _ => Err(LineFault::BadNumber),
     }
 }

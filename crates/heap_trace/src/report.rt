@@ -16,6 +16,9 @@ fn name(command: Command) -> &'static str
     match command {
         Command::Malloc { .. } => "malloc",
         Command::Copy { .. } => "copy",
+        Command::SetAddr { .. } => "setaddr",
+        Command::Narrow { .. } => "narrow",
+        Command::AndPerm { .. } => "andperm",
         Command::Show { .. } => "show",
     }
 }

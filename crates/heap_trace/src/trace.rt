@@ -5,27 +5,30 @@ ghost use Rattle.std.specs.Prelude.{◌↔◌, IsTrue};
 /// How many registers there are.
 pub const REGISTERS: u8 = 32;
 
-/// The largest size of a `malloc`, in bytes.
-pub const LARGEST_SIZE: u64 = 4080;
-
-/// A command of a trace. Registers go by their numbers, and a size is in bytes.
+/// A command of a trace. Registers go by their numbers; sizes and lengths are in bytes.
 #[derive(Clone, Copy, Debug, PartialEq, Eq)]
 pub enum Command {
     Malloc { rd: u8, size: u64 },
     Copy { rd: u8, rs: u8 },
+    SetAddr { rd: u8, rs: u8, address: u64 },
+    Narrow { rd: u8, rs: u8, length: u64 },
+    AndPerm { rd: u8, rs: u8, mask: u16 },
     Show { rs: u8 },
 }
 
 impl Command {
     ghost use Rattle.heap_trace.specs.Command.{IsValid};
 
-    /// Whether each register number is below 32, and a size is at most 4,080 bytes.
+    /// Whether each register number is below 32.
     pub fn is_valid(&self) -> bool
         ensures { IsTrue result ↔ IsValid self.now }
     {
         match *self {
-            Command::Malloc { rd, size } => rd < REGISTERS && size <= LARGEST_SIZE,
-            Command::Copy { rd, rs } => rd < REGISTERS && rs < REGISTERS,
+            Command::Malloc { rd, .. } => rd < REGISTERS,
+            Command::Copy { rd, rs }
+            | Command::SetAddr { rd, rs, .. }
+            | Command::Narrow { rd, rs, .. }
+            | Command::AndPerm { rd, rs, .. } => rd < REGISTERS && rs < REGISTERS,
             Command::Show { rs } => rs < REGISTERS,
         }
     }

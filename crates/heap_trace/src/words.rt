@@ -4,7 +4,7 @@ ghost use Rattle.std.specs.Prelude.{◌≡◌, ◌<◌, ◌==◌, [], ◌∷◌,
 ghost use Rattle.std.specs.List.{position};
 ghost use Rattle.std.specs.Option.{option_map};
 ghost use Rattle.heap_trace.specs.Lines.{is_blank, is_passed_over, lines_of, words_of};
-ghost use Rattle.heap_trace.specs.Reading.{one_word_in, two_words_in};
+ghost use Rattle.heap_trace.specs.Reading.{one_word_in, three_words_in, two_words_in};
 
 fn first_feed(text: &[u8]) -> Option<usize>
     ensures { result ≡ position (λ byte. byte == 10) text.now }
@@ -87,4 +87,13 @@ pub fn two_words(line: &[u8]) -> Option<(&[u8], &[u8])>
     let (first, rest) = split_word(line)?;
     let second = one_word(rest)?;
     Some((first, second))
+}
+
+/// The words of a line that has just three.
+pub fn three_words(line: &[u8]) -> Option<(&[u8], &[u8], &[u8])>
+    ensures { option_map (λ words. (words.0.now, words.1.now, words.2.now)) result ≡ three_words_in (words_of line.now) }
+{
+    let (first, rest) = split_word(line)?;
+    let (second, third) = two_words(rest)?;
+    Some((first, second, third))
 }

@@ -1,0 +1,6 @@
+use Rattle.std.proofs.Common.{rules}
+use Rattle.heap_trace.proofs.SoundLaws.{IsSound-first}
+use Rattle.heap_trace.proofs.machine.Machine.new.Goals as goal
+
+pub invariant_of-result : goal.invariant_of-result
+invariant_of-result c = (search rules, IsSound-first _ c.new-3.ensures)
