@@ -1,32 +1,23 @@
 -- What a line up to the heap line is read as.
-use Rattle.std.proofs.Common.{◌≡◌, ℕ, ◌+◌, ◌*◌, ◌%◌, ◌^◌, ◌&&◌, ◌==◌, Bool, true, false, cond, nat_le, IsTrue, List, [], ◌∷◌, Option, Some, None, Result, Ok, Err, codes, bytes_eq, ◌⊎◌, inl, inr, refl, sym, ap, subst, ◌∙◌, arith}
+use Rattle.std.proofs.Common.{◌≡◌, ℕ, Bool, true, false, cond, IsTrue, List, [], ◌∷◌, Option, Some, None, Result, Ok, Err, codes, bytes_eq, ◌⊎◌, inl, inr, refl, sym, ap, subst, ◌∙◌}
 use Rattle.std.specs.Option.{ok_or}
-use Rattle.std.proofs.lemmas.Bool.Decides.{nat_tests}
 use Rattle.heap_trace.specs.declared.fault.TraceFault.{TraceFault}
 use Rattle.heap_trace.specs.declared.fault.TraceFault.TheVariants.{NoHeap, BadHeap}
 use Rattle.heap_trace.specs.Grammar.{BeginsAsHeap, IsHeapLine, IsNumber}
 use Rattle.heap_trace.specs.Heap.{IsHeap}
 use Rattle.heap_trace.specs.Lines.{is_passed_over}
 use Rattle.heap_trace.specs.Reading.{◌>>=◌, heap_at, heap_from, heap_of, is_heap, number_of}
+use Rattle.tag_memory.specs.Span.{is_base, is_size}
 use Rattle.heap_trace.proofs.Digits.{and_true}
 use Rattle.heap_trace.proofs.Operands.{IsNumber-read, number_of-IsNumber, same_bytes, when}
 
 -- ---- base and pages
 
 IsHeap-read : (base pages : ℕ) → is_heap base pages ≡ true → IsHeap base pages
-IsHeap-read base pages e =
-    let a = and_true (base % 4096 == 0) (nat_le 1 pages && (nat_le pages 1024 && nat_le (base + 4096 * pages) (2 ^ 64))) e in
-    let b = and_true (nat_le 1 pages) (nat_le pages 1024 && nat_le (base + 4096 * pages) (2 ^ 64)) a.1 in
-    let d = and_true (nat_le pages 1024) (nat_le (base + 4096 * pages) (2 ^ 64)) b.1 in
-    record { aligned = grind (arith, nat_tests, a.0); some = grind (arith, nat_tests, b.0); few = grind (arith, nat_tests, d.0); ends = grind (arith, nat_tests, d.1) }
+IsHeap-read base pages e = let both = and_true (is_size pages) (is_base base pages) e in record { size = both.0; place = both.1 }
 
 is_heap-IsHeap : (base pages : ℕ) → IsHeap base pages → is_heap base pages ≡ true
-is_heap-IsHeap base pages h =
-    let aligned : (base % 4096 == 0) ≡ true = grind (arith, nat_tests, h.aligned) in
-    let some : nat_le 1 pages ≡ true = grind (arith, nat_tests, h.some) in
-    let few : nat_le pages 1024 ≡ true = grind (arith, nat_tests, h.few) in
-    let ends : nat_le (base + 4096 * pages) (2 ^ 64) ≡ true = grind (arith, nat_tests, h.ends) in
-    rw (aligned, some, few, ends) refl
+is_heap-IsHeap base pages h = rw (h.size, h.place) refl
 
 abbrev IsHeapOperands : List (List ℕ) → ℕ → ℕ → Type 0
 IsHeapOperands words base pages = (b p : List ℕ) × (words ≡ b ∷ p ∷ []) × IsNumber b base × IsNumber p pages × IsHeap base pages

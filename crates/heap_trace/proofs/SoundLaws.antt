@@ -1,13 +1,13 @@
 -- The state of every machine is sound.
-use Rattle.std.proofs.Common.{◌≡◌, ◌∙◌, ℕ, ◌<◌, ◌≤◌, ◌^◌, ◌&&◌, Bool, true, false, cond, eqb, List, length, get_or, set, refl, sym, ap, subst, arith}
-use Rattle.std.specs.Prelude.{All, IsTrue, replicate}
+use Rattle.std.proofs.Common.{◌≡◌, ◌∙◌, ℕ, ◌<◌, ◌≤◌, ◌^◌, Bool, true, false, cond, eqb, List, length, get_or, set, sym, ap, subst, arith}
+use Rattle.std.specs.Prelude.{All, IsTrue}
 use Rattle.std.proofs.lemmas.List.{length-replicate, length-set}
 use Rattle.std.proofs.lemmas.List.Elements.{All-get_or, All-replicate, All-set}
 use Rattle.cap_codec.specs.declared.word.Bounds.{Bounds}
 use Rattle.cap_codec.specs.declared.word.Word.{Word}
-use Rattle.tag_memory.specs.Cells.{Cell, new_registers, null_cell, register_in, with_register}
+use Rattle.tag_memory.specs.Cells.{Cell, new_registers, null_cell}
 use Rattle.heap_trace.specs.Sound.{IsBounded, IsSound}
-use Rattle.heap_trace.specs.State.{State, first_state, register, with_cell}
+use Rattle.heap_trace.specs.State.{State, register, with_cell}
 use Rattle.heap_trace.specs.Step.{bounds_in}
 
 either : {A : Type 0} (P : A → Type 0) (b : Bool) (x y : A) → P x → P y → P (cond b x y)

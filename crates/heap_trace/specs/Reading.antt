@@ -1,6 +1,6 @@
 -- How a text is read as a trace, or as its fault: one function, which is what other definitions cite.
 -- Grammar.antt says without any steps what is read.
-use Rattle.std.specs.Prelude.{◌≡◌, ℕ, ◌+◌, ◌*◌, ◌%◌, ◌^◌, Bool, not, List, [], ◌∷◌, ◌++◌, length, take, drop, Option, Some, None, Result, Ok, Err, nat_eq, nat_lt, nat_le, ◌&&◌, ◌==◌, codes, if◌then◌else◌, bytes_eq, option_and_then}
+use Rattle.std.specs.Prelude.{◌≡◌, ℕ, ◌+◌, ◌^◌, Bool, not, List, [], ◌∷◌, ◌++◌, length, take, drop, Option, Some, None, Result, Ok, Err, nat_eq, nat_lt, nat_le, ◌&&◌, codes, if◌then◌else◌, bytes_eq, option_and_then}
 use Rattle.std.specs.Char.{is_digit}
 use Rattle.std.specs.List.{list_all, starts_with}
 use Rattle.std.specs.Option.{ok_or}
@@ -13,6 +13,7 @@ use Rattle.heap_trace.specs.declared.trace.Command.{Command}
 use Rattle.heap_trace.specs.declared.trace.Command.TheVariants.{Malloc, Copy, SetAddr, Narrow, AndPerm, Show}
 use Rattle.heap_trace.specs.declared.trace.Trace.{Trace}
 use Rattle.heap_trace.specs.Lines.{is_passed_over, lines_of, words_of}
+use Rattle.tag_memory.specs.Span.{is_base, is_size}
 
 -- then, unless there is a fault
 infixl 10 ◌>>=◌
@@ -140,11 +141,9 @@ read_at number (Err fault) = Err (fault_at number fault)
 unfoldable pub command_at : ℕ → List (List ℕ) → Result (Option Command) TraceFault
 command_at number words = if is_passed_over words then Ok None else read_at number (command_of words)
 
--- a multiple of 4,096, and 1 to 1,024 pages of 4,096 bytes that end at 2 ^ 64 at most
+-- the test of where a heap can lie
 abbrev pub is_heap : ℕ → ℕ → Bool
-is_heap base pages =
-    (base % 4096 == 0)
-    && (nat_le 1 pages && (nat_le pages 1024 && nat_le (base + 4096 * pages) (2 ^ 64)))
+is_heap base pages = is_size pages && is_base base pages
 
 -- base and pages, where both were read and can be
 abbrev pub heap_from : Option ℕ → Option ℕ → Option (ℕ × ℕ)

@@ -10,6 +10,7 @@ use crate::fault::{LineFault, TraceFault};
 use crate::operand::{mask, number, operand_number, register};
 use crate::trace::Command;
 use crate::words::{one_word, split_name, three_words, two_words};
+use tag_memory::{is_base, is_size};
 
 // A register and a number.
 #[tactic(auto, unfolding(crate::specs::Reading::two_of))]
@@ -133,10 +134,7 @@ fn is_heap_place(base: u64, pages: u64) -> bool
     ensures value { result ≡ is_heap base pages }
     ensures heap { IsTrue result → IsHeap base pages }
 {
-    base % 4096 == 0
-        && pages >= 1
-        && pages <= 1024
-        && u128::from(base) + 4096 * u128::from(pages) <= 1 << 64
+    is_size(pages) && is_base(base, pages)
 }
 
 // The heap with this base address and this many pages.
