@@ -16,7 +16,7 @@ pub fn put_block(
     origin: u64,
     shape: Shape,
 ) -> Extent
-    requires limit { length lengths.old.items ≤ 256 * 1024 }
+    requires limit { length lengths.old.items < 2 ^ 32 }
     requires room { vec_len extents.old < vec_capacity extents.old }
     requires free { AreFree lengths.old.items extents.old.items }
     requires origin { origin ≤ 2 ^ 60 }
