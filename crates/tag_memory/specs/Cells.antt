@@ -1,6 +1,6 @@
 -- Tagged memory and registers as lists of cells (CHERI ISA version 9, UCAM-CL-TR-987: tagged memory; one
 -- tag a granule of 16 bytes; register 0 is the null register of RISC-V).
-use Rattle.std.specs.Prelude.{◌≡◌, ◌≤◌, ◌*◌, ◌==◌, ℕ, Bool, IsTrue, List, false, if◌then◌else◌, length, replicate, slice_index_or, slice_set}
+use Rattle.std.specs.Prelude.{◌≡◌, ◌*◌, ◌==◌, ℕ, Bool, IsTrue, List, false, if◌then◌else◌, length, replicate, slice_index_or, slice_set}
 use Rattle.cap_codec.specs.declared.word.Word.{Word}
 use Rattle.tag_memory.specs.Span.{is_base, is_size}
 

@@ -1,4 +1,4 @@
-use Rattle.std.proofs.Common.{◌≡◌, ◌≤◌, ℕ, ◌∙◌, ap, List, arith, count_by, drop, length, rules, take}
+use Rattle.std.proofs.Common.{◌≡◌, ℕ, ◌∙◌, ap, List, arith, count_by, drop, length, rules, take}
 use Rattle.std.proofs.lemmas.List.{length-drop, take_all}
 use Rattle.tag_memory.specs.Cells.{Cell}
 use Rattle.tag_memory.proofs.registers.Registers.tagged.Goals as goal
