@@ -2,7 +2,7 @@ use Rattle.std.proofs.Common.{ap, rules, Err}
 use Rattle.clap.specs.Walk.{texts}
 use Rattle.heap_tool.specs.Answer.{IsAnswer, lacks_memory, refusal_line, refusal_status, status_of, text_of}
 use Rattle.heap_tool.specs.Words.{NamesRun, NamesWord}
-use Rattle.heap_tool.proofs.AnswerLaws.{Answers-told, BeginsAnswer-told, BeginsAnswer-unwritten, IsAnswer-refusal, IsAnswer-run, IsAnswer-word, IsRunAnswer-status}
+use Rattle.heap_tool.proofs.AnswerLaws.{Answers-told, BeginsAnswer-told, BeginsAnswer-unwritten, IsAnswer-refusal, IsAnswer-run, IsAnswer-word}
 use Rattle.heap_tool.proofs.tool.tool.Given.{Over}
 use Rattle.heap_tool.proofs.tool.tool.Goals as goal
 

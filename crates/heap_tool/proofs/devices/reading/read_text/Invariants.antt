@@ -1,4 +1,4 @@
-use Rattle.std.proofs.Common.{◌≡◌, ℕ, false, length}
+use Rattle.std.proofs.Common.{◌≡◌, false, length}
 use Rattle.heap_tool.proofs.ReadLemmas.{HasRead, reads_left}
 use Rattle.heap_tool.proofs.devices.reading.read_text.Given as goal
 
