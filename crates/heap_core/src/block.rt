@@ -1,8 +1,8 @@
 //! Blocks, and what a block of a size needs.
 
-ghost use Rattle.std.specs.Prelude.{◌≡◌, ◌<◌, ◌≤◌, ◌*◌, ◌^◌, max};
+ghost use Rattle.std.specs.Prelude.{◌≡◌, ◌<◌, ◌≤◌, ◌+◌, ◌*◌, ◌%◌, ◌^◌, ℕ, max};
 ghost use Rattle.cap_codec.specs.Rounding.{length_for, unit_for};
-ghost use Rattle.heap_core.specs.Place.{granule_size};
+ghost use Rattle.heap_core.specs.Place.{IsExact, granule_size};
 
 use cap_codec::{alignment_mask, representable_length};
 use tag_memory::GRANULE;
@@ -34,6 +34,9 @@ pub fn shape_for(granules: u64) -> Shape
     requires some { 0 < granules }
     requires limit { 16 * granules < 2 ^ 64 }
     ensures granules { 16 * result.granules ≡ length_for (16 * granules) }
+    ensures exact { (base : ℕ) → base % unit_for (16 * granules) ≡ 0
+        → base + length_for (16 * granules) ≤ 2 ^ 64
+        → IsExact base (base + length_for (16 * granules)) }
     ensures unit { 16 * result.unit ≡ max 16 (unit_for (16 * granules)) }
     ensures some { 0 < result.granules }
     ensures granules_limit { result.granules ≤ 2 ^ 60 }

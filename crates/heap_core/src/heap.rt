@@ -3,7 +3,7 @@
 ghost use Rattle.std.specs.Prelude.{◌≡◌, ◌↔◌, ◌≤◌, ◌+◌, ℕ, IfOk, IsOk, IsOkUnless, false, true};
 ghost use Rattle.heap_core.specs.Blocks.{blocks_with, bytes_of};
 ghost use Rattle.heap_core.specs.Heap.{IsSound, empty_heap};
-ghost use Rattle.heap_core.specs.Place.{IfOkSome, IsFree, IsPlace, block_length};
+ghost use Rattle.heap_core.specs.Place.{IfOkSome, IsExact, IsFree, IsPlace, block_length};
 ghost use Rattle.tag_memory.specs.Span as span;
 
 use crate::block::{Block, granules_for, shape_for};
@@ -103,6 +103,7 @@ impl Heap {
 
         ensures place { IfOkSome result (λ block. IsPlace self.old size block.base) }
         ensures top { IfOkSome result (λ block. block.top ≡ block.base + block_length size) }
+        ensures exact { IfOkSome result (λ block. IsExact block.base block.top) }
         ensures live { IfOkSome result (λ block. self.new ≡ record self.old {
           live = blocks_with (block.base, block_length size) self.old.live;
         }) }

@@ -1,12 +1,14 @@
 -- The words of a line are read as a command exactly where the grammar says that they are it, and else as their fault.
 use Rattle.std.proofs.Common.{◌≡◌, ◌≢◌, ℕ, suc, Bool, true, false, cond, List, [], ◌∷◌, ◌++◌, Option, Some, None, Result, Ok, Err, MatchResult, length, codes, bytes_eq, ◌⊎◌, inl, inr, refl, sym, ap, subst, ◌∙◌, arith}
 use Rattle.std.specs.Option.{ok_or}
+use Rattle.hex.specs.declared.error.FromHexError.{FromHexError}
+use Rattle.hex.specs.Hex.{decode_sized}
 use Rattle.heap_trace.specs.declared.trace.Command.{Command}
-use Rattle.heap_trace.specs.declared.trace.Command.TheVariants.{Malloc, Copy, SetAddr, Narrow, AndPerm, Show}
+use Rattle.heap_trace.specs.declared.trace.Command.TheVariants.{Malloc, Copy, SetAddr, Narrow, AndPerm, StoreCap, LoadCap, Write, Show}
 use Rattle.heap_trace.specs.declared.fault.LineFault.{LineFault}
 use Rattle.heap_trace.specs.declared.fault.LineFault.TheVariants as line_fault
-use Rattle.heap_trace.specs.Grammar.{FirstLacks, Form, Register, Number, Mask, HasFault, HasForm, HaveForms, IsCommand, IsMask, IsNumber, IsRegister, fault_of, forms_of}
-use Rattle.heap_trace.specs.Reading.{◌>>=◌, below, command_of, mask_in, number_in, number_of, one_of, register_in, register_of, three_of, two_of}
+use Rattle.heap_trace.specs.Grammar.{FirstLacks, Form, Register, Number, Mask, Data, HasFault, HasForm, HaveForms, IsCommand, IsData, IsMask, IsNumber, IsRegister, fault_of, forms_of}
+use Rattle.heap_trace.specs.Reading.{◌>>=◌, below, command_of, data_from, data_in, mask_in, number_in, number_of, one_of, register_in, register_of, three_of, two_of}
 use Rattle.heap_trace.proofs.Operands.{IsMask-read, IsNumber-read, IsRegister-read, below-IsMask, number_of-IsNumber, register_of-IsRegister, same_bytes}
 
 -- ---- one word
@@ -33,6 +35,12 @@ reads_mask word = go (below 65536 (number_of word)) refl where
   go (Some mask) is = rw is (mask, IsMask-read word mask is)
   go None is = rw is (refl, λ h. let e = below-IsMask word h.0 h.1 in absurd cc)
 
+reads_data : (word : List ℕ) → Reads Data word (data_in word)
+reads_data word = go (decode_sized word 16) refl where
+  go : (found : Result (List ℕ) FromHexError) → decode_sized word 16 ≡ found → Reads Data word (data_from found)
+  go (Ok bytes) is = (bytes, is)
+  go (Err fault) is = (refl, λ h. let e = h.1 in absurd cc)
+
 Ok_from : {A F : Type 0} (fault : F) (found : Option A) (x : A) → ok_or found fault ≡ Ok x → found ≡ Some x
 Ok_from fault None x e = absurd cc
 Ok_from fault (Some y) x e = let same : y ≡ x = cc in ap Some same
@@ -45,6 +53,12 @@ number_in_is word number e = IsNumber-read word number (Ok_from line_fault.BadNu
 
 mask_in_is : (word : List ℕ) (mask : ℕ) → mask_in word ≡ Ok mask → IsMask word mask
 mask_in_is word mask e = IsMask-read word mask (Ok_from line_fault.BadNumber (below 65536 (number_of word)) mask e)
+
+data_in_is : (word bytes : List ℕ) → data_in word ≡ Ok bytes → IsData word bytes
+data_in_is word bytes = go (decode_sized word 16) where
+  go : (found : Result (List ℕ) FromHexError) → data_from found ≡ Ok bytes → found ≡ Ok bytes
+  go (Ok other) e = let same : other ≡ bytes = cc in ap Ok same
+  go (Err fault) e = absurd cc
 
 -- ---- the words after a name
 
@@ -104,6 +118,7 @@ HasFault-words name forms words fault is (inr h) = subst (HasFault (name ∷ wor
   go Register lacks = (forms, Register, is, h.1, lacks, refl)
   go Number lacks = (forms, Number, is, h.1, lacks, refl)
   go Mask lacks = (forms, Mask, is, h.1, lacks, refl)
+  go Data lacks = (forms, Data, is, h.1, lacks, refl)
 
 -- the rules of HasFault, as alternatives
 abbrev Faults : List ℕ → List (List ℕ) → LineFault → Type 0
@@ -146,6 +161,9 @@ IsCommand-fits words (Copy rd rs) h = subst Fits (sym h.2) (_, refl, ((rd, h.3),
 IsCommand-fits words (SetAddr rd rs address) h = subst Fits (sym h.3) (_, refl, ((rd, h.4), ((rs, h.5), ((address, h.6), tt))))
 IsCommand-fits words (Narrow rd rs length) h = subst Fits (sym h.3) (_, refl, ((rd, h.4), ((rs, h.5), ((length, h.6), tt))))
 IsCommand-fits words (AndPerm rd rs mask) h = subst Fits (sym h.3) (_, refl, ((rd, h.4), ((rs, h.5), ((mask, h.6), tt))))
+IsCommand-fits words (StoreCap ra rs) h = subst Fits (sym h.2) (_, refl, ((ra, h.3), ((rs, h.4), tt)))
+IsCommand-fits words (LoadCap rd ra) h = subst Fits (sym h.2) (_, refl, ((rd, h.3), ((ra, h.4), tt)))
+IsCommand-fits words (Write ra bytes) h = subst Fits (sym h.2) (_, refl, ((ra, h.3), ((bytes, h.4), tt)))
 IsCommand-fits words (Show rs) h = subst Fits (sym h.1) (_, refl, ((rs, h.2), tt))
 
 no_fault : (name : List ℕ) (words : List (List ℕ)) (fault : LineFault) → Fits (name ∷ words) → HasFault (name ∷ words) fault → ⊥
@@ -238,8 +256,11 @@ command_read name words =
     named (codes "setaddr") name words _ _ (three_read (codes "setaddr") Register Register Number register_in register_in number_in refl reads_register reads_register reads_number SetAddr setaddr words) (λ setaddr.
     named (codes "narrow") name words _ _ (three_read (codes "narrow") Register Register Number register_in register_in number_in refl reads_register reads_register reads_number Narrow narrow words) (λ narrow.
     named (codes "andperm") name words _ _ (three_read (codes "andperm") Register Register Mask register_in register_in mask_in refl reads_register reads_register reads_mask AndPerm andperm words) (λ andperm.
+    named (codes "storecap") name words _ _ (two_read (codes "storecap") Register Register register_in register_in refl reads_register reads_register StoreCap storecap words) (λ storecap.
+    named (codes "loadcap") name words _ _ (two_read (codes "loadcap") Register Register register_in register_in refl reads_register reads_register LoadCap loadcap words) (λ loadcap.
+    named (codes "write") name words _ _ (two_read (codes "write") Register Data register_in data_in refl reads_register reads_data Write write words) (λ write.
     named (codes "show") name words _ _ (one_read (codes "show") Register register_in refl reads_register Show show words) (λ show.
-    rw (malloc, copy, setaddr, narrow, andperm, show) refl)))))) where
+    rw (malloc, copy, setaddr, narrow, andperm, storecap, loadcap, write, show) refl))))))))) where
       malloc : (a b : List ℕ) (x y : ℕ) → register_in a ≡ Ok x → number_in b ≡ Ok y → IsCommand (codes "malloc" ∷ a ∷ b ∷ []) (Malloc x y)
       malloc a b x y e f = (a, b, refl, register_in_is a x e, number_in_is b y f)
 
@@ -255,6 +276,15 @@ command_read name words =
       andperm : (a b c : List ℕ) (x y z : ℕ) → register_in a ≡ Ok x → register_in b ≡ Ok y → mask_in c ≡ Ok z → IsCommand (codes "andperm" ∷ a ∷ b ∷ c ∷ []) (AndPerm x y z)
       andperm a b c x y z e f g = (a, b, c, refl, register_in_is a x e, register_in_is b y f, mask_in_is c z g)
 
+      storecap : (a b : List ℕ) (x y : ℕ) → register_in a ≡ Ok x → register_in b ≡ Ok y → IsCommand (codes "storecap" ∷ a ∷ b ∷ []) (StoreCap x y)
+      storecap a b x y e f = (a, b, refl, register_in_is a x e, register_in_is b y f)
+
+      loadcap : (a b : List ℕ) (x y : ℕ) → register_in a ≡ Ok x → register_in b ≡ Ok y → IsCommand (codes "loadcap" ∷ a ∷ b ∷ []) (LoadCap x y)
+      loadcap a b x y e f = (a, b, refl, register_in_is a x e, register_in_is b y f)
+
+      write : (a b : List ℕ) (x : ℕ) (y : List ℕ) → register_in a ≡ Ok x → data_in b ≡ Ok y → IsCommand (codes "write" ∷ a ∷ b ∷ []) (Write x y)
+      write a b x y e f = (a, b, refl, register_in_is a x e, data_in_is b y f)
+
       show : (a : List ℕ) (x : ℕ) → register_in a ≡ Ok x → IsCommand (codes "show" ∷ a ∷ []) (Show x)
       show a x e = (a, refl, register_in_is a x e)
 
@@ -267,6 +297,9 @@ command_of-IsCommand words (Copy rd rs) h = rw (h.2, register_of-IsRegister h.0 
 command_of-IsCommand words (SetAddr rd rs address) h = rw (h.3, register_of-IsRegister h.0 rd h.4, register_of-IsRegister h.1 rs h.5, number_of-IsNumber h.2 address h.6) refl
 command_of-IsCommand words (Narrow rd rs length) h = rw (h.3, register_of-IsRegister h.0 rd h.4, register_of-IsRegister h.1 rs h.5, number_of-IsNumber h.2 length h.6) refl
 command_of-IsCommand words (AndPerm rd rs mask) h = rw (h.3, register_of-IsRegister h.0 rd h.4, register_of-IsRegister h.1 rs h.5, below-IsMask h.2 mask h.6) refl
+command_of-IsCommand words (StoreCap ra rs) h = rw (h.2, register_of-IsRegister h.0 ra h.3, register_of-IsRegister h.1 rs h.4) refl
+command_of-IsCommand words (LoadCap rd ra) h = rw (h.2, register_of-IsRegister h.0 rd h.3, register_of-IsRegister h.1 ra h.4) refl
+command_of-IsCommand words (Write ra bytes) h = rw (h.2, register_of-IsRegister h.0 ra h.3, h.4) refl
 command_of-IsCommand words (Show rs) h = rw (h.1, register_of-IsRegister h.0 rs h.2) refl
 
 pub IsCommand-read : (words : List (List ℕ)) (command : Command) → command_of words ≡ Ok command → IsCommand words command

@@ -4,7 +4,7 @@ use Rattle.heap_core.specs.Blocks.{blocks_with}
 use Rattle.heap_core.specs.Place.{block_length}
 use Rattle.tag_memory.specs.Cells.{null_cell}
 use Rattle.heap_trace.specs.declared.trace.Command.{Command}
-use Rattle.heap_trace.specs.declared.trace.Command.TheVariants.{Malloc, Copy, SetAddr, Narrow, AndPerm, Show}
+use Rattle.heap_trace.specs.declared.trace.Command.TheVariants.{Malloc, Copy, SetAddr, Narrow, AndPerm, StoreCap, LoadCap, Write, Show}
 use Rattle.heap_trace.specs.declared.reply.Reply.{Reply}
 use Rattle.heap_trace.specs.declared.reply.Reply.TheVariants.{Block, NoSpace}
 use Rattle.heap_trace.specs.declared.reply.Reply.TheVariants as reply
@@ -40,6 +40,9 @@ Effect-only old (Copy rd rs) r s m n p q = same_as p q
 Effect-only old (SetAddr rd rs a) r s m n p q = same_as p q
 Effect-only old (Narrow rd rs length) r s m n p q = same_as p q
 Effect-only old (AndPerm rd rs mask) r s m n p q = same_as p q
+Effect-only old (StoreCap ra rs) r s m n p q = same_as p q
+Effect-only old (LoadCap rd ra) r s m n p q = same_as p q
+Effect-only old (Write ra bytes) r s m n p q = same_as p q
 Effect-only old (Show rs) r s m n p q = same_as p q
 
 StepAfter-only : (t : Option Trap) (old : State) (c : Command) (r s : Reply) (m n : State)
@@ -62,6 +65,9 @@ Effect-some old (Copy rd rs) = (_, _, (refl, refl))
 Effect-some old (SetAddr rd rs a) = (_, _, (refl, refl))
 Effect-some old (Narrow rd rs length) = (_, _, (refl, refl))
 Effect-some old (AndPerm rd rs mask) = (_, _, (refl, refl))
+Effect-some old (StoreCap ra rs) = (_, _, (refl, refl))
+Effect-some old (LoadCap rd ra) = (_, _, (refl, refl))
+Effect-some old (Write ra bytes) = (_, _, (refl, refl))
 Effect-some old (Show rs) = (_, _, (refl, refl))
 
 StepAfter-some : (t : Option Trap) (old : State) (c : Command) → (r : Reply) × (m : State) × StepAfter t old c r m

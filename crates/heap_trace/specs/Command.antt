@@ -1,7 +1,7 @@
 -- Commands that can be carried out, in this project's own trace language.
 use Rattle.std.specs.Prelude.{ℕ, ◌<◌, ◌^◌}
 use Rattle.heap_trace.specs.declared.trace.Command.{Command}
-use Rattle.heap_trace.specs.declared.trace.Command.TheVariants.{Malloc, Copy, SetAddr, Narrow, AndPerm, Show}
+use Rattle.heap_trace.specs.declared.trace.Command.TheVariants.{Malloc, Copy, SetAddr, Narrow, AndPerm, StoreCap, LoadCap, Write, Show}
 
 -- each register number is below 32
 abbrev pub IsValid : Command → Type 0
@@ -10,6 +10,9 @@ IsValid (Copy rd rs) = (rd < 32) × (rs < 32)
 IsValid (SetAddr rd rs address) = (rd < 32) × (rs < 32)
 IsValid (Narrow rd rs length) = (rd < 32) × (rs < 32)
 IsValid (AndPerm rd rs mask) = (rd < 32) × (rs < 32)
+IsValid (StoreCap ra rs) = (ra < 32) × (rs < 32)
+IsValid (LoadCap rd ra) = (rd < 32) × (ra < 32)
+IsValid (Write ra bytes) = ra < 32
 IsValid (Show rs) = rs < 32
 
 -- a valid command with the number of its line, which has 32 bits

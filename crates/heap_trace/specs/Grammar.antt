@@ -1,15 +1,16 @@
 -- Which text is which trace, and which fault any other text has. The trace language is this project's own profile.
 -- These are relations on whole lines, with no steps of a reading. Reading.antt has the function that they equal.
-use Rattle.std.specs.Prelude.{◌≡◌, ◌≢◌, ℕ, ◌+◌, ◌<◌, ◌≤◌, ◌^◌, ◌⊎◌, List, [], ◌∷◌, ◌++◌, length, Option, Some, None, IsTrue, codes, if◌then◌else◌, bytes_eq}
+use Rattle.std.specs.Prelude.{◌≡◌, ◌≢◌, ℕ, ◌+◌, ◌<◌, ◌≤◌, ◌^◌, ◌⊎◌, List, [], ◌∷◌, ◌++◌, length, Option, Some, None, Ok, IsTrue, codes, if◌then◌else◌, bytes_eq}
 use Rattle.std.specs.Fmt.{decimal}
 use Rattle.std.specs.List.{AllByRecursion}
 use Rattle.std.specs.Str.Parse.{AllDigits, digits_value}
+use Rattle.hex.specs.Hex.{decode_sized}
 use Rattle.heap_trace.specs.declared.fault.LineFault.{LineFault}
 use Rattle.heap_trace.specs.declared.fault.LineFault.TheVariants as line_fault
 use Rattle.heap_trace.specs.declared.fault.TraceFault.{TraceFault}
 use Rattle.heap_trace.specs.declared.fault.TraceFault.TheVariants.{Memory, TooLong, NoHeap, BadHeap, BadCommand, BadCount, BadRegister, BadNumber, BadData}
 use Rattle.heap_trace.specs.declared.trace.Command.{Command}
-use Rattle.heap_trace.specs.declared.trace.Command.TheVariants.{Malloc, Copy, SetAddr, Narrow, AndPerm, Show}
+use Rattle.heap_trace.specs.declared.trace.Command.TheVariants.{Malloc, Copy, SetAddr, Narrow, AndPerm, StoreCap, LoadCap, Write, Show}
 use Rattle.heap_trace.specs.Heap.{IsHeap}
 use Rattle.heap_trace.specs.Lines.{is_passed_over, lines_of, words_of}
 use Rattle.heap_trace.specs.Reading.{Script}
@@ -38,6 +39,10 @@ IsNumber word number =
 abbrev pub IsMask : List ℕ → ℕ → Type 0
 IsMask word mask = IsNumber word mask × (mask < 2 ^ 16)
 
+-- exactly 32 hexadecimal digits of either case: 16 bytes in the order of memory
+abbrev pub IsData : List ℕ → List ℕ → Type 0
+IsData word bytes = decode_sized word 16 ≡ Ok bytes
+
 -- ---- command lines
 
 -- which words are which command
@@ -52,6 +57,12 @@ IsCommand words (Narrow rd rs length) =
     (first second third : List ℕ) × (words ≡ codes "narrow" ∷ first ∷ second ∷ third ∷ []) × IsRegister first rd × IsRegister second rs × IsNumber third length
 IsCommand words (AndPerm rd rs mask) =
     (first second third : List ℕ) × (words ≡ codes "andperm" ∷ first ∷ second ∷ third ∷ []) × IsRegister first rd × IsRegister second rs × IsMask third mask
+IsCommand words (StoreCap ra rs) =
+    (first second : List ℕ) × (words ≡ codes "storecap" ∷ first ∷ second ∷ []) × IsRegister first ra × IsRegister second rs
+IsCommand words (LoadCap rd ra) =
+    (first second : List ℕ) × (words ≡ codes "loadcap" ∷ first ∷ second ∷ []) × IsRegister first rd × IsRegister second ra
+IsCommand words (Write ra bytes) =
+    (first second : List ℕ) × (words ≡ codes "write" ∷ first ∷ second ∷ []) × IsRegister first ra × IsData second bytes
 IsCommand words (Show rs) =
     (first : List ℕ) × (words ≡ codes "show" ∷ first ∷ []) × IsRegister first rs
 
@@ -60,10 +71,12 @@ pub data Form : Type 0 where
   Register : Form
   Number : Form
   Mask : Form
+  Data : Form
 
 abbrev pub HasForm : Form → List ℕ → Type 0
 HasForm Register word = (register : ℕ) × IsRegister word register
 HasForm Number word = (number : ℕ) × IsNumber word number
+HasForm Data word = (bytes : List ℕ) × IsData word bytes
 HasForm Mask word = (mask : ℕ) × IsMask word mask
 
 -- what is wrong with a word that lacks its form
@@ -71,6 +84,7 @@ abbrev pub fault_of : Form → LineFault
 fault_of Register = line_fault.BadRegister
 fault_of Number = line_fault.BadNumber
 fault_of Mask = line_fault.BadNumber
+fault_of Data = line_fault.BadData
 
 -- the table of commands: each name, and the forms of the words after it
 abbrev pub forms_of : List ℕ → Option (List Form)
@@ -80,6 +94,9 @@ forms_of name =
     else if bytes_eq name (codes "setaddr") then Some (Register ∷ Register ∷ Number ∷ [])
     else if bytes_eq name (codes "narrow") then Some (Register ∷ Register ∷ Number ∷ [])
     else if bytes_eq name (codes "andperm") then Some (Register ∷ Register ∷ Mask ∷ [])
+    else if bytes_eq name (codes "storecap") then Some (Register ∷ Register ∷ [])
+    else if bytes_eq name (codes "loadcap") then Some (Register ∷ Register ∷ [])
+    else if bytes_eq name (codes "write") then Some (Register ∷ Data ∷ [])
     else if bytes_eq name (codes "show") then Some (Register ∷ [])
     else None
 

@@ -5,12 +5,13 @@ use Rattle.std.specs.Char.{is_digit}
 use Rattle.std.specs.List.{list_all, starts_with}
 use Rattle.std.specs.Option.{ok_or}
 use Rattle.std.specs.Str.Parse.{digits_value}
+use Rattle.hex.specs.Hex.{decode_sized}
 use Rattle.heap_trace.specs.declared.fault.LineFault.{LineFault}
 use Rattle.heap_trace.specs.declared.fault.LineFault.TheVariants as line_fault
 use Rattle.heap_trace.specs.declared.fault.TraceFault.{TraceFault}
 use Rattle.heap_trace.specs.declared.fault.TraceFault.TheVariants.{Memory, TooLong, NoHeap, BadHeap, BadCommand, BadCount, BadRegister, BadNumber, BadData}
 use Rattle.heap_trace.specs.declared.trace.Command.{Command}
-use Rattle.heap_trace.specs.declared.trace.Command.TheVariants.{Malloc, Copy, SetAddr, Narrow, AndPerm, Show}
+use Rattle.heap_trace.specs.declared.trace.Command.TheVariants.{Malloc, Copy, SetAddr, Narrow, AndPerm, StoreCap, LoadCap, Write, Show}
 use Rattle.heap_trace.specs.declared.trace.Trace.{Trace}
 use Rattle.heap_trace.specs.Lines.{is_passed_over, lines_of, words_of}
 use Rattle.tag_memory.specs.Span.{is_base, is_size}
@@ -71,6 +72,15 @@ number_in word = ok_or (number_of word) line_fault.BadNumber
 abbrev pub mask_in : List ℕ → Result ℕ LineFault
 mask_in word = ok_or (below 65536 (number_of word)) line_fault.BadNumber
 
+-- the bytes that were decoded, or that a word writes none
+abbrev pub data_from : {F : Type 0} → Result (List ℕ) F → Result (List ℕ) LineFault
+data_from (Ok bytes) = Ok bytes
+data_from (Err fault) = Err line_fault.BadData
+
+-- 16 bytes, or what is wrong with a word that writes none
+abbrev pub data_in : List ℕ → Result (List ℕ) LineFault
+data_in word = data_from (decode_sized word 16)
+
 -- ---- the words after a command's name
 
 abbrev pub one_word_in : List (List ℕ) → Option (List ℕ)
@@ -121,6 +131,9 @@ command_of (name ∷ words) =
     else if bytes_eq name (codes "setaddr") then (three_of register_in register_in number_in words >>= λ read. Ok (SetAddr read.0 read.1 read.2))
     else if bytes_eq name (codes "narrow") then (three_of register_in register_in number_in words >>= λ read. Ok (Narrow read.0 read.1 read.2))
     else if bytes_eq name (codes "andperm") then (three_of register_in register_in mask_in words >>= λ read. Ok (AndPerm read.0 read.1 read.2))
+    else if bytes_eq name (codes "storecap") then (two_of register_in register_in words >>= λ read. Ok (StoreCap read.0 read.1))
+    else if bytes_eq name (codes "loadcap") then (two_of register_in register_in words >>= λ read. Ok (LoadCap read.0 read.1))
+    else if bytes_eq name (codes "write") then (two_of register_in data_in words >>= λ read. Ok (Write read.0 read.1))
     else if bytes_eq name (codes "show") then (one_of register_in words >>= λ rs. Ok (Show rs))
     else Err line_fault.BadCommand
 

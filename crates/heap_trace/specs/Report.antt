@@ -5,7 +5,7 @@ use Rattle.std.specs.List.{concat}
 use Rattle.heap_core.specs.Blocks.{bytes_of}
 use Rattle.heap_core.specs.Heap.{HeapState}
 use Rattle.heap_trace.specs.declared.trace.Command.{Command}
-use Rattle.heap_trace.specs.declared.trace.Command.TheVariants.{Malloc, Copy, SetAddr, Narrow, AndPerm, Show}
+use Rattle.heap_trace.specs.declared.trace.Command.TheVariants.{Malloc, Copy, SetAddr, Narrow, AndPerm, StoreCap, LoadCap, Write, Show}
 use Rattle.heap_trace.specs.declared.reply.Reply.{Reply}
 use Rattle.heap_trace.specs.declared.reply.Reply.TheVariants.{Block, NoSpace, Held, Done, Cleared, Swept}
 use Rattle.heap_trace.specs.declared.reply.Reply.TheVariants as reply
@@ -22,6 +22,9 @@ name_of (Copy rd rs) = codes "copy"
 name_of (SetAddr rd rs address) = codes "setaddr"
 name_of (Narrow rd rs length) = codes "narrow"
 name_of (AndPerm rd rs mask) = codes "andperm"
+name_of (StoreCap ra rs) = codes "storecap"
+name_of (LoadCap rd ra) = codes "loadcap"
+name_of (Write ra bytes) = codes "write"
 name_of (Show rs) = codes "show"
 
 abbrev pub trap_name : Trap → List ℕ

@@ -1,20 +1,21 @@
 -- What each command answers, and what state it leaves: the table of the commands (this project's own
 -- profile). First come the checks of a command in their order; the first that fails is the trap, and a trap
 -- changes nothing. Where none fails, the effect is the command's.
-use Rattle.std.specs.Prelude.{◌≡◌, ℕ, ◌+◌, Bool, true, not, List, [], ◌∷◌, Option, Some, None, ◌&&◌, ◌==◌, bit_and, nat_le, if◌then◌else◌}
+use Rattle.std.specs.Prelude.{◌≡◌, ℕ, ◌+◌, ◌-◌, ◌/◌, ◌%◌, ◌^◌, Bool, true, false, not, ◌||◌, slice_index_or, slice_set, List, [], ◌∷◌, Option, Some, None, ◌&&◌, ◌==◌, bit_and, nat_le, if◌then◌else◌}
 use Rattle.cap_codec.specs.declared.word.Bounds.{Bounds}
 use Rattle.cap_codec.specs.declared.word.Fields.{Fields}
 use Rattle.cap_codec.specs.declared.word.Word.{Word}
 use Rattle.cap_codec.specs.Bounds.{bounds_of}
+use Rattle.cap_codec.specs.Bytes.{bits_of_bytes}
 use Rattle.cap_codec.specs.Fields.{bits_with, fields_of}
 use Rattle.cap_codec.specs.Mantissas.{exponent_of}
 use Rattle.cap_codec.specs.Representable.{is_representable}
 use Rattle.cap_codec.specs.Rounding.{outward_base, outward_top, with_bounds_of}
 use Rattle.heap_core.specs.Blocks.{blocks_with}
 use Rattle.heap_core.specs.Place.{IsFree, IsPlace, block_length}
-use Rattle.tag_memory.specs.Cells.{Cell, null_cell}
+use Rattle.tag_memory.specs.Cells.{Cell, Granule, null_cell}
 use Rattle.heap_trace.specs.declared.trace.Command.{Command}
-use Rattle.heap_trace.specs.declared.trace.Command.TheVariants.{Malloc, Copy, SetAddr, Narrow, AndPerm, Show}
+use Rattle.heap_trace.specs.declared.trace.Command.TheVariants.{Malloc, Copy, SetAddr, Narrow, AndPerm, StoreCap, LoadCap, Write, Show}
 use Rattle.heap_trace.specs.declared.reply.Reply.{Reply}
 use Rattle.heap_trace.specs.declared.reply.Reply.TheVariants.{Block, NoSpace, Done, Cleared}
 use Rattle.heap_trace.specs.declared.reply.Reply.TheVariants as reply
@@ -71,6 +72,45 @@ shown_of c = record {
   exponent = exponent_of (fields_of c.0);
 }
 
+-- ---- permissions and accesses
+
+-- Permissions, each by its bit (CHERI ISA version 9, UCAM-CL-TR-987: architectural permissions).
+abbrev pub load : ℕ
+load = 2 ^ 2
+
+abbrev pub store : ℕ
+store = 2 ^ 3
+
+abbrev pub load_capability : ℕ
+load_capability = 2 ^ 4
+
+abbrev pub store_capability : ℕ
+store_capability = 2 ^ 5
+
+-- The word has this permission.
+unfoldable pub allows : ℕ → Word → Bool
+allows permission w = not (bit_and (fields_of w).perms permission == 0)
+
+-- The checks of an access to the 16 bytes at the address of a register, which is allowed so.
+abbrev pub access : Cell → Bool → List (Bool × Trap)
+access c allowed =
+    let a = address_in c.0 in
+    (c.1, trap.Tag)
+    ∷ (allowed, trap.Perm)
+    ∷ (nat_le (bounds_in c.0).base a && nat_le (a + 16) (bounds_in c.0).top, trap.Bounds)
+    ∷ (a % 16 == 0, trap.Align) ∷ []
+
+-- The index of the granule at a word's address.
+abbrev pub index_in : State → Word → ℕ
+index_in s w = (address_in w - s.heap.base) / 16
+
+-- The granule there, and the state after a write to it.
+abbrev pub granule_at : State → Word → Granule
+granule_at s w = slice_index_or s.cells (index_in s w) (0, false)
+
+abbrev pub with_granule : State → Word → Granule → State
+with_granule s w granule = record s { cells = slice_set s.cells (index_in s w) granule }
+
 -- ---- steps
 
 -- The checks of a command in order, each with the trap where it fails.
@@ -82,6 +122,11 @@ checks s (Narrow rd rs n) =
     ∷ (nat_le 1 n, trap.Empty)
     ∷ (nat_le (bounds_in c.0).base a && nat_le (a + n) (bounds_in c.0).top, trap.Bounds)
     ∷ (is_exact a (a + n), trap.Inexact) ∷ []
+checks s (StoreCap ra rs) =
+    let w = (register s ra).0 in
+    access (register s ra) (allows store w && (not (register s rs).1 || allows store_capability w))
+checks s (LoadCap rd ra) = access (register s ra) (allows load (register s ra).0)
+checks s (Write ra bytes) = access (register s ra) (allows store (register s ra).0)
 checks s command = []
 
 -- The trap of the first check that fails.
@@ -107,6 +152,14 @@ Effect old (Narrow rd rs n) answer new =
 Effect old (AndPerm rd rs mask) answer new =
     let c = register old rs in
     (answer ≡ Done) × (new ≡ with_cell old rd (with_perms c.0 mask, c.1))
+Effect old (StoreCap ra rs) answer new =
+    let c = register old rs in
+    (answer ≡ Done) × (new ≡ with_granule old (register old ra).0 (c.0.bits, c.1))
+Effect old (LoadCap rd ra) answer new =
+    let w = (register old ra).0 in
+    let granule = granule_at old w in
+    (answer ≡ Done) × (new ≡ with_cell old rd (record { bits = granule.0 }, granule.1 && allows load_capability w))
+Effect old (Write ra bytes) answer new = (answer ≡ Done) × (new ≡ with_granule old (register old ra).0 (bits_of_bytes bytes, false))
 Effect old (Show rs) answer new = (answer ≡ reply.Shown (shown_of (register old rs))) × (new ≡ old)
 
 -- The step where a check fails, and where none does.

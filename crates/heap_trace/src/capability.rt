@@ -1,7 +1,8 @@
 //! The words that commands make, and what is shown of one.
 
 ghost use Rattle.std.specs.Prelude.{◌≡◌, ◌≤◌, ◌<◌, ◌^◌, IsTrue};
-ghost use Rattle.heap_trace.specs.Step.{address_in, bounds_in, capability_of, is_exact, keeps_bounds, narrowed, shown_of, with_address, with_perms};
+ghost use Rattle.heap_core.specs.Place.{IsExact};
+ghost use Rattle.heap_trace.specs.Step.{address_in, allows, bounds_in, capability_of, is_exact, keeps_bounds, narrowed, shown_of, with_address, with_perms};
 
 use crate::reply::Shown;
 use cap_codec::{
@@ -18,7 +19,8 @@ pub fn capability(block: Block) -> Word
     requires order { block.base ≤ block.top }
     requires room { block.top ≤ 2 ^ 64 }
     ensures value { result ≡ capability_of block.base block.top }
-    ensures limit { (bounds_in result).top ≤ 2 ^ 64 }
+    ensures bounds { IsExact block.base block.top
+        → bounds_in result ≡ record { base = block.base; top = block.top } }
 {
     let root = word_of(Fields {
         perms: BLOCK_PERMS,
@@ -26,6 +28,20 @@ pub fn capability(block: Block) -> Word
     });
     let (word, _) = with_bounds(root, block.base, block.top);
     word
+}
+
+// Permissions, each by its bit.
+pub const LOAD: u16 = 1 << 2;
+pub const STORE: u16 = 1 << 3;
+pub const LOAD_CAPABILITY: u16 = 1 << 4;
+pub const STORE_CAPABILITY: u16 = 1 << 5;
+
+// Whether a word has this permission.
+#[tactic(auto, unfolding(crate::specs::Step::allows))]
+pub fn allowed_by(word: Word, permission: u16) -> bool
+    ensures { result ≡ allows permission word }
+{
+    fields(word).perms & permission != 0
 }
 
 // What is shown of a register.

@@ -4,10 +4,10 @@ ghost use Rattle.std.specs.Prelude.{◌≡◌, ◌≤◌, ◌<◌, ◌∷◌, �
 ghost use Rattle.heap_trace.specs.Command.{IsValid};
 ghost use Rattle.heap_trace.specs.Heap.{IsHeap};
 ghost use Rattle.heap_trace.specs.Lines.{words_of};
-ghost use Rattle.heap_trace.specs.Reading.{command_of, command_at, heap_at, heap_of, is_heap, mask_in, number_in, one_of, register_in, three_of, two_of};
+ghost use Rattle.heap_trace.specs.Reading.{command_of, command_at, data_in, heap_at, heap_of, is_heap, mask_in, number_in, one_of, register_in, three_of, two_of};
 
 use crate::fault::{LineFault, TraceFault};
-use crate::operand::{mask, number, operand_number, register};
+use crate::operand::{data, mask, number, operand_number, register};
 use crate::trace::Command;
 use crate::words::{one_word, split_name, three_words, two_words};
 use tag_memory::{is_base, is_size};
@@ -70,6 +70,20 @@ fn registers_and_mask(operands: &[u8]) -> Result<(u8, u8, u16), LineFault>
     Ok((first, second, mask))
 }
 
+// A register and data.
+#[tactic(auto, unfolding(crate::specs::Reading::two_of))]
+fn register_and_data(operands: &[u8]) -> Result<(u8, [u8; 16]), LineFault>
+    ensures value { result ≡ two_of register_in data_in (words_of operands.now) }
+    ensures valid { IfOk result (λ read. read.0 < 32) }
+{
+    let Some((first, second)) = two_words(operands) else {
+        return Err(LineFault::BadCount);
+    };
+    let register = register(first)?;
+    let data = data(second)?;
+    Ok((register, data))
+}
+
 // One register.
 #[tactic(auto, unfolding(crate::specs::Reading::one_of))]
 fn one_register(operands: &[u8]) -> Result<u8, LineFault>
@@ -107,6 +121,18 @@ fn command(name: &[u8], operands: &[u8]) -> Result<Command, LineFault>
     if name == b"andperm".as_slice() {
         let (rd, rs, mask) = registers_and_mask(operands)?;
         return Ok(Command::AndPerm { rd, rs, mask });
+    }
+    if name == b"storecap".as_slice() {
+        let (ra, rs) = two_registers(operands)?;
+        return Ok(Command::StoreCap { ra, rs });
+    }
+    if name == b"loadcap".as_slice() {
+        let (rd, ra) = two_registers(operands)?;
+        return Ok(Command::LoadCap { rd, ra });
+    }
+    if name == b"write".as_slice() {
+        let (ra, bytes) = register_and_data(operands)?;
+        return Ok(Command::Write { ra, bytes });
     }
     if name == b"show".as_slice() {
         let rs = one_register(operands)?;

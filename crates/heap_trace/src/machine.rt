@@ -1,23 +1,26 @@
 //! The machine that runs the commands of a trace.
 
-ghost use Rattle.std.specs.Prelude.{◌≡◌, ◌↔◌, ◌+◌, IfErr, IfOk, IsOk, OnErr, false, true};
+ghost use Rattle.std.specs.Prelude.{◌≡◌, ◌↔◌, ◌<◌, ◌+◌, IfErr, IfOk, IsOk, None, OnErr, OnOk, Some, false, length, true};
 ghost use Rattle.heap_core.specs.Blocks.{bytes_of};
 ghost use Rattle.tag_memory.specs.Span as span;
 ghost use Rattle.heap_trace.specs.Command.{IsValid};
-ghost use Rattle.heap_trace.specs.State.{first_state, memory_of};
-ghost use Rattle.heap_trace.specs.Step.{Step, TakesNoMemory};
+ghost use Rattle.heap_trace.specs.State.{first_state, memory_of, register};
+ghost use Rattle.heap_trace.specs.Step.{Step, TakesNoMemory, access, first_failed, index_in};
 
-use crate::capability::{address_of, bounded, bounds_of_word, capability, masked, moved, shown};
+use crate::capability::{
+    LOAD, LOAD_CAPABILITY, STORE, STORE_CAPABILITY, address_of, allowed_by, bounded,
+    bounds_of_word, capability, masked, moved, shown,
+};
 use crate::reply::{MachineFault, Reply, Trap};
 use crate::running::Outcome;
 use crate::trace::Command;
-use cap_codec::Word;
+use cap_codec::{Word, from_bytes};
 use heap_core::{Heap, HeapFault};
 use std::alloc::Global;
 use std::marker::Model;
 use std::thread::Threads;
 use sweep_pool::{Cutting, Gate};
-use tag_memory::{Memory, MemoryFault, Registers};
+use tag_memory::{GRANULE, Memory, MemoryFault, Registers};
 
 /// One heap with its memory, and 32 registers.
 #[derive(Drop)]
@@ -92,6 +95,9 @@ impl Machine {
             Command::SetAddr { rd, rs, address } => Ok(self.set_address(rd, rs, address)),
             Command::Narrow { rd, rs, length } => Ok(self.narrow(rd, rs, length)),
             Command::AndPerm { rd, rs, mask } => Ok(self.and_perms(rd, rs, mask)),
+            Command::StoreCap { ra, rs } => Ok(self.store_cap(ra, rs)),
+            Command::LoadCap { rd, ra } => Ok(self.load_cap(rd, ra)),
+            Command::Write { ra, bytes } => Ok(self.write(ra, bytes)),
             Command::Show { rs } => Ok(self.show(rs)),
         }
     }
@@ -169,6 +175,76 @@ impl Machine {
     {
         let (word, tag) = self.registers.get(rs);
         self.registers.set(rd, masked(word, mask), tag);
+        Reply::Done
+    }
+
+    // The index of the granule at a register's address, for an access that is allowed so.
+    fn granule_at(&self, ra: u8, allowed: bool) -> Result<usize, Trap>
+        requires { ra < 32 }
+        ensures passed { OnOk result (first_failed (access (register self.now ra) allowed) ≡ None) }
+        ensures index { IfOk result (λ i. i ≡ index_in self.now (register self.now ra).0) }
+        ensures there { IfOk result (λ i. i < length self.now.cells) }
+        ensures failed { IfErr result (λ trap. first_failed (access (register self.now ra) allowed) ≡ Some trap) }
+    {
+        let (word, tag) = self.registers.get(ra);
+        if !tag {
+            return Err(Trap::Tag);
+        }
+        if !allowed {
+            return Err(Trap::Perm);
+        }
+        let within = bounds_of_word(word);
+        let address = address_of(word);
+        if address < within.base || within.top < u128::from(address) + u128::from(GRANULE) {
+            return Err(Trap::Bounds);
+        }
+        if !address.is_multiple_of(GRANULE) {
+            return Err(Trap::Align);
+        }
+        Ok(((address - self.memory.base()) / GRANULE) as usize)
+    }
+
+    fn store_cap(&mut self, ra: u8, rs: u8) -> Reply
+        requires { IsValid (Command.StoreCap ra rs) }
+        ensures { Step self.old (Command.StoreCap ra rs) result self.new }
+    {
+        let (word, tag) = self.registers.get(rs);
+        let (authority, _) = self.registers.get(ra);
+        let stores = allowed_by(authority, STORE);
+        let allowed = stores & (!tag | allowed_by(authority, STORE_CAPABILITY));
+        let i = match self.granule_at(ra, allowed) {
+            Ok(i) => i,
+            Err(trap) => return Reply::Trap(trap),
+        };
+        self.memory.put(i, word.bits, tag);
+        Reply::Done
+    }
+
+    fn load_cap(&mut self, rd: u8, ra: u8) -> Reply
+        requires { IsValid (Command.LoadCap rd ra) }
+        ensures { Step self.old (Command.LoadCap rd ra) result self.new }
+    {
+        let (authority, _) = self.registers.get(ra);
+        let i = match self.granule_at(ra, allowed_by(authority, LOAD)) {
+            Ok(i) => i,
+            Err(trap) => return Reply::Trap(trap),
+        };
+        let (bits, tag) = self.memory.cell(i);
+        let keeps = allowed_by(authority, LOAD_CAPABILITY);
+        self.registers.set(rd, Word { bits }, tag & keeps);
+        Reply::Done
+    }
+
+    fn write(&mut self, ra: u8, bytes: [u8; 16]) -> Reply
+        requires { IsValid (Command.Write ra bytes) }
+        ensures { Step self.old (Command.Write ra bytes) result self.new }
+    {
+        let (authority, _) = self.registers.get(ra);
+        let i = match self.granule_at(ra, allowed_by(authority, STORE)) {
+            Ok(i) => i,
+            Err(trap) => return Reply::Trap(trap),
+        };
+        self.memory.put(i, from_bytes(bytes).bits, false);
         Reply::Done
     }
 

@@ -1,10 +1,11 @@
-//! Registers, numbers and masks.
+//! Registers, numbers, masks and data.
 
 ghost use Rattle.std.specs.Prelude.{◌≡◌, ◌<◌, ◌≤◌, IfOk, IfSome};
-ghost use Rattle.heap_trace.specs.Reading.{all_digits_in, mask_in, number_in, number_of, numeral_of, register_in, register_of};
+ghost use Rattle.heap_trace.specs.Reading.{all_digits_in, data_in, mask_in, number_in, number_of, numeral_of, register_in, register_of};
 
 use crate::fault::LineFault;
 use crate::trace::REGISTERS;
+use hex::FromHex;
 
 fn all_digits(digits: &[u8], radix: u32) -> bool
     requires low { 2 ≤ radix }
@@ -80,4 +81,14 @@ pub fn mask(word: &[u8]) -> Result<u16, LineFault>
         Some(mask) if mask <= u64::from(u16::MAX) => Ok(mask as u16),
         _ => Err(LineFault::BadNumber),
     }
+}
+
+/// The 16 bytes that an operand writes, in the order of memory.
+pub fn data(word: &[u8]) -> Result<[u8; 16], LineFault>
+    ensures { result ≡ data_in word.now }
+{
+    let Ok(bytes) = <[u8; 16] as FromHex>::from_hex(word) else {
+        return Err(LineFault::BadData);
+    };
+    Ok(bytes)
 }

@@ -19,6 +19,9 @@ fn name(command: Command) -> &'static str
         Command::SetAddr { .. } => "setaddr",
         Command::Narrow { .. } => "narrow",
         Command::AndPerm { .. } => "andperm",
+        Command::StoreCap { .. } => "storecap",
+        Command::LoadCap { .. } => "loadcap",
+        Command::Write { .. } => "write",
         Command::Show { .. } => "show",
     }
 }

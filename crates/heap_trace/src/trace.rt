@@ -6,6 +6,7 @@ ghost use Rattle.std.specs.Prelude.{◌↔◌, IsTrue};
 pub const REGISTERS: u8 = 32;
 
 /// A command of a trace. Registers go by their numbers; sizes and lengths are in bytes.
+/// `ra` is the register whose capability allows a store or a load.
 #[derive(Clone, Copy, Debug, PartialEq, Eq)]
 pub enum Command {
     Malloc { rd: u8, size: u64 },
@@ -13,6 +14,9 @@ pub enum Command {
     SetAddr { rd: u8, rs: u8, address: u64 },
     Narrow { rd: u8, rs: u8, length: u64 },
     AndPerm { rd: u8, rs: u8, mask: u16 },
+    StoreCap { ra: u8, rs: u8 },
+    LoadCap { rd: u8, ra: u8 },
+    Write { ra: u8, bytes: [u8; 16] },
     Show { rs: u8 },
 }
 
@@ -29,6 +33,9 @@ impl Command {
             | Command::SetAddr { rd, rs, .. }
             | Command::Narrow { rd, rs, .. }
             | Command::AndPerm { rd, rs, .. } => rd < REGISTERS && rs < REGISTERS,
+            Command::StoreCap { ra, rs } => ra < REGISTERS && rs < REGISTERS,
+            Command::LoadCap { rd, ra } => rd < REGISTERS && ra < REGISTERS,
+            Command::Write { ra, .. } => ra < REGISTERS,
             Command::Show { rs } => rs < REGISTERS,
         }
     }

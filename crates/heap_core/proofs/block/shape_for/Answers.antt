@@ -11,3 +11,8 @@ returns-clause-unit c =
     let mask = c.alignment_mask-rest in
     granules_of_unit (16 * c.args.granules) (18446744073709551615 - mask.result)
     (omega (arith, mask.ensures, unit_some (16 * c.args.granules)))
+
+pub returns-clause-exact : goal.returns-clause-exact
+returns-clause-exact c =
+    let length = c.representable_length-length.ensures in
+    λ base unit room. rw (← length.value) (length.exact base unit (rw length.value room))

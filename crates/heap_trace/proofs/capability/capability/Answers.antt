@@ -16,6 +16,6 @@ returns-clause-value c =
     c.with_bounds.ensures.word ∙ ap (λ f. bits_with (with_bounds_of f c.args.block.base c.args.block.top)) root in
     ap (λ b. let w : Word = record { bits = b } in w) bits
 
-pub returns-clause-limit : goal.returns-clause-limit
+pub returns-clause-bounds : goal.returns-clause-bounds
 unfolding bounds_in
-returns-clause-limit c = subst (λ (b : Bounds). b.top ≤ 2 ^ 64) (sym c.with_bounds.ensures.bounds) c.with_bounds.ensures.limit
+returns-clause-bounds c = λ exact. c.with_bounds.ensures.bounds ∙ exact

@@ -1,13 +1,16 @@
-use Rattle.std.proofs.Common.{◌≡◌, ◌+◌, ◌*◌, ◌/◌, ◌∙◌, None, refl, sym, arith, length-set}
+use Rattle.std.proofs.Common.{◌≡◌, ◌≤◌, ◌+◌, ◌*◌, ◌/◌, ◌%◌, ◌^◌, ◌∙◌, None, refl, sym, subst, arith, length-set}
+use Rattle.cap_codec.specs.Rounding.{length_for, unit_for}
 use Rattle.heap_core.specs.Blocks.{Span}
 use Rattle.heap_core.specs.Extents.{first_fit_of}
+use Rattle.heap_core.specs.Heap.{IsSound}
+use Rattle.heap_core.specs.Place.{IsExact}
 use Rattle.heap_core.specs.Table.{blocks_of, is_live}
 use Rattle.heap_core.proofs.FreeLaws.{extents_have_room, run_is_none}
 use Rattle.heap_core.proofs.PlaceLaws.{IsPlace-from_run, IsRun-from_free, multiple-from_free, too_long}
 use Rattle.heap_core.proofs.RunLaws.{IsTable-set, held_blocks-set, live_blocks-set, table_state-set}
 use Rattle.heap_core.proofs.SizeLaws.{HasShape-shape}
 use Rattle.heap_core.proofs.SoundLaws.{IsSound-from_table}
-use Rattle.heap_core.proofs.SpanLaws.{LiesWithin-table}
+use Rattle.heap_core.proofs.SpanLaws.{LiesWithin-span, LiesWithin-table}
 use Rattle.heap_core.proofs.SumLaws.{bytes_of-blocks_with, granules_fit}
 use Rattle.heap_core.proofs.heap.Heap.reserve.Goals as goal
 
@@ -84,3 +87,16 @@ pub returns-clause-sound : goal.returns-clause-sound
 returns-clause-sound c =
     let put = c.put_block-run in
     rw put.ensures.block (IsSound-from_table _ _ _ (IsTable-set _ _ _ put.result.start _ c.self.invariant.table put.ensures.first.run))
+
+pub returns-clause-exact : goal.returns-clause-exact
+returns-clause-exact c =
+    let free = (returns-clause-place c).free in
+    let shape = c.shape_for-shape.ensures in
+    let sound : IsSound c.args.self.now = rw (← c.self.view_is) (IsSound-from_table _ _ _ c.self.invariant.table) in
+    let within = LiesWithin-span c.args.self.now.base sound.pages sound.size sound.place in
+    let base = c.self.inside.base + 16 * c.from.result in
+    let length = length_for (16 * c.granules_for-asked.result) in
+    let unit : base % unit_for (16 * c.granules_for-asked.result) ≡ 0 = rw c.granules_for-asked.ensures free.unit in
+    let end : base + length ≤ 2 ^ 64 = rw c.granules_for-asked.ensures (omega (arith, free.end, within.end, sound.bytes)) in
+    let top : base + length ≡ c.from-2.result + c.from-4.result = omega (arith, shape.granules, c.put_block-run.ensures.granules, c.from.ensures, c.from-2.ensures, c.from-3.ensures, c.from-4.ensures) in
+    subst (IsExact base) top (shape.exact base unit end)

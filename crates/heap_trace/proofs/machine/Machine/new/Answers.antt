@@ -3,4 +3,4 @@ use Rattle.heap_trace.proofs.SoundLaws.{IsSound-first}
 use Rattle.heap_trace.proofs.machine.Machine.new.Goals as goal
 
 pub invariant_of-result : goal.invariant_of-result
-invariant_of-result c = (search rules, IsSound-first _ c.new-3.ensures)
+invariant_of-result c = (search rules, IsSound-first _ c.args.base c.args.pages (search rules) (search rules) (search rules) c.new-3.ensures)
