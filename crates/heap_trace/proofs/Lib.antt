@@ -4,6 +4,7 @@ pub mod FirstLine
 pub mod FirstWord
 pub mod HeapLines
 mod HexadecimalLaws
+mod ImageLaws
 mod OnePlace
 pub mod OneRun
 pub mod OneStep

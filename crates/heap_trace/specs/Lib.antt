@@ -2,6 +2,7 @@ pub mod Command
 pub mod Display
 pub mod Grammar
 pub mod Heap
+pub mod Image
 pub mod Lines
 pub mod Outcome
 pub mod Reading

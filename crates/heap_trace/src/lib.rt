@@ -4,6 +4,7 @@
 mod capability;
 mod display;
 mod fault;
+mod image;
 mod laws;
 mod line;
 mod machine;
@@ -19,6 +20,7 @@ mod words;
 
 pub use crate::display::{Hexadecimal, Place, bit};
 pub use crate::fault::TraceFault;
+pub use crate::image::image_text;
 pub use crate::laws::{command_lines, runs, steps, texts};
 pub use crate::machine::Machine;
 pub use crate::reply::{MachineFault, Reply, Shown, Trap};
