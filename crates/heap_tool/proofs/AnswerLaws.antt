@@ -1,17 +1,21 @@
 -- What the words ask for, and what that answers.
-use Rattle.std.proofs.Common.{◌≡◌, ◌≢◌, ◌∙◌, ℕ, ap, sym, subst, List, Option, Some, Result, Ok, Err, IfOk, IfErr, codes, refl, arith}
+use Rattle.std.proofs.Common.{◌≡◌, ◌≢◌, ◌∙◌, ℕ, ap, ap₂, sym, subst, List, ◌++◌, Option, Some, Result, Ok, Err, IfOk, IfErr, codes, refl, arith}
 use Rattle.std.proofs.KnownBytes.{Appends-nil}
 use Rattle.std.specs.Io.KnownBytes.{Appends}
 use Rattle.cap_codec.specs.declared.word.Word.{Word}
 use Rattle.clap.specs.Words.{Row, Text, first_of}
 use Rattle.heap_trace.specs.declared.fault.TraceFault.{TraceFault}
 use Rattle.heap_trace.specs.declared.running.Outcome.{Outcome}
+use Rattle.heap_trace.specs.Image.{image_of}
 use Rattle.heap_trace.specs.Outcome.{IsOutcome}
 use Rattle.heap_trace.specs.Reading.{Script, trace_of}
+use Rattle.heap_trace.specs.Report.{report_text}
+use Rattle.heap_trace.specs.State.{memory_of}
 use Rattle.heap_tool.specs.declared.tool.Answer.{Answer}
+use Rattle.heap_tool.specs.declared.words.Options.{Options}
 use Rattle.heap_tool.specs.declared.words.Refusal.{Refusal}
 use Rattle.heap_tool.specs.declared.words.Refusal.TheVariants.{Memory, Words}
-use Rattle.heap_tool.specs.Answer.{Answers, BeginsAnswer, IsAnswer, IsRunAnswer, lacks_memory, most_read, names_fault, refusal_line, refusal_status, refuses, reports, shows_run, shows_word, status_of, text_of}
+use Rattle.heap_tool.specs.Answer.{Answers, BeginsAnswer, IsAnswer, IsRunAnswer, image_shown, lacks_memory, most_read, names_fault, refusal_line, refusal_status, refuses, reports, shows_run, shows_word, status_of, text_of}
 use Rattle.heap_tool.specs.Device.{AppendsBeginning, ReadsUpTo}
 use Rattle.heap_tool.specs.Text.{fault_text, memory_line, word_line}
 use Rattle.heap_tool.specs.Words.{AskForNothing, IsTextOf, Names, NamesNothing, NamesRun, NamesWord}
@@ -33,8 +37,8 @@ NamesWord-unique words a b p q =
     cc
 
 -- Words that name `word` don't name `run`.
-NamesWord-run : (words : List Text) (hex : Text) → NamesWord words hex → NamesRun words → ⊥
-NamesWord-run words hex p q = let same : codes "word" ≡ codes "run" = (Names-unique words _ _ _ _ p.names q.names).0 in absurd cc
+NamesWord-run : (words : List Text) (hex : Text) → NamesWord words hex → (options : Options) → NamesRun words options → ⊥
+NamesWord-run words hex p options q = let same : codes "word" ≡ codes "run" = (Names-unique words _ _ _ _ p.names q.names).0 in absurd cc
 
 -- Where the named text is no word's, the words ask for nothing.
 AskForNothing-text : (words : List Text) (hex : Text) → NamesWord words hex → ((w : Word) → IsTextOf hex w → ⊥) → AskForNothing words
@@ -47,25 +51,30 @@ AskForNothing-text words hex named none = record {
 
 -- ---- runs
 
--- The report of a run is its answer.
-pub IsRunAnswer-report : (input : List ℕ) (script : Script) (o : Outcome) → trace_of input ≡ Ok script → IsOutcome script o → IsRunAnswer input 0 o.report.items
-IsRunAnswer-report input script o reads is = subst (IsRunAnswer input 0) (sym is.report) (reports script is.replies is.last reads is.run)
+-- The report of a run, and the image of its memory if asked for, are its answer.
+pub IsRunAnswer-report : (input : List ℕ) (options : Options) (script : Script) (o : Outcome) (r : Result Answer Refusal) → trace_of input ≡ Ok script → IsOutcome script o
+    → IfOk r (λ answer. (answer.status ≡ 0) × (answer.text.items ≡ o.report.items ++ image_shown options (image_of o.memory))) → IfOk r (λ answer. IsRunAnswer input options answer.status answer.text.items)
+IsRunAnswer-report input options script o (Ok answer) reads is told =
+    let text : answer.text.items ≡ report_text script.commands is.replies is.last ++ image_shown options (image_of (memory_of is.last)) = told.1 ∙ ap₂ (λ xs m. xs ++ image_shown options (image_of m)) is.report is.memory in
+    let answers : IsRunAnswer input options 0 (report_text script.commands is.replies is.last ++ image_shown options (image_of (memory_of is.last))) = reports script is.replies is.last reads is.run in
+    subst (λ status. IsRunAnswer input options status answer.text.items) (sym told.0) (subst (IsRunAnswer input options 0) (sym text) answers)
+IsRunAnswer-report input options script o (Err refusal) reads is told = tt
 
 -- The line of a fault is the answer where the text has that fault.
-pub IsRunAnswer-fault : (input : List ℕ) (fault : TraceFault) (r : Result Answer Refusal) → trace_of input ≡ Err fault
-    → IfOk r (λ answer. (answer.status ≡ 3) × (answer.text.items ≡ fault_text fault)) → IfOk r (λ answer. IsRunAnswer input answer.status answer.text.items)
-IsRunAnswer-fault input fault (Ok answer) reads is =
-    subst (λ status. IsRunAnswer input status answer.text.items) (sym is.0) (subst (IsRunAnswer input 3) (sym is.1) (names_fault fault reads))
-IsRunAnswer-fault input fault (Err refusal) reads is = tt
+pub IsRunAnswer-fault : (input : List ℕ) (options : Options) (fault : TraceFault) (r : Result Answer Refusal) → trace_of input ≡ Err fault
+    → IfOk r (λ answer. (answer.status ≡ 3) × (answer.text.items ≡ fault_text fault)) → IfOk r (λ answer. IsRunAnswer input options answer.status answer.text.items)
+IsRunAnswer-fault input options fault (Ok answer) reads is =
+    subst (λ status. IsRunAnswer input options status answer.text.items) (sym is.0) (subst (IsRunAnswer input options 3) (sym is.1) (names_fault fault reads))
+IsRunAnswer-fault input options fault (Err refusal) reads is = tt
 
 -- Its status is not 4.
-run_status : (input : List ℕ) (status : ℕ) (text : List ℕ) → IsRunAnswer input status text → status ≢ 4
-run_status input status text (reports script replies last reads run) = λ e. absurd cc
-run_status input status text (names_fault fault reads) = λ e. absurd cc
+run_status : (input : List ℕ) (options : Options) (status : ℕ) (text : List ℕ) → IsRunAnswer input options status text → status ≢ 4
+run_status input options status text (reports script replies last reads run) = λ e. absurd cc
+run_status input options status text (names_fault fault reads) = λ e. absurd cc
 
-pub IsRunAnswer-status : (input : List ℕ) (r : Result Answer Refusal) → IfOk r (λ answer. IsRunAnswer input answer.status answer.text.items) → IfOk r (λ answer. answer.status ≢ 4)
-IsRunAnswer-status input (Ok answer) is = run_status input answer.status answer.text.items is
-IsRunAnswer-status input (Err refusal) is = tt
+pub IsRunAnswer-status : (input : List ℕ) (options : Options) (r : Result Answer Refusal) → IfOk r (λ answer. IsRunAnswer input options answer.status answer.text.items) → IfOk r (λ answer. answer.status ≢ 4)
+IsRunAnswer-status input options (Ok answer) is = run_status input options answer.status answer.text.items is
+IsRunAnswer-status input options (Err refusal) is = tt
 
 -- ---- answers
 
@@ -92,11 +101,11 @@ IsAnswer-word words unread left hex (Err refusal) named status is none =
     IsAnswer-refused words unread left refusal (λ e. AskForNothing-text words hex named (none (ap Err e)))
 
 -- What is answered for the bytes read answers the words that name `run`.
-pub IsAnswer-run : (words : List Text) (unread left : Option (List ℕ)) (input : List ℕ) (r : Result Answer Refusal) → NamesRun words → ReadsUpTo most_read unread left input
-    → IfOk r (λ answer. IsRunAnswer input answer.status answer.text.items) → IfErr r (λ refusal. refusal ≡ Memory) → IsAnswer words unread left (status_of r) (text_of r)
-IsAnswer-run words unread left input (Ok answer) named reads is memory = shows_run input _ _ named reads is
-IsAnswer-run words unread left input (Err Memory) named reads is memory = lacks_memory
-IsAnswer-run words unread left input (Err Words) named reads is memory = absurd cc
+pub IsAnswer-run : (words : List Text) (unread left : Option (List ℕ)) (input : List ℕ) (options : Options) (r : Result Answer Refusal) → NamesRun words options → ReadsUpTo most_read unread left input
+    → IfOk r (λ answer. IsRunAnswer input options answer.status answer.text.items) → IfErr r (λ refusal. refusal ≡ Memory) → IsAnswer words unread left (status_of r) (text_of r)
+IsAnswer-run words unread left input options (Ok answer) named reads is memory = shows_run input options _ _ named reads is
+IsAnswer-run words unread left input options (Err Memory) named reads is memory = lacks_memory
+IsAnswer-run words unread left input options (Err Words) named reads is memory = absurd cc
 
 -- An answer that was written whole.
 pub Answers-told : (words : List Text) (unread left : Option (List ℕ)) (status said : ℕ) (text : List ℕ) (old new : Option (List ℕ)) → IsAnswer words unread left said text

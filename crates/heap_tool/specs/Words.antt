@@ -1,16 +1,22 @@
 -- What the words of a command line ask for, in the terms of clap's model of a command: the rules of its
 -- arguments, the words that it takes, and the matches that it then answers.
-use Rattle.std.specs.Prelude.{◌≡◌, ℕ, List, [], Option, Ok, Some, codes, true}
+use Rattle.std.specs.Prelude.{◌≡◌, ℕ, List, [], Option, Ok, Some, codes, true, false}
 use Rattle.cap_codec.specs.declared.word.Word.{Word as CapabilityWord}
 use Rattle.cap_codec.specs.Bytes.{bits_of_bytes}
-use Rattle.clap.specs.Words.{App, Row, Rule, Text, fault_of, first_of, new_app, new_rule, subcommand_of, with_rule, with_subcommand}
+use Rattle.clap.specs.Words.{App, Row, Rule, Text, fault_of, first_of, one_of, new_app, new_rule, subcommand_of, with_rule, with_subcommand}
 use Rattle.hex.specs.Hex.{decode_sized}
+use Rattle.clap.specs.declared.builder.action.ArgAction.TheVariants.{SetTrue}
 use Rattle.heap_tool.specs.declared.words.Asked.{Asked}
+use Rattle.heap_tool.specs.declared.words.Options.{Options}
 use Rattle.heap_tool.specs.declared.words.Asked.TheVariants.{Run, Word}
 
--- The subcommand `run`.
+-- The flag --image.
+abbrev pub image_rule : Rule
+image_rule = record (new_rule (codes "image")) { long = Some (codes "image"); action = Some SetTrue }
+
+-- The subcommand `run [--image]`.
 abbrev pub run_app : App
-run_app = new_app (codes "run")
+run_app = with_rule (new_app (codes "run")) image_rule
 
 -- The argument HEX.
 abbrev pub hex_rule : Rule
@@ -37,10 +43,16 @@ pub record Names (words : List Text) (name : Text) (rows : List Row) : Type 0 wh
   pub taken : AreTaken words
   pub subcommand : subcommand_named words ≡ Some (name, rows)
 
--- The words name the subcommand `run`.
-pub record NamesRun (words : List Text) : Type 0 where
+-- These entries set the options so: clap gives a flag the value `true` or `false`.
+pub record HasOptions (rows : List Row) (options : Options) : Type 0 where
+  pub image : one_of (codes "image") rows ≡ Some (codes "true") → options.image ≡ true
+  pub no_image : one_of (codes "image") rows ≡ Some (codes "false") → options.image ≡ false
+
+-- The words name the subcommand `run`, with these options.
+pub record NamesRun (words : List Text) (options : Options) : Type 0 where
   pub rows : List Row
   pub names : Names words (codes "run") rows
+  pub set : HasOptions rows options
 
 -- The words name the subcommand `word`, with this text for HEX.
 pub record NamesWord (words : List Text) (hex : Text) : Type 0 where
@@ -50,12 +62,12 @@ pub record NamesWord (words : List Text) (hex : Text) : Type 0 where
 
 -- What the words ask for.
 abbrev pub AsksFor : List Text → Asked → Type 0
-AsksFor words Run = NamesRun words
+AsksFor words (Run options) = NamesRun words options
 AsksFor words (Word hex) = NamesWord words hex.now
 
 -- The words name no subcommand, or `word` without a text.
 pub record NamesNothing (words : List Text) : Type 0 where
-  pub run : NamesRun words → ⊥
+  pub run : (options : Options) → NamesRun words options → ⊥
   pub word : (hex : Text) → NamesWord words hex → ⊥
 
 -- The text is 32 hexadecimal digits of either case: the 16 bytes of this word.
@@ -72,5 +84,5 @@ pub record AsksForLineOf (words : List Text) (w : CapabilityWord) : Type 0 where
 
 -- The words ask for nothing: clap doesn't take them, or they ask neither for a run nor for the line of a word.
 pub record AskForNothing (words : List Text) : Type 0 where
-  pub run : NamesRun words → ⊥
+  pub run : (options : Options) → NamesRun words options → ⊥
   pub word : (w : CapabilityWord) → AsksForLineOf words w → ⊥

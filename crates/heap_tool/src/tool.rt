@@ -1,19 +1,21 @@
 //! The program over any devices.
 
-ghost use Rattle.std.specs.Prelude.{◌≡◌, ◌≢◌, ◌↔◌, ◌||◌, IfErr, IfOk, Ok, false, length, string_bytes, true};
+ghost use Rattle.std.specs.Prelude.{◌≡◌, ◌≢◌, ◌↔◌, ◌||◌, ◌++◌, IfErr, IfOk, Ok, false, length, string_bytes, true};
 ghost use Rattle.std.specs.Io.KnownBytes.{Appends};
 ghost use Rattle.cap_codec.specs.declared.word.Word.{Word};
 ghost use Rattle.clap.specs.Walk.{texts};
-ghost use Rattle.heap_tool.specs.Answer.{Answers, BeginsAnswer, IsRunAnswer, refusal_line, refusal_status, status_of, text_of};
+ghost use Rattle.heap_trace.specs.Image.{image_of};
+ghost use Rattle.heap_tool.specs.declared.words.Options.{Options as TheOptions};
+ghost use Rattle.heap_tool.specs.Answer.{Answers, BeginsAnswer, IsRunAnswer, image_shown, refusal_line, refusal_status, status_of, text_of};
 ghost use Rattle.heap_tool.specs.Device.{AppendsBeginning};
 ghost use Rattle.heap_tool.specs.Text.{fault_text, word_line};
 ghost use Rattle.heap_tool.specs.Words.{IsTextOf, NamesRun};
 
 use crate::devices::{Failed, ReadFault, Sink, Source, read_text, send};
 use crate::text::{fault_line, line_of};
-use crate::words::{Asked, Refusal, asked_by};
+use crate::words::{Asked, Options, Refusal, asked_by};
 use cap_codec::from_bytes;
-use heap_trace::{RunFault, TraceFault, run};
+use heap_trace::{Outcome, RunFault, TraceFault, image_text, run};
 use hex::FromHex;
 use std::alloc::{AllocError, Global};
 use std::thread::Threads;
@@ -49,14 +51,14 @@ pub fn tool<'a, R: Threads + Sync, I: Source, O: Sink>(
     ensures part { result ≡ 4 → BeginsAnswer (texts words.entry.now) (I.remaining reader.old) (I.remaining reader.new)
         (O.contents writer.old) (O.contents writer.new) }
     ensures failed { (result ≡ 4) ↔ ((I.failed reader.new || O.failed writer.new) ≡ true) }
-    ensures unread { (NamesRun (texts words.entry.now) → ⊥) → reader.new ≡ reader.old }
+    ensures unread { ((options : TheOptions) → NamesRun (texts words.entry.now) options → ⊥) → reader.new ≡ reader.old }
     // Where a read failed nothing is written.
     ensures unwritten { I.failed reader.new ≡ true → writer.new ≡ writer.old }
 {
     match asked_by(alloc, words) {
         Ok(Asked::Word(hex)) => tell(writer, word_answer(alloc, hex)),
-        Ok(Asked::Run) => match read_text(alloc, reader) {
-            Ok(text) => tell(writer, run_answer(rt, alloc, &text)),
+        Ok(Asked::Run(options)) => match read_text(alloc, reader) {
+            Ok(text) => tell(writer, run_answer(rt, alloc, &text, options)),
             Err(ReadFault::Memory) => refuse(writer, Refusal::Memory),
             Err(ReadFault::Failed) => 4,
         },
@@ -123,23 +125,45 @@ fn word_answer(alloc: Global, hex: &str) -> Result<Answer, Refusal>
     }
 }
 
-// The report of the trace that this text is, or the line of its fault.
-fn run_answer<R: Threads + Sync>(rt: &R, alloc: Global, text: &[u8]) -> Result<Answer, Refusal>
-    ensures ok { IfOk result (λ answer. IsRunAnswer text.now answer.status answer.text.items) }
+// The report of the trace that this text is, and the image if asked for, or the line of its fault.
+fn run_answer<R: Threads + Sync>(
+    rt: &R,
+    alloc: Global,
+    text: &[u8],
+    options: Options,
+) -> Result<Answer, Refusal>
+    ensures ok { IfOk result (λ answer. IsRunAnswer text.now options answer.status answer.text.items) }
     ensures err { IfErr result (λ refusal. refusal ≡ Refusal.Memory) }
 {
     match run(rt, alloc, text, cutting()) {
-        Ok(outcome) => Ok(Answer {
-            status: 0,
-            text: outcome.report,
-        }),
+        Ok(outcome) => outcome_answer(alloc, outcome, options),
         Err(RunFault::Memory) => Err(Refusal::Memory),
         Err(RunFault::Trace(fault)) => fault_answer(alloc, &fault),
     }
 }
 
+// The report that a run leaves, and the image after it if asked for.
+fn outcome_answer(alloc: Global, outcome: Outcome, options: Options) -> Result<Answer, Refusal>
+    ensures ok { IfOk result (λ answer. (answer.status ≡ 0)
+        × (answer.text.items ≡ outcome.report.items ++ image_shown options (image_of outcome.memory))) }
+    ensures err { IfErr result (λ refusal. refusal ≡ Refusal.Memory) }
+{
+    let mut text = outcome.report;
+    if options.image {
+        let Ok(image) = image_text(alloc, &outcome.memory) else {
+            return Err(Refusal::Memory);
+        };
+        let Ok(()) = text.extend_from_slice(&image) else {
+            return Err(Refusal::Memory);
+        };
+    }
+    Ok(Answer { status: 0, text })
+}
+
 // One worker, with 16 pages a task.
-fn cutting() -> Cutting {
+fn cutting() -> Cutting
+    ensures { result ≡ record { workers = 1; pages_per_task = 16 } }
+{
     Cutting::new(1, 16).unwrap()
 }
 

@@ -2,21 +2,28 @@
 
 ghost use Rattle.std.specs.Prelude.{◌≡◌, ◌↔◌, IfErr, IfOk, OnOk, false};
 ghost use Rattle.clap.specs.Walk.{texts};
-ghost use Rattle.clap.specs.Words.{app_of, kind_of, rule_of, subcommand_rows_of};
+ghost use Rattle.clap.specs.Words.{app_of, found_of, kind_of, rows_of, rule_of, subcommand_rows_of};
 ghost use Rattle.clap.specs.declared.builder.command.Command.TheViews.{out-Command as fields_of};
-ghost use Rattle.heap_tool.specs.Words.{AreTaken, AsksFor, NamesNothing, hex_rule, run_app, subcommand_named, tool_app, word_app};
+ghost use Rattle.heap_tool.specs.Words.{AreTaken, AsksFor, HasOptions, NamesNothing, hex_rule, image_rule, run_app, subcommand_named, tool_app, word_app};
 
 use clap::error::ErrorKind;
-use clap::{Arg, ArgMatches, Command, Error};
+use clap::{Arg, ArgAction, ArgMatches, Command, Error};
 use std::alloc::{AllocError, Global};
 
 /// What the words of a command line ask for.
 #[derive(Drop)]
 pub enum Asked<'a> {
     /// The run of the trace that standard input has.
-    Run,
+    Run(Options),
     /// The line of one word, whose text stands as it was written.
     Word(&'a str),
+}
+
+/// How a trace is run.
+#[derive(Clone, Copy, Debug, PartialEq, Eq)]
+pub struct Options {
+    /// Whether the image is written after the report.
+    pub image: bool,
 }
 
 /// Why nothing is asked for.
@@ -41,7 +48,7 @@ pub fn asked_by<'a>(alloc: Global, words: &'a [&'a str]) -> Result<Asked<'a>, Re
         return Err(Refusal::Words);
     };
     if name == "run" {
-        return Ok(Asked::Run);
+        return Ok(Asked::Run(options_of(inner)));
     }
     if name != "word" {
         return Err(Refusal::Words);
@@ -50,6 +57,15 @@ pub fn asked_by<'a>(alloc: Global, words: &'a [&'a str]) -> Result<Asked<'a>, Re
         return Err(Refusal::Words);
     };
     Ok(Asked::Word(hex))
+}
+
+// The options of `run`.
+fn options_of(matches: &ArgMatches<'_>) -> Options
+    ensures { HasOptions (rows_of (found_of matches.now)) result }
+{
+    Options {
+        image: matches.get_flag("image"),
+    }
 }
 
 // Anything but want of memory is the words' fault.
@@ -76,18 +92,27 @@ fn parsed<'a>(alloc: Global, words: &'a [&'a str]) -> Result<ArgMatches<'a>, Err
 fn tool_command<'a>(alloc: Global) -> Result<Command<'a>, AllocError>
     ensures { IfOk result (λ command. app_of command ≡ tool_app) }
 {
-    let run = run_command(alloc);
+    let run = run_command(alloc)?;
     let word = word_command(alloc)?;
     Command::new(alloc, "heap_tool")
         .subcommand(run)?
         .subcommand(word)
 }
 
-fn run_command<'a>(alloc: Global) -> Command<'a>
-    ensures app { app_of result ≡ run_app }
-    ensures local { (fields_of result).has_globals ≡ false }
+fn run_command<'a>(alloc: Global) -> Result<Command<'a>, AllocError>
+    ensures app { IfOk result (λ command. app_of command ≡ run_app) }
+    ensures local { IfOk result (λ command. (fields_of command).has_globals ≡ false) }
 {
-    Command::new(alloc, "run")
+    Command::new(alloc, "run").arg(image_arg(alloc))
+}
+
+fn image_arg<'a>(alloc: Global) -> Arg<'a>
+    ensures rule { rule_of result ≡ image_rule }
+    ensures local { result.global ≡ false }
+{
+    Arg::new(alloc, "image")
+        .long("image")
+        .action(ArgAction::SetTrue)
 }
 
 fn word_command<'a>(alloc: Global) -> Result<Command<'a>, AllocError>

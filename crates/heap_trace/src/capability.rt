@@ -32,8 +32,11 @@ pub fn capability(block: Block) -> Word
 
 // Permissions, each by its bit.
 pub const LOAD: u16 = 1 << 2;
+
 pub const STORE: u16 = 1 << 3;
+
 pub const LOAD_CAPABILITY: u16 = 1 << 4;
+
 pub const STORE_CAPABILITY: u16 = 1 << 5;
 
 // Whether a word has this permission.

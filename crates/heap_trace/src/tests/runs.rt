@@ -1,6 +1,6 @@
 //! Traces with their reports.
 
-use crate::{Outcome, RunFault, TraceFault, run};
+use crate::{Outcome, RunFault, TraceFault, image_text, run};
 use std::alloc::Global;
 use std::test::Fail;
 use std::thread::Threads;
@@ -182,6 +182,92 @@ fn derived_capabilities_are_shown(rt: HostRuntime) -> Result<(), Fail> {
     Ok(())
 }
 
+// Stores and loads, with each of their traps.
+const STORES: &str = "heap 0x40000000 1
+malloc c1 32
+storecap c1 c1
+andperm c2 c1 0xd
+loadcap c3 c2
+show c3
+storecap c2 c1
+storecap c2 c3
+write c2 000102030405060708090a0b0c0d0e0f
+setaddr c4 c1 0x40000008
+loadcap c5 c4
+setaddr c4 c1 0x40000018
+loadcap c5 c4
+loadcap c5 c3
+";
+
+const STORES_REPORT: &str = "2 malloc block 0x40000000 0x40000020
+3 storecap ok
+4 andperm ok
+5 loadcap ok
+6 show tag 0 address 0x40000000 base 0x40000000 top 0x40000020 perms 0x3d type 0x3ffff exponent 0
+7 storecap trap perm
+8 storecap ok
+9 write ok
+10 setaddr ok
+11 loadcap trap align
+12 setaddr ok
+13 loadcap trap bounds
+14 loadcap trap tag
+end live 32 held 0 free 4064 tags 3
+";
+
+#[test]
+fn stores_and_loads_ask_for_permission(rt: HostRuntime) -> Result<(), Fail> {
+    let outcome = answer(&rt, rt.alloc(), STORES).map_err(|_| "it is a trace")?;
+    assert_eq!(rt; outcome.report.as_slice(), STORES_REPORT.as_bytes());
+    let image = image_text(rt.alloc(), &outcome.memory).map_err(|_| "there is memory")?;
+    let line = "0x40000000 0 000102030405060708090a0b0c0d0e0f\n";
+    assert_eq!(rt; image.as_slice(), line.as_bytes());
+    Ok(())
+}
+
+// A capability goes through memory whole, and a write over it takes its tag.
+const THROUGH_MEMORY: &str = "heap 0x40000000 1
+malloc c1 32
+malloc c2 64
+storecap c1 c2
+loadcap c3 c1
+show c3
+write c1 ffffffffffffffffffffffffffffffff
+loadcap c4 c1
+show c4
+andperm c5 c1 0x29
+loadcap c6 c5
+write c5 00000000000000000000000000000000
+andperm c7 c1 0x1d
+storecap c7 c1
+storecap c7 c0
+";
+
+const THROUGH_MEMORY_REPORT: &str = "2 malloc block 0x40000000 0x40000020
+3 malloc block 0x40000020 0x40000060
+4 storecap ok
+5 loadcap ok
+6 show tag 1 address 0x40000020 base 0x40000020 top 0x40000060 perms 0x3d type 0x3ffff exponent 0
+7 write ok
+8 loadcap ok
+9 show tag 0 address 0xffffffffffffffff base 0xfffffffffffffffb top 0x10000000000000ff9 perms 0xffff type 0x0 exponent 0
+10 andperm ok
+11 loadcap trap perm
+12 write ok
+13 andperm ok
+14 storecap trap perm
+15 storecap ok
+end live 96 held 0 free 4000 tags 5
+";
+
+#[test]
+fn capabilities_go_through_memory(rt: HostRuntime) -> Result<(), Fail> {
+    let outcome = answer(&rt, rt.alloc(), THROUGH_MEMORY).map_err(|_| "it is a trace")?;
+    assert_eq!(rt; outcome.report.as_slice(), THROUGH_MEMORY_REPORT.as_bytes());
+    assert_eq!(rt; outcome.memory.tagged(), 0);
+    Ok(())
+}
+
 #[test]
 fn faulty_traces_are_not_run(rt: HostRuntime) {
     let cases = [
@@ -193,6 +279,10 @@ fn faulty_traces_are_not_run(rt: HostRuntime) {
             TraceFault::BadRegister(2),
         ),
         ("heap 0x40000000 1\nmalloc c1\n", TraceFault::BadCount(2)),
+        (
+            "heap 0x40000000 1\nmalloc c1 16\nwrite c1 0001\n",
+            TraceFault::BadData(3),
+        ),
     ];
     for (text, fault) in cases {
         let refusal = answer(&rt, rt.alloc(), text).err();

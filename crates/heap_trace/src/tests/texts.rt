@@ -67,6 +67,22 @@ fn command_lines_with_a_fault(rt: HostRuntime) -> Result<(), Fail> {
         ("andperm c32 c2 x", TraceFault::BadRegister(2)),
         ("andperm c1 c2 65536", TraceFault::BadNumber(2)),
         ("andperm c1 c2 0x10000", TraceFault::BadNumber(2)),
+        ("storecap c1", TraceFault::BadCount(2)),
+        ("loadcap c1 c32", TraceFault::BadRegister(2)),
+        ("write c1", TraceFault::BadCount(2)),
+        ("write x y", TraceFault::BadRegister(2)),
+        (
+            "write c1 0x0102030405060708090a0b0c0d0e0f",
+            TraceFault::BadData(2),
+        ),
+        (
+            "write c1 000102030405060708090a0b0c0d0e0g",
+            TraceFault::BadData(2),
+        ),
+        (
+            "write c1 000102030405060708090a0b0c0d0e0f0",
+            TraceFault::BadData(2),
+        ),
     ];
     for (line, fault) in cases {
         let answer = after_heap(rt.alloc(), line.as_bytes())?.err();
@@ -140,6 +156,15 @@ fn words_that_are_fine(rt: HostRuntime) -> Result<(), Fail> {
         ("\tmalloc c1 16\r", Command::Malloc { rd: 1, size: 16 }),
         (" copy \t c9\rc29 ", Command::Copy { rd: 9, rs: 29 }),
         ("show c2\n", Command::Show { rs: 2 }),
+        ("storecap c5 c6", Command::StoreCap { ra: 5, rs: 6 }),
+        ("loadcap c5 c6", Command::LoadCap { rd: 5, ra: 6 }),
+        (
+            "write c5 000102030405060708090A0b0c0d0e0f",
+            Command::Write {
+                ra: 5,
+                bytes: [0, 1, 2, 3, 4, 5, 6, 7, 8, 9, 10, 11, 12, 13, 14, 15],
+            },
+        ),
         (
             "malloc c1 18446744073709551615",
             Command::Malloc {
@@ -282,6 +307,15 @@ fn commands_that_are_valid(rt: HostRuntime) {
                 rd: 0,
                 rs: 255,
                 mask: 0,
+            },
+            false,
+        ),
+        (Command::StoreCap { ra: 32, rs: 0 }, false),
+        (Command::LoadCap { rd: 0, ra: 32 }, false),
+        (
+            Command::Write {
+                ra: 32,
+                bytes: [0; 16],
             },
             false,
         ),

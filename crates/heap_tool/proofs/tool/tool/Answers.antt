@@ -23,8 +23,8 @@ returns-in-Ok-Word-clause-part g c = λ e. BeginsAnswer-told _ _ _ _ _ _ _ (word
 
 run_is : (g : Over) (c : goal.After-drop-text g) → IsAnswer (texts c.args.words.now) (g.I.Source.remaining c.args.reader.now) (g.I.Source.remaining c.read_text.new.reader) (status_of c.run_answer.result) (text_of c.run_answer.result)
 run_is g c =
-    let named : NamesRun (texts c.args.words.now) = search rules in
-    IsAnswer-run (texts c.args.words.now) _ _ c.in-Ok.text.items c.run_answer.result named c.in-Ok.ensures.ok (search rules) c.run_answer.ensures.err
+    let named : NamesRun (texts c.args.words.now) c.in-Ok-Run.options = search rules in
+    IsAnswer-run (texts c.args.words.now) _ _ c.in-Ok.text.items c.in-Ok-Run.options c.run_answer.result named c.in-Ok.ensures.ok (search rules) c.run_answer.ensures.err
 
 pub returns-in-Ok-clause-whole : goal.returns-in-Ok-clause-whole
 returns-in-Ok-clause-whole g c = λ e. Answers-told _ _ _ _ _ _ _ _ (run_is g c) (c.tell-in-Ok.ensures.whole e)

@@ -16,20 +16,20 @@ both f g n r (Some b) e h =
     let is_r : g b ≡ r = cc in
     ap₂ (λ x y. Some (x, y)) is_n is_r
 
--- The matches name `word`, with these entries.
-names_word : (words : List Text) (m : ArgMatches) (inner : List Row) → AreTaken words → subcommand_rows_of m ≡ subcommand_named words → subcommand_name_of m ≡ Some (codes "word")
-    → Some inner ≡ option_map (λ (p : Text × List Row). p.1) (subcommand_rows_of m) → Names words (codes "word") inner
-names_word words m inner taken matches name rows =
-    let found : subcommand_rows_of m ≡ Some (codes "word", inner) = both _ _ _ _ _ name (sym rows) in
+-- The matches name this subcommand, with these entries.
+names_this : (words : List Text) (m : ArgMatches) (this : Text) (inner : List Row) → AreTaken words → subcommand_rows_of m ≡ subcommand_named words → subcommand_name_of m ≡ Some this
+    → Some inner ≡ option_map (λ (p : Text × List Row). p.1) (subcommand_rows_of m) → Names words this inner
+names_this words m this inner taken matches name rows =
+    let found : subcommand_rows_of m ≡ Some (this, inner) = both _ _ _ _ _ name (sym rows) in
     record { taken = taken; subcommand = sym matches ∙ found }
 
 pub returns-in_default-get_str-clause-refused : goal.returns-in_default-get_str-clause-refused
 returns-in_default-get_str-clause-refused c = λ e.
     let inner = rows_of (found_of c.in-Some.inner.now) in
-    let names = names_word (texts c.args.words.now) c.in-Ok.matches inner c.in-Ok.ensures.taken c.in-Ok.ensures.matches (search rules) c.in-Some.ensures.rows in
+    let names = names_this (texts c.args.words.now) c.in-Ok.matches (codes "word") inner c.in-Ok.ensures.taken c.in-Ok.ensures.matches (search rules) c.in-Some.ensures.rows in
     let none : first_of (codes "hex") inner ≡ None = search (rules, first_value-rows) in
     record {
-      run = λ named. let same : codes "word" ≡ codes "run" = (Names-unique _ _ _ _ _ names named.names).0 in absurd cc;
+      run = λ options named. let same : codes "word" ≡ codes "run" = (Names-unique _ _ _ _ _ names named.names).0 in absurd cc;
       word = λ hex named.
           let rows : named.rows ≡ inner = (Names-unique _ _ _ _ _ named.names names).1 in
           let some : first_of (codes "hex") inner ≡ Some hex = ap (first_of (codes "hex")) (sym rows) ∙ named.value in
@@ -41,6 +41,6 @@ returns-clause-ok c =
     let inner = rows_of (found_of c.in-Some.inner.now) in
     record {
       rows = inner;
-      names = names_word (texts c.args.words.now) c.in-Ok.matches inner c.in-Ok.ensures.taken c.in-Ok.ensures.matches (search rules) c.in-Some.ensures.rows;
+      names = names_this (texts c.args.words.now) c.in-Ok.matches (codes "word") inner c.in-Ok.ensures.taken c.in-Ok.ensures.matches (search rules) c.in-Some.ensures.rows;
       value = search (rules, first_value-rows);
     }
