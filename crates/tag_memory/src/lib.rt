@@ -1,6 +1,7 @@
 //! Tagged memory, granule by granule, and the registers of a machine.
 #![tactic(auto)]
 
+mod bits;
 mod memory;
 mod registers;
 mod span;

@@ -1,9 +1,12 @@
 //! Tagged memory.
 
-ghost use Rattle.std.specs.Prelude.{◌≡◌, ◌↔◌, ◌<◌, ◌*◌, ◌^◌, IfOk, Some, count_by, false, length, slice_get, slice_set, true};
+ghost use Rattle.std.specs.Prelude.{◌≡◌, ◌↔◌, ◌<◌, ◌+◌, ◌*◌, ℕ, IfOk, Some, count_by, false, length, slice_get, slice_set, true};
 ghost use Rattle.tag_memory.specs.Cells.{IsMemory, new_memory};
 ghost use Rattle.tag_memory.specs.Span as span;
+ghost use Rattle.tag_memory.specs.Tags.{is_set, is_tagged, without_tags};
+ghost use Rattle.tag_memory.specs.Tags as tags;
 
+use crate::bits::{WORD_TAGS, bit, with_bit};
 use crate::span::{PAGE_GRANULES, is_base, is_size};
 use std::alloc::Global;
 use std::marker::Model;
@@ -23,24 +26,30 @@ pub enum MemoryFault {
     BadSize,
 }
 
-/// The granules of some pages, each 16 bytes with one tag.
+/// Words of tags a page.
+const PAGE_WORDS: usize = PAGE_GRANULES as usize / WORD_TAGS;
+
+/// The granules of some pages, each 16 bytes with one tag. Bit `j` of word `w` of the tags is that of
+/// granule `64 * w + j`.
 #[derive(Drop)]
 pub struct Memory {
     base: u64,
     pages: u32,
-    cells: Vec<(u128, bool)>,
+    bits: Vec<u128>,
+    tags: Vec<u64>,
 }
 
 impl Model for Memory {
     ghost use Rattle.std.specs.Prelude.{◌≡◌, ◌*◌, length, true};
     ghost use Rattle.tag_memory.specs.Cells.{MemoryState};
     ghost use Rattle.tag_memory.specs.Span.{is_base, is_size};
+    ghost use Rattle.tag_memory.specs.Tags.{granules_of};
 
     ghost Value = { MemoryState };
 
-    ghost view = { λ m. record { base = m.base; cells = m.cells.items } };
+    ghost view = { λ m. record { base = m.base; cells = granules_of m.bits.items m.tags.items } };
 
-    ghost invariant = { λ m. (length m.cells.items ≡ 256 * m.pages) × (is_size m.pages ≡ true) × (is_base m.base m.pages ≡ true) };
+    ghost invariant = { λ m. (length m.bits.items ≡ 256 * m.pages) × (length m.tags.items ≡ 4 * m.pages) × (is_size m.pages ≡ true) × (is_base m.base m.pages ≡ true) };
 }
 
 impl Memory {
@@ -58,10 +67,18 @@ impl Memory {
         if !is_base(base, u64::from(pages)) {
             return Err(MemoryFault::BadBase);
         }
-        let Ok(cells) = vec![in alloc; (0, false); PAGE_GRANULES as usize * pages as usize] else {
+        let Ok(bits) = vec![in alloc; 0; PAGE_GRANULES as usize * pages as usize] else {
             return Err(MemoryFault::Memory);
         };
-        Ok(Memory { base, pages, cells })
+        let Ok(tags) = vec![in alloc; 0; PAGE_WORDS * pages as usize] else {
+            return Err(MemoryFault::Memory);
+        };
+        Ok(Memory {
+            base,
+            pages,
+            bits,
+            tags,
+        })
     }
 
     /// The first address.
@@ -83,7 +100,7 @@ impl Memory {
     pub fn granules(&self) -> usize
         ensures { result ≡ length self.now.cells }
     {
-        self.cells.len()
+        self.bits.len()
     }
 
     /// The number that a granule's bytes hold, and its tag. Granules are counted from the base.
@@ -91,7 +108,7 @@ impl Memory {
         requires { i < length self.now.cells }
         ensures { slice_get self.now.cells i ≡ Some result }
     {
-        self.cells[i]
+        (self.bits[i], bit(self.tags[i / WORD_TAGS], i % WORD_TAGS))
     }
 
     /// Writes a granule's bytes and its tag.
@@ -99,14 +116,40 @@ impl Memory {
         requires { i < length self.old.cells }
         ensures { self.new ≡ record self.old { cells = slice_set self.old.cells i (bits, tag) } }
     {
-        let cell = &mut self.cells[i];
-        *cell = (bits, tag);
+        self.bits[i] = bits;
+        let word = &mut self.tags[i / WORD_TAGS];
+        *word = with_bit(*word, i % WORD_TAGS, tag);
+    }
+
+    /// The tags of granules `64 * w` to `64 * w + 63`, the first in bit 0.
+    pub fn tag_word(&self, w: usize) -> u64
+        requires { 64 * w < length self.now.cells }
+        ensures value { result ≡ tags.tag_word self.now.cells w }
+        ensures bits { (j : ℕ) → j < 64 → is_set result j ≡ is_tagged self.now.cells (64 * w + j) }
+    {
+        self.tags[w]
+    }
+
+    /// Takes each tag whose bit is 1 in the masks, which lie as the words of tags do.
+    pub fn clear_tags(&mut self, masks: &[u64])
+        requires { 64 * length masks.now ≡ length self.old.cells }
+        ensures value { self.new ≡ record self.old { cells = without_tags masks.now self.old.cells } }
+        ensures count { length self.new.cells ≡ length self.old.cells }
+    {
+        for (w, mask) in masks.iter().enumerate() {
+            let word = &mut self.tags[w];
+            *word &= !mask;
+        }
     }
 
     /// How many granules are tagged.
     pub fn tagged(&self) -> usize
         ensures { result ≡ count_by (λ cell. cell.1) self.now.cells }
     {
-        self.cells.iter().filter(|cell| cell.1).count()
+        let mut count = 0;
+        for word in &self.tags {
+            count += word.count_ones() as usize;
+        }
+        count
     }
 }

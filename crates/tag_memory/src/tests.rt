@@ -30,6 +30,18 @@ fn granules_are_written(rt: HostRuntime) -> Result<(), Fail> {
 }
 
 #[test]
+fn tags_are_packed(rt: HostRuntime) -> Result<(), Fail> {
+    let mut memory = Memory::new(rt.alloc(), 0, 1)?;
+    memory.put(65, 5, true);
+    assert_eq!(rt; memory.tag_word(1), 2);
+    memory.clear_tags(&[0, 1, 0, 0]);
+    assert_eq!(rt; memory.tag_word(1), 2);
+    memory.clear_tags(&[0, 2, 0, 0]);
+    assert_eq!(rt; memory.cell(65), (5, false));
+    Ok(())
+}
+
+#[test]
 fn registers_are_written(rt: HostRuntime) {
     let word = Word { bits: 7 };
     let mut registers = Registers::new();

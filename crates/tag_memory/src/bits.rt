@@ -1,0 +1,24 @@
+//! Single bits of a word of tags.
+
+ghost use Rattle.std.specs.Prelude.{◌≡◌, ◌<◌, ◌==◌, ℕ, if◌then◌else◌};
+ghost use Rattle.tag_memory.specs.Tags.{is_set};
+
+/// Bits a word, each a tag.
+pub const WORD_TAGS: usize = 64;
+
+/// Whether bit `j` is 1.
+pub fn bit(word: u64, j: usize) -> bool
+    requires { j < 64 }
+    ensures { result ≡ is_set word j }
+{
+    (word >> j) & 1 == 1
+}
+
+/// The word with this bit `j`.
+pub fn with_bit(word: u64, j: usize, bit: bool) -> u64
+    requires { j < 64 }
+    ensures { (k : ℕ) → k < 64 → is_set result k ≡ (if k == j then bit else is_set word k) }
+{
+    let place = 1 << j;
+    if bit { word | place } else { word & !place }
+}
