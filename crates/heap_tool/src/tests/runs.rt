@@ -10,6 +10,17 @@ const WORDS: &[&str] = &["heap_tool", "run"];
 
 // What the program writes for this text, read and written in pieces of so many bytes, after its status.
 fn answer<R: Threads + Sync>(rt: &R, alloc: Global, text: &[u8], step: usize) -> (u8, Vec<u8>) {
+    answer_for(rt, alloc, WORDS, text, step)
+}
+
+// The same for these words.
+fn answer_for<R: Threads + Sync>(
+    rt: &R,
+    alloc: Global,
+    words: &[&str],
+    text: &[u8],
+    step: usize,
+) -> (u8, Vec<u8>) {
     let mut reader = Slow {
         rest: text,
         step: step.max(1),
@@ -22,7 +33,7 @@ fn answer<R: Threads + Sync>(rt: &R, alloc: Global, text: &[u8], step: usize) ->
         room: 10_000,
         has_failed: false,
     };
-    let status = tool(rt, alloc, WORDS, &mut reader, &mut writer);
+    let status = tool(rt, alloc, words, &mut reader, &mut writer);
     (status, writer.taken)
 }
 
@@ -64,6 +75,45 @@ fn traces_are_run(rt: HostRuntime) {
     }
 }
 
+// A capability that data is written over, and one in the next granule that stays.
+const OVERWRITTEN: &str = "heap 0x40000000 1
+malloc c1 32
+storecap c1 c1
+setaddr c2 c1 0x40000010
+storecap c2 c1
+write c1 000102030405060708090a0b0c0d0e0f
+";
+
+const OVERWRITTEN_REPORT: &str = "2 malloc block 0x40000000 0x40000020
+3 storecap ok
+4 setaddr ok
+5 storecap ok
+6 write ok
+end live 32 held 0 free 4064 tags 3
+";
+
+const OVERWRITTEN_IMAGE: &str = "0x40000000 0 000102030405060708090a0b0c0d0e0f
+0x40000010 1 00000040000000000480090400003d00
+";
+
+#[test]
+fn an_image_comes_after_the_report(rt: HostRuntime) {
+    let words = ["heap_tool", "run", "--image"];
+    for step in [5, 1000] {
+        let (status, text) = answer_for(&rt, rt.alloc(), &words, OVERWRITTEN.as_bytes(), step);
+        assert_eq!(rt; status, 0);
+        let (report, image) = text.split_at(OVERWRITTEN_REPORT.len().min(text.len()));
+        assert_eq!(rt; report, OVERWRITTEN_REPORT.as_bytes());
+        assert_eq!(rt; image, OVERWRITTEN_IMAGE.as_bytes());
+    }
+    let (status, text) = answer(&rt, rt.alloc(), OVERWRITTEN.as_bytes(), 1000);
+    assert_eq!(rt; status, 0);
+    assert_eq!(rt; text.as_slice(), OVERWRITTEN_REPORT.as_bytes());
+    let (status, text) = answer_for(&rt, rt.alloc(), &words, b"heap 0x40000000 0", 1000);
+    assert_eq!(rt; status, 3);
+    assert_eq!(rt; text.as_slice(), "fault bad-heap 1\n".as_bytes());
+}
+
 #[test]
 fn faulty_texts_are_not_run(rt: HostRuntime) {
     let rows = [
@@ -83,6 +133,10 @@ fn faulty_texts_are_not_run(rt: HostRuntime) {
             "fault bad-command 3\n",
         ),
         ("heap 0x40000000 1\nsweep", "fault bad-command 2\n"),
+        (
+            "heap 0x40000000 1\nmalloc c1 16\nwrite c1 0001",
+            "fault bad-data 3\n",
+        ),
     ];
     for (trace, line) in rows {
         let (status, text) = answer(&rt, rt.alloc(), trace.as_bytes(), 1000);
@@ -224,6 +278,28 @@ fn a_refused_allocation_of_a_run_is_told(rt: HostRuntime) {
     } else {
         assert_eq!(rt; status, 0);
         assert_eq!(rt; writer.text(), report.as_bytes());
+    }
+}
+
+// As above, with the image.
+#[test]
+fn a_refused_allocation_of_an_image_is_told(rt: HostRuntime) {
+    let mut reader = Slow {
+        rest: b"heap 0x40000000 1\nmalloc c1 16\nstorecap c1 c0\nwrite c1 ff000000000000000000000000000000",
+        step: 1000,
+        breaks: false,
+        has_failed: false,
+    };
+    let mut writer = Fixed::new();
+    let words = ["heap_tool", "run", "--image"];
+    let status = tool(&rt, rt.alloc(), &words, &mut reader, &mut writer);
+    let text =
+        "2 malloc block 0x40000000 0x40000010\n3 storecap ok\n4 write ok\nend live 16 held 0 free 4080 tags 1\n0x40000000 0 ff000000000000000000000000000000\n";
+    if status == 1 {
+        assert_eq!(rt; writer.text(), b"fault memory\n".as_slice());
+    } else {
+        assert_eq!(rt; status, 0);
+        assert_eq!(rt; writer.text(), text.as_bytes());
     }
 }
 

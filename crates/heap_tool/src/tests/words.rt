@@ -64,13 +64,14 @@ fn words_are_shown(rt: HostRuntime) {
 
 #[test]
 fn other_words_are_refused(rt: HostRuntime) {
-    let all: [&[&str]; 26] = [
+    let all: [&[&str]; 27] = [
         &[],
         &["heap_tool"],
         &["heap_tool", "00000000000000000000000000000000"],
         &["heap_tool", "frob"],
         &["heap_tool", "run", "trace"],
-        &["heap_tool", "run", "--image"],
+        &["heap_tool", "run", "--image", "--image"],
+        &["heap_tool", "run", "--image=true"],
         &["heap_tool", "run", "--workers", "1"],
         &["heap_tool", "run", "--cut", "16"],
         &["heap_tool", "run", "run"],
