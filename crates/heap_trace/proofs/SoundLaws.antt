@@ -1,5 +1,5 @@
 -- The state of every machine is sound.
-use Rattle.std.proofs.Common.{◌≡◌, ◌∙◌, ℕ, ◌<◌, ◌≤◌, ◌+◌, ◌*◌, ◌/◌, ◌-◌, ◌%◌, ◌^◌, ◌&&◌, Bool, true, false, cond, eqb, List, length, get_or, set, refl, sym, ap, subst, arith}
+use Rattle.std.proofs.Common.{◌≡◌, ◌∙◌, ℕ, ◌<◌, ◌≤◌, ◌+◌, ◌*◌, ◌%◌, ◌^◌, Bool, true, false, cond, eqb, List, length, get_or, set, sym, ap, subst, arith}
 use Rattle.std.specs.Prelude.{◌==◌, All, IsTrue, nat_le, replicate}
 use Rattle.std.proofs.lemmas.Bool.Decides.{nat_tests}
 use Rattle.std.proofs.lemmas.List.{length-replicate, length-set}
@@ -11,8 +11,8 @@ use Rattle.heap_trace.proofs.Digits.{and_true}
 use Rattle.tag_memory.specs.Span.{is_base}
 use Rattle.tag_memory.specs.Cells.{Cell, Granule, new_registers, null_cell}
 use Rattle.heap_trace.specs.Sound.{HoldsInside, IsInside, IsSound}
-use Rattle.heap_trace.specs.State.{State, first_state, register, with_cell}
-use Rattle.heap_trace.specs.Step.{bounds_in, index_in, with_granule}
+use Rattle.heap_trace.specs.State.{State, register, with_cell}
+use Rattle.heap_trace.specs.Step.{bounds_in}
 
 either : {A : Type 0} (P : A → Type 0) (b : Bool) (x y : A) → P x → P y → P (cond b x y)
 either P true x y p q = p

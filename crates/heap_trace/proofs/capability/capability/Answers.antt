@@ -1,5 +1,4 @@
-use Rattle.std.proofs.Common.{◌≡◌, ◌≤◌, ◌^◌, ap, ◌∙◌, subst, sym}
-use Rattle.cap_codec.specs.declared.word.Bounds.{Bounds}
+use Rattle.std.proofs.Common.{◌≡◌, ap, ◌∙◌}
 use Rattle.cap_codec.specs.declared.word.Fields.{Fields}
 use Rattle.cap_codec.specs.declared.word.Word.{Word}
 use Rattle.cap_codec.specs.Fields.{bits_with, fields_of}
