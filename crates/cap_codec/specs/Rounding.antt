@@ -1,7 +1,7 @@
 -- Bounds rounded outward to what a word can hold, and the lengths that a word can hold (Woodruff et al.
 -- 2019, CHERI Concentrate: encoding of the bounds; CHERI ISA version 9, UCAM-CL-TR-987: representable
 -- length and alignment mask).
-use Rattle.std.specs.Prelude.{◌<◌, ◌≤◌, ◌+◌, ◌-◌, ◌*◌, ◌/◌, ◌%◌, ◌^◌, nat_lt, zero, suc, ℕ, Bool, true, false, if◌then◌else◌}
+use Rattle.std.specs.Prelude.{◌≡◌, ◌<◌, ◌≤◌, ◌+◌, ◌-◌, ◌*◌, ◌/◌, ◌%◌, ◌^◌, nat_lt, zero, suc, ℕ, Bool, true, false, if◌then◌else◌}
 use Rattle.cap_codec.specs.declared.word.Bounds.{Bounds}
 use Rattle.cap_codec.specs.declared.word.Fields.{Fields}
 
@@ -64,6 +64,10 @@ outward_top base top = if is_short base top then top else round_up (exponent_for
 
 abbrev pub outward : ℕ → ℕ → Bounds
 outward base top = record { base = outward_base base top; top = outward_top base top }
+
+-- A word can hold these bounds as they are.
+abbrev pub IsExact : ℕ → ℕ → Type 0
+IsExact base top = outward base top ≡ record { base = base; top = top }
 
 -- The fields with these bounds, rounded outward, and the address at `base`; permissions, reserved, flag and
 -- type stay. The low 3 bits of rounded mantissas are 0, and the exponent's two halves take their place.

@@ -4,7 +4,7 @@ ghost use Rattle.std.specs.Prelude.{◌≡◌, ◌<◌, ◌≤◌, ◌+◌, ◌-
 ghost use Rattle.cap_codec.specs.Bounds.{bounds_of};
 ghost use Rattle.cap_codec.specs.Fields.{IsValid, bits_with, fields_of};
 ghost use Rattle.cap_codec.specs.Mantissas.{exponent_of};
-ghost use Rattle.cap_codec.specs.Rounding.{Fits, IsExponent, IsNearExponent, exponent_for, length_for, outward, round_down, round_up, unit_for, with_bounds_of};
+ghost use Rattle.cap_codec.specs.Rounding.{Fits, IsExact, IsExponent, IsNearExponent, exponent_for, length_for, outward, round_down, round_up, unit_for, with_bounds_of};
 
 use crate::decode::{fields, word_of};
 use crate::word::{Bounds, Fields, Word};
@@ -24,7 +24,7 @@ pub fn with_bounds(w: Word, base: u64, top: u128) -> (Word, bool)
     ensures word { result.0.bits ≡ bits_with (with_bounds_of (fields_of w) base top) }
     ensures bounds { bounds_of (fields_of result.0) ≡ outward base top }
     ensures limit { (outward base top).top ≤ 2 ^ 64 }
-    ensures exact { IsTrue result.1 ↔ (outward base top ≡ record { base = base; top = top }) }
+    ensures exact { IsTrue result.1 ↔ IsExact base top }
 
     // Bounds that aren't short get the least exponent that is enough.
     ensures exponent { 2 ^ 12 ≤ top - base
@@ -42,12 +42,11 @@ pub fn representable_length(n: u64) -> u128
     ensures value { result ≡ length_for n }
     ensures least { n ≤ result }
     ensures limit { result ≤ 2 ^ 64 }
-    ensures minimal { (m : ℕ) → n ≤ m → m ≤ 2 ^ 64 → outward 0 m ≡ record { base = 0; top = m }
-        → result ≤ m }
+    ensures minimal { (m : ℕ) → n ≤ m → m ≤ 2 ^ 64 → IsExact 0 m → result ≤ m }
 
     // A word holds it from each multiple of its unit on.
     ensures exact { (base : ℕ) → base % unit_for n ≡ 0 → base + result ≤ 2 ^ 64
-        → outward base (base + result) ≡ record { base = base; top = base + result } }
+        → IsExact base (base + result) }
 {
     outward_bounds(0, u128::from(n)).top
 }

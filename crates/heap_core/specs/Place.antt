@@ -1,7 +1,7 @@
 -- Where a block goes: to the least place that is free. That choice is this project's profile. How
 -- long the block is, and what its start is a multiple of, follow from what a capability can hold.
 use Rattle.std.specs.Prelude.{◌≡◌, ◌≤◌, ◌+◌, ◌%◌, ℕ, max, All, Option, Result, IfOk, IfSome}
-use Rattle.cap_codec.specs.Rounding.{length_for, outward, round_up, unit_for}
+use Rattle.cap_codec.specs.Rounding.{length_for, round_up, unit_for}
 use Rattle.heap_core.specs.Blocks.{IsApart}
 use Rattle.heap_core.specs.Heap.{HeapState}
 
@@ -31,10 +31,6 @@ pub record IsFree (s : HeapState) (size a : ℕ) : Type 0 where
 pub record IsPlace (s : HeapState) (size a : ℕ) : Type 0 where
   pub free : IsFree s size a
   pub least : (b : ℕ) → IsFree s size b → a ≤ b
-
--- A capability can hold these bounds as they are.
-abbrev pub IsExact : ℕ → ℕ → Type 0
-IsExact base top = outward base top ≡ record { base = base; top = top }
 
 -- P of the value in an `Ok (Some ..)`.
 abbrev pub IfOkSome : {T E : Type 0} → Result (Option T) E → (T → Type 0) → Type 0

@@ -1,8 +1,8 @@
 //! Blocks, and what a block of a size needs.
 
 ghost use Rattle.std.specs.Prelude.{◌≡◌, ◌<◌, ◌≤◌, ◌+◌, ◌*◌, ◌%◌, ◌^◌, ℕ, max};
-ghost use Rattle.cap_codec.specs.Rounding.{length_for, unit_for};
-ghost use Rattle.heap_core.specs.Place.{IsExact, granule_size};
+ghost use Rattle.cap_codec.specs.Rounding.{IsExact, length_for, unit_for};
+ghost use Rattle.heap_core.specs.Place.{granule_size};
 
 use cap_codec::{alignment_mask, representable_length};
 use tag_memory::GRANULE;

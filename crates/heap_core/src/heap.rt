@@ -1,9 +1,10 @@
 //! One heap, and where its blocks lie.
 
 ghost use Rattle.std.specs.Prelude.{◌≡◌, ◌↔◌, ◌≤◌, ◌+◌, ℕ, IfOk, IsOk, IsOkUnless, false, true};
+ghost use Rattle.cap_codec.specs.Rounding.{IsExact};
 ghost use Rattle.heap_core.specs.Blocks.{blocks_with, bytes_of};
 ghost use Rattle.heap_core.specs.Heap.{IsSound, empty_heap};
-ghost use Rattle.heap_core.specs.Place.{IfOkSome, IsExact, IsFree, IsPlace, block_length};
+ghost use Rattle.heap_core.specs.Place.{IfOkSome, IsFree, IsPlace, block_length};
 ghost use Rattle.tag_memory.specs.Span as span;
 
 use crate::block::{Block, granules_for, shape_for};

@@ -2,6 +2,7 @@
 
 use crate::{Block, Heap, HeapFault};
 use std::process::Abort;
+use std::test::Fail;
 
 const BASE: u64 = 0x4000_0000;
 
@@ -24,6 +25,20 @@ fn faults_are_told(rt: HostRuntime) {
         let made = Heap::new(rt.alloc(), base, pages);
         assert_eq!(rt; made.err(), fault, "at {base:x}, {pages} pages");
     }
+}
+
+#[test]
+fn faults_by_their_names(rt: HostRuntime) -> Result<(), Fail> {
+    let cases = [
+        (HeapFault::Memory, "Memory"),
+        (HeapFault::BadBase, "BadBase"),
+        (HeapFault::BadSize, "BadSize"),
+    ];
+    for (fault, name) in cases {
+        let message = format!(in rt.alloc(); "{fault}")?;
+        assert_eq!(rt; message.as_str(), name);
+    }
+    Ok(())
 }
 
 // A size that is asked for, with the base and top of the block that it gets, if any.

@@ -1,6 +1,6 @@
 -- What the words of a command line ask for, in the terms of clap's model of a command: the rules of its
 -- arguments, the words that it takes, and the matches that it then answers.
-use Rattle.std.specs.Prelude.{◌≡◌, ℕ, List, [], Option, Ok, Some, codes, true, false}
+use Rattle.std.specs.Prelude.{◌≡◌, ℕ, List, [], None, Option, Ok, Some, codes, true, false}
 use Rattle.cap_codec.specs.declared.word.Word.{Word as CapabilityWord}
 use Rattle.cap_codec.specs.Bytes.{bits_of_bytes}
 use Rattle.clap.specs.Words.{App, Row, Rule, Text, fault_of, first_of, one_of, new_app, new_rule, subcommand_of, with_rule, with_subcommand}
@@ -43,10 +43,12 @@ pub record Names (words : List Text) (name : Text) (rows : List Row) : Type 0 wh
   pub taken : AreTaken words
   pub subcommand : subcommand_named words ≡ Some (name, rows)
 
--- These entries set the options so: clap gives a flag the value `true` or `false`.
+-- These entries set the options so: clap gives a flag the value `true` or `false`, and a flag without an
+-- entry isn't set.
 pub record HasOptions (rows : List Row) (options : Options) : Type 0 where
   pub image : one_of (codes "image") rows ≡ Some (codes "true") → options.image ≡ true
   pub no_image : one_of (codes "image") rows ≡ Some (codes "false") → options.image ≡ false
+  pub unnamed : one_of (codes "image") rows ≡ None → options.image ≡ false
 
 -- The words name the subcommand `run`, with these options.
 pub record NamesRun (words : List Text) (options : Options) : Type 0 where

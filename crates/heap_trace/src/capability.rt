@@ -1,7 +1,7 @@
 //! The words that commands make, and what is shown of one.
 
 ghost use Rattle.std.specs.Prelude.{◌≡◌, ◌≤◌, ◌<◌, ◌^◌, IsTrue};
-ghost use Rattle.heap_core.specs.Place.{IsExact};
+ghost use Rattle.cap_codec.specs.Rounding.{IsExact};
 ghost use Rattle.heap_trace.specs.Step.{address_in, allows, bounds_in, capability_of, is_exact, keeps_bounds, narrowed, shown_of, with_address, with_perms};
 
 use crate::reply::Shown;

@@ -179,7 +179,7 @@ impl Machine {
     }
 
     // The index of the granule at a register's address, for an access that is allowed so.
-    fn granule_at(&self, ra: u8, allowed: bool) -> Result<usize, Trap>
+    fn granule_index(&self, ra: u8, allowed: bool) -> Result<usize, Trap>
         requires { ra < 32 }
         ensures passed { OnOk result (first_failed (access (register self.now ra) allowed) ≡ None) }
         ensures index { IfOk result (λ i. i ≡ index_in self.now (register self.now ra).0) }
@@ -212,7 +212,7 @@ impl Machine {
         let (authority, _) = self.registers.get(ra);
         let stores = allowed_by(authority, STORE);
         let allowed = stores & (!tag | allowed_by(authority, STORE_CAPABILITY));
-        let i = match self.granule_at(ra, allowed) {
+        let i = match self.granule_index(ra, allowed) {
             Ok(i) => i,
             Err(trap) => return Reply::Trap(trap),
         };
@@ -225,7 +225,7 @@ impl Machine {
         ensures { Step self.old (Command.LoadCap rd ra) result self.new }
     {
         let (authority, _) = self.registers.get(ra);
-        let i = match self.granule_at(ra, allowed_by(authority, LOAD)) {
+        let i = match self.granule_index(ra, allowed_by(authority, LOAD)) {
             Ok(i) => i,
             Err(trap) => return Reply::Trap(trap),
         };
@@ -240,7 +240,7 @@ impl Machine {
         ensures { Step self.old (Command.Write ra bytes) result self.new }
     {
         let (authority, _) = self.registers.get(ra);
-        let i = match self.granule_at(ra, allowed_by(authority, STORE)) {
+        let i = match self.granule_index(ra, allowed_by(authority, STORE)) {
             Ok(i) => i,
             Err(trap) => return Reply::Trap(trap),
         };

@@ -17,6 +17,19 @@ fn cuttings_are_judged(rt: HostRuntime) {
 }
 
 #[test]
+fn faults_by_their_names(rt: HostRuntime) -> Result<(), Fail> {
+    let cases = [
+        (CutFault::BadWorkers, "BadWorkers"),
+        (CutFault::BadTask, "BadTask"),
+    ];
+    for (fault, name) in cases {
+        let message = format!(in rt.alloc(); "{fault}")?;
+        assert_eq!(rt; message.as_str(), name);
+    }
+    Ok(())
+}
+
+#[test]
 fn tasks_are_counted(rt: HostRuntime) -> Result<(), Fail> {
     let cutting = Cutting::new(4, 3)?;
     assert_eq!(rt; (cutting.workers(), cutting.pages_per_task()), (4, 3));

@@ -55,6 +55,20 @@ fn registers_are_written(rt: HostRuntime) {
     assert_eq!(rt; registers.get(1), (word, true));
 }
 
+#[test]
+fn faults_by_their_names(rt: HostRuntime) -> Result<(), Fail> {
+    let cases = [
+        (MemoryFault::Memory, "Memory"),
+        (MemoryFault::BadBase, "BadBase"),
+        (MemoryFault::BadSize, "BadSize"),
+    ];
+    for (fault, name) in cases {
+        let message = format!(in rt.alloc(); "{fault}")?;
+        assert_eq!(rt; message.as_str(), name);
+    }
+    Ok(())
+}
+
 // Run with each allocation refused in turn, too.
 #[test]
 fn a_refused_allocation_is_told(rt: HostRuntime) {

@@ -44,3 +44,17 @@ fn a_machine_does_one_command_after_another(rt: HostRuntime) -> Result<(), Fail>
     );
     Ok(())
 }
+
+#[test]
+fn faults_by_their_names(rt: HostRuntime) -> Result<(), Fail> {
+    let cases = [
+        (MachineFault::Memory, "Memory"),
+        (MachineFault::BadBase, "BadBase"),
+        (MachineFault::BadSize, "BadSize"),
+    ];
+    for (fault, name) in cases {
+        let message = format!(in rt.alloc(); "{fault}")?;
+        assert_eq!(rt; message.as_str(), name);
+    }
+    Ok(())
+}

@@ -291,6 +291,19 @@ fn faulty_traces_are_not_run(rt: HostRuntime) {
 }
 
 #[test]
+fn faults_by_their_names(rt: HostRuntime) -> Result<(), Fail> {
+    let cases = [
+        (RunFault::Memory, "Memory"),
+        (RunFault::Trace(TraceFault::NoHeap(1)), "Trace"),
+    ];
+    for (fault, name) in cases {
+        let message = format!(in rt.alloc(); "{fault}")?;
+        assert_eq!(rt; message.as_str(), name);
+    }
+    Ok(())
+}
+
+#[test]
 fn a_refused_allocation_of_a_run_is_told(rt: HostRuntime) {
     let (text, report) = REPORTS[2];
     match answer(&rt, rt.alloc(), text) {

@@ -1,9 +1,8 @@
 use Rattle.std.proofs.Common.{◌≡◌, ◌≤◌, ◌+◌, ◌*◌, ◌/◌, ◌%◌, ◌^◌, ◌∙◌, None, refl, sym, subst, arith, length-set}
-use Rattle.cap_codec.specs.Rounding.{length_for, unit_for}
+use Rattle.cap_codec.specs.Rounding.{IsExact, length_for, unit_for}
 use Rattle.heap_core.specs.Blocks.{Span}
 use Rattle.heap_core.specs.Extents.{first_fit_of}
 use Rattle.heap_core.specs.Heap.{IsSound}
-use Rattle.heap_core.specs.Place.{IsExact}
 use Rattle.heap_core.specs.Table.{blocks_of, is_live}
 use Rattle.heap_core.proofs.FreeLaws.{extents_have_room, run_is_none}
 use Rattle.heap_core.proofs.PlaceLaws.{IsPlace-from_run, IsRun-from_free, multiple-from_free, too_long}
