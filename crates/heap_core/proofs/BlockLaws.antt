@@ -81,19 +81,19 @@ blocks_with_first keeps base i (n ∷ lengths) (mark ∷ marks) start bytes lt =
       | inr is ↦ rw is (blocks_with_first keeps base (i + 1) lengths marks start bytes (omega arith))
     ]
 
--- A block at a granule where none started is one more, where its mark passes.
-pub blocks_of-set : (keeps : Bool → Bool) (base i : ℕ) (lengths : List ℕ) (marks : List Bool) (k n start : ℕ) (mark : Bool)
-    → k < length lengths → length marks ≡ length lengths → get_or lengths k 0 ≡ 0 → 0 < n → keeps mark ≡ true
-    → start ≡ base + 16 * (i + k)
+-- A block at a granule is one more, where its mark passes and none there did.
+pub blocks_of-set : (keeps : Bool → Bool) (base i : ℕ) (lengths : List ℕ) (marks : List Bool) (d : Bool) (k n start : ℕ) (mark : Bool)
+    → k < length lengths → length marks ≡ length lengths → (nat_lt 0 (get_or lengths k 0) && keeps (get_or marks k d)) ≡ false
+    → 0 < n → keeps mark ≡ true → start ≡ base + 16 * (i + k)
     → blocks_of keeps base i (set lengths k n) (set marks k mark) ≡ blocks_with (start, 16 * n) (blocks_of keeps base i lengths marks)
-blocks_of-set keeps base i [] marks k n start mark lt same none some kept at = absurd (omega arith)
-blocks_of-set keeps base i (m ∷ lengths) [] k n start mark lt same none some kept at = absurd (omega arith)
-blocks_of-set keeps base i (m ∷ lengths) (old ∷ marks) zero n start mark lt same none some kept at =
+blocks_of-set keeps base i [] marks d k n start mark lt same none some kept at = absurd (omega arith)
+blocks_of-set keeps base i (m ∷ lengths) [] d k n start mark lt same none some kept at = absurd (omega arith)
+blocks_of-set keeps base i (m ∷ lengths) (old ∷ marks) d zero n start mark lt same none some kept at =
     let first : base + 16 * i ≡ start = omega arith in
     let later = blocks_with_first keeps base (i + 1) lengths marks start (16 * n) (omega arith) in
     rw (none, lt-ltb 0 n some, kept, first) (sym later)
-blocks_of-set keeps base i (m ∷ lengths) (old ∷ marks) (suc k) n start mark lt same none some kept at =
-    let rest = blocks_of-set keeps base (i + 1) lengths marks k n start mark (omega arith) (omega arith) none some kept (omega arith) in
+blocks_of-set keeps base i (m ∷ lengths) (old ∷ marks) d (suc k) n start mark lt same none some kept at =
+    let rest = blocks_of-set keeps base (i + 1) lengths marks d k n start mark (omega arith) (omega arith) none some kept (omega arith) in
     elim (cases_Bool (nat_lt 0 m && keeps old)) [
       | inl is ↦ rw (is, le-ltb start (base + 16 * i) (omega arith)) (ap (λ blocks. (base + 16 * i, 16 * m) ∷ blocks) rest)
       | inr is ↦ rw is rest

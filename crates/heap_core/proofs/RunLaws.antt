@@ -128,7 +128,7 @@ pub live_blocks-set : (base : ℕ) (lengths : List ℕ) (marks : List Bool) (p n
     ≡ blocks_with (base + 16 * p, 16 * n) (blocks_of is_live base 0 lengths marks)
 live_blocks-set base lengths marks p n same run =
     let none = run_is_empty lengths p n p run (omega arith) (omega (arith, run.some)) in
-    blocks_of-set is_live base 0 lengths marks p n (base + 16 * p) false (omega (arith, run.end, run.some)) same none run.some refl (omega arith)
+    blocks_of-set is_live base 0 lengths marks true p n (base + 16 * p) false (omega (arith, run.end, run.some)) same (rw none refl) run.some refl (omega arith)
 
 -- The same blocks are held.
 pub held_blocks-set : (base : ℕ) (lengths : List ℕ) (marks : List Bool) (p n : ℕ) → IsRun lengths p n

@@ -17,7 +17,7 @@ bytes_of-blocks_with block (b ∷ blocks) =
     ]
 
 -- Each block is live or held.
-bytes_of_both : (base i : ℕ) (lengths : List ℕ) (marks : List Bool) → length marks ≡ length lengths
+pub bytes_of_both : (base i : ℕ) (lengths : List ℕ) (marks : List Bool) → length marks ≡ length lengths
     → bytes_of (blocks_of is_live base i lengths marks) + bytes_of (blocks_of is_held base i lengths marks) ≡ 16 * sum lengths
 bytes_of_both base i [] marks same = omega arith
 bytes_of_both base i (n ∷ lengths) [] same = absurd (omega arith)

@@ -1,5 +1,6 @@
 -- Blocks as a caller sees them. A list of blocks is in the order of their starts.
-use Rattle.std.specs.Prelude.{◌+◌, ◌≤◌, ◌⊎◌, nat_lt, ℕ, List, [], ◌∷◌, sum_by, if◌then◌else◌}
+use Rattle.std.specs.Prelude.{◌+◌, ◌≤◌, ◌⊎◌, ◌==◌, ◌&&◌, nat_le, nat_lt, not, ℕ, Bool, List, [], ◌∷◌, filter, sum_by, if◌then◌else◌}
+use Rattle.std.specs.List.{list_any}
 
 -- A block: its start, which is an address, and its length in bytes.
 abbrev pub Span : Type 0
@@ -28,6 +29,26 @@ abbrev pub blocks_with : Span → List Span → List Span
 blocks_with block [] = block ∷ []
 blocks_with block (b ∷ blocks) =
     if nat_lt (start_of block) (start_of b) then block ∷ b ∷ blocks else b ∷ blocks_with block blocks
+
+-- The block has just these bounds.
+abbrev pub has_bounds : ℕ → ℕ → Span → Bool
+has_bounds base top block = (start_of block == base) && (end_of block == top)
+
+-- One of the blocks has just these bounds.
+abbrev pub is_block : List Span → ℕ → ℕ → Bool
+is_block blocks base top = list_any (has_bounds base top) blocks
+
+-- The blocks but that one.
+abbrev pub blocks_without : ℕ → ℕ → List Span → List Span
+blocks_without base top blocks = filter (λ block. not (has_bounds base top block)) blocks
+
+-- The address lies in the block.
+abbrev pub has_address : ℕ → Span → Bool
+has_address a block = nat_le (start_of block) a && nat_lt a (end_of block)
+
+-- The address lies in one of the blocks.
+abbrev pub lies_in : List Span → ℕ → Bool
+lies_in blocks a = list_any (has_address a) blocks
 
 -- The bytes of all the blocks.
 abbrev pub bytes_of : List Span → ℕ

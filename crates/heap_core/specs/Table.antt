@@ -1,6 +1,6 @@
 -- How a heap is stored: as a table, which has for each granule the length in granules of the block
 -- that starts there, or 0, and a mark that says whether that block is held; and as free extents.
-use Rattle.std.specs.Prelude.{◌≡◌, ◌<◌, ◌≤◌, ◌+◌, ◌*◌, ◌%◌, nat_lt, ◌&&◌, ◌||◌, not, if◌then◌else◌, ℕ, zero, suc, Bool, true, false, List, [], ◌∷◌, ◌++◌, length, slice_index, vec_capacity}
+use Rattle.std.specs.Prelude.{◌≡◌, ◌<◌, ◌≤◌, ◌+◌, ◌-◌, ◌*◌, ◌%◌, nat_lt, ◌&&◌, ◌||◌, not, if◌then◌else◌, ℕ, zero, suc, Bool, true, false, List, [], ◌∷◌, ◌++◌, length, slice_index, vec_capacity}
 use Rattle.heap_core.specs.Blocks.{Span, bytes_of}
 use Rattle.heap_core.specs.Extents.{IsGapped, covers}
 use Rattle.heap_core.specs.Heap.{HeapState}
@@ -43,6 +43,19 @@ is_taken k [] = false
 is_taken zero (n ∷ lengths) = nat_lt 0 n
 is_taken (suc k) (n ∷ lengths) = nat_lt (suc k) n || is_taken k lengths
 
+-- The lengths of the blocks whose marks pass the test, and 0 in place of all others.
+abbrev pub kept_lengths : (Bool → Bool) → List ℕ → List Bool → List ℕ
+kept_lengths keeps [] marks = []
+kept_lengths keeps (n ∷ lengths) [] = []
+kept_lengths keeps (n ∷ lengths) (mark ∷ marks) = (if keeps mark then n else 0) ∷ kept_lengths keeps lengths marks
+
+-- The block from start to top starts at granule k.
+pub record IsBlockAt (base : ℕ) (lengths : List ℕ) (start top k : ℕ) : Type 0 where
+  pub within : k < length lengths
+  pub some : 0 < slice_index lengths k
+  pub start_is : start ≡ base + 16 * k
+  pub top_is : top ≡ start + 16 * slice_index lengths k
+
 -- The n granules from p on, at least one, lie in no block.
 pub record IsRun (lengths : List ℕ) (p n : ℕ) : Type 0 where
   pub some : 0 < n
@@ -70,6 +83,15 @@ pub record IsTable (base : ℕ) (lengths : List ℕ) (marks : List Bool) : Type 
 pub record AreFree (lengths : List ℕ) (extents : List Extent) : Type 0 where
   pub gapped : IsGapped 0 (length lengths) extents
   pub free : (k : ℕ) → k < length lengths → covers extents k ≡ not (is_taken k lengths)
+
+-- The extents are those of the first `at` granules, across which no block reaches. Unless all granules
+-- are done, a block ends at `at`, or nothing is done yet.
+pub record AreFreeUpTo (lengths : List ℕ) (extents : List Extent) (at : ℕ) : Type 0 where
+  pub within : at ≤ length lengths
+  pub whole : (j : ℕ) → j < at → j + slice_index lengths j ≤ at
+  pub gapped : IsGapped 0 at extents
+  pub gap : at < length lengths → IsGapped 0 (at - 1) extents
+  pub free : (k : ℕ) → k < at → covers extents k ≡ not (is_taken k lengths)
 
 -- The parts of a heap agree, and there is room for as many extents as there can be: since no two
 -- touch, half as many as granules.

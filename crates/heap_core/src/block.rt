@@ -14,6 +14,17 @@ pub struct Block {
     pub top: u128,
 }
 
+/// What became of bounds that were released.
+#[derive(Debug, Clone, Copy, PartialEq, Eq, Hash)]
+pub enum Freed {
+    /// They are those of a live block, which is now held.
+    Held,
+    /// They are those of a block that is held already.
+    AlreadyHeld,
+    /// They are not exactly those of a block.
+    NotBlock,
+}
+
 /// How many granules a block has, and the number of which its first granule, counted from address
 /// 0, is a multiple.
 #[derive(Clone, Copy)]

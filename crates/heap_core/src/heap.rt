@@ -7,6 +7,8 @@ ghost use Rattle.heap_core.specs.Heap.{IsSound, empty_heap};
 ghost use Rattle.heap_core.specs.Place.{IfOkSome, IsFree, IsPlace, block_length};
 ghost use Rattle.tag_memory.specs.Span as span;
 
+mod quarantine;
+
 use crate::block::{Block, granules_for, shape_for};
 use crate::extent::{Extent, first_fit};
 use crate::fault::HeapFault;

@@ -4,11 +4,14 @@
 mod block;
 mod extent;
 mod fault;
+mod free;
 mod heap;
+mod shadow;
 mod table;
 #[cfg(test)]
 mod tests;
 
-pub use crate::block::Block;
+pub use crate::block::{Block, Freed};
 pub use crate::fault::HeapFault;
 pub use crate::heap::Heap;
+pub use crate::shadow::Shadow;

@@ -1,6 +1,6 @@
 //! Heaps that are refused, and blocks that lie where they should.
 
-use crate::{Block, Heap, HeapFault};
+use crate::{Block, Freed, Heap, HeapFault, Shadow};
 use std::process::Abort;
 use std::test::Fail;
 
@@ -128,4 +128,106 @@ fn a_refused_allocation_is_told(rt: HostRuntime) {
         Ok(heap) => assert_eq!(rt; heap.free_bytes(), 4096),
         Err(fault) => assert_eq!(rt; fault, HeapFault::Memory),
     }
+}
+
+#[test]
+fn a_block_goes_through_quarantine(rt: HostRuntime) {
+    let mut heap = Heap::new(rt.alloc(), BASE, 1).expect(&rt, "a heap");
+    blocks_lie(&rt, &mut heap, &[(32, Some((0x4000_0000, 0x4000_0020)))]);
+    let releases = [
+        (0x4000_0010, Freed::NotBlock),
+        (0x4000_0020, Freed::Held),
+        (0x4000_0020, Freed::AlreadyHeld),
+    ];
+    for (top, freed) in releases {
+        let released = heap.release(BASE, top).expect(&rt, "memory");
+        assert_eq!(rt; released, freed, "up to {top:x}");
+    }
+    let shadow = heap.shadow(rt.alloc()).expect(&rt, "memory");
+    granules_are_painted(&rt, &shadow, 0, 2);
+    heap.prepare().expect(&rt, "memory");
+    assert!(rt; heap.is_prepared());
+    assert_eq!(rt; heap.give_back(), 32);
+    assert_eq!(rt; heap.free_bytes(), 4096);
+}
+
+// Just the granules `first` to `end - 1` are painted.
+fn granules_are_painted(rt: &impl Abort, shadow: &Shadow, first: usize, end: usize) {
+    for granule in 0..shadow.granules() {
+        let is_held = (first..end).contains(&granule);
+        assert_eq!(rt; shadow.painted(granule), is_held, "granule {granule}");
+    }
+}
+
+// The held block covers parts of three words of the shadow.
+#[test]
+fn a_long_block_is_painted(rt: HostRuntime) {
+    let mut heap = Heap::new(rt.alloc(), BASE, 1).expect(&rt, "a heap");
+    let requests = [
+        (0x3e0, Some((0x4000_0000, 0x4000_03e0))),
+        (0x440, Some((0x4000_03e0, 0x4000_0820))),
+        (16, Some((0x4000_0820, 0x4000_0830))),
+    ];
+    blocks_lie(&rt, &mut heap, &requests);
+    let freed = heap.release(0x4000_03e0, 0x4000_0820);
+    assert_eq!(rt; freed, Ok(Freed::Held));
+    let shadow = heap.shadow(rt.alloc()).expect(&rt, "memory");
+    granules_are_painted(&rt, &shadow, 62, 130);
+}
+
+#[test]
+fn a_held_block_is_not_used_again(rt: HostRuntime) {
+    let mut heap = Heap::new(rt.alloc(), BASE, 1).expect(&rt, "a heap");
+    let first = [
+        (2048, Some((0x4000_0000, 0x4000_0800))),
+        (2032, Some((0x4000_0800, 0x4000_0ff0))),
+    ];
+    blocks_lie(&rt, &mut heap, &first);
+    let freed = heap.release(0x4000_0000, 0x4000_0800);
+    assert_eq!(rt; freed, Ok(Freed::Held));
+    let held = [(32, None), (16, Some((0x4000_0ff0, 0x4000_1000)))];
+    blocks_lie(&rt, &mut heap, &held);
+    let sums = (heap.live_bytes(), heap.held_bytes(), heap.free_bytes());
+    assert_eq!(rt; sums, (2048, 2048, 0));
+    assert_eq!(rt; heap.give_back(), 2048);
+    blocks_lie(&rt, &mut heap, &[(32, Some((0x4000_0000, 0x4000_0020)))]);
+    let sums = (heap.live_bytes(), heap.held_bytes(), heap.free_bytes());
+    assert_eq!(rt; sums, (2080, 0, 2016));
+}
+
+// Free extents on both sides of a block that is given back become one with it.
+#[test]
+fn extents_are_joined(rt: HostRuntime) {
+    let mut heap = Heap::new(rt.alloc(), BASE, 1).expect(&rt, "a heap");
+    let blocks = [
+        (1024, Some((0x4000_0000, 0x4000_0400))),
+        (1024, Some((0x4000_0400, 0x4000_0800))),
+        (1024, Some((0x4000_0800, 0x4000_0c00))),
+    ];
+    blocks_lie(&rt, &mut heap, &blocks);
+    for base in [0x4000_0000, 0x4000_0800, 0x4000_0400] {
+        let freed = heap.release(base, u128::from(base) + 1024);
+        assert_eq!(rt; freed, Ok(Freed::Held), "at {base:x}");
+        let bytes = heap.give_back();
+        assert_eq!(rt; bytes, 1024, "at {base:x}");
+    }
+    blocks_lie(&rt, &mut heap, &[(4080, Some((0x4000_0000, 0x4000_0ff0)))]);
+}
+
+// It is run with each allocation refused in turn.
+#[test]
+fn a_refused_allocation_of_a_shadow_is_told(rt: HostRuntime) {
+    let Ok(mut heap) = Heap::new(rt.alloc(), BASE, 1) else {
+        return;
+    };
+    blocks_lie(&rt, &mut heap, &[(32, Some((0x4000_0000, 0x4000_0020)))]);
+    assert_eq!(rt; heap.release(0x4000_0000, 0x4000_0020), Ok(Freed::Held));
+    match heap.shadow(rt.alloc()) {
+        Ok(shadow) => granules_are_painted(&rt, &shadow, 0, 2),
+        Err(fault) => assert_eq!(rt; fault, HeapFault::Memory),
+    }
+    let sums = (heap.live_bytes(), heap.held_bytes(), heap.free_bytes());
+    assert_eq!(rt; sums, (0, 32, 4064));
+    assert_eq!(rt; heap.prepare(), Ok(()));
+    assert_eq!(rt; heap.give_back(), 32);
 }

@@ -1,0 +1,142 @@
+-- A block of a table that is given up: what it is, and the table once it is held.
+use Rattle.std.proofs.Common.{◌≡◌, ◌<◌, ◌+◌, ◌*◌, ◌-◌, ◌==◌, inl, inr, nat_lt, ◌&&◌, not, ℕ, zero, suc, Bool, true, false, List, [], ◌∷◌, length, get_or, set, length-set, refl, sym, ap, ◌∙◌, subst, arith}
+use Rattle.std.proofs.lemmas.Bool.{and_left, and_right, cases_Bool, cases_eq, eq-eqb, lt-ltb, ne_eqb, true≢false}
+use Rattle.std.proofs.lemmas.List.{set-get_or}
+use Rattle.std.proofs.lemmas.List.Elements.{All-head, All-tail}
+use Rattle.std.specs.Prelude.{All}
+use Rattle.heap_core.specs.Blocks.{Span, blocks_with, blocks_without, bytes_of, has_bounds, is_block}
+use Rattle.heap_core.specs.Quarantine.{freed_of, with_held}
+use Rattle.heap_core.specs.Table.{IsBlockAt, IsTable, blocks_of, is_held, is_live, table_state}
+use Rattle.heap_core.specs.declared.block.Freed.TheVariants.{AlreadyHeld, Held, NotBlock}
+use Rattle.heap_core.proofs.BlockLaws.{All-blocks_of, blocks_of-set}
+use Rattle.heap_core.proofs.KeptLaws.{any-block, any-no_block}
+use Rattle.heap_core.proofs.SumLaws.{bytes_of-blocks_with, bytes_of_both}
+
+-- ---- which block has these bounds
+
+has_bounds_same : (start bytes base top : ℕ) → start ≡ base → start + bytes ≡ top → has_bounds base top (start, bytes) ≡ true
+has_bounds_same start bytes base top first last = rw (eq-eqb start base first, eq-eqb (start + bytes) top last) refl
+
+has_bounds_other : (start bytes base top : ℕ) → (start ≡ base → start + bytes ≡ top → ⊥) → has_bounds base top (start, bytes) ≡ false
+has_bounds_other start bytes base top other =
+    elim (cases_eq start base) [
+      | inl same ↦ and_right (start == base) (start + bytes == top) (ne_eqb (start + bytes) top (λ end. other same end))
+      | inr apart ↦ and_left (start == base) (start + bytes == top) (ne_eqb start base apart)
+    ]
+
+-- The block at granule k is one of those whose marks pass, where its mark does.
+is_block_at : (keeps : Bool → Bool) (base : ℕ) (lengths : List ℕ) (marks : List Bool) (start top k : ℕ) → length marks ≡ length lengths
+    → IsBlockAt base lengths start top k → keeps (get_or marks k false) ≡ true → is_block (blocks_of keeps base 0 lengths marks) start top ≡ true
+is_block_at keeps base lengths marks start top k same at kept =
+    any-block (has_bounds start top) keeps base 0 lengths marks false k start same (omega (arith, at.start_is)) at.within at.some kept
+    (has_bounds_same start (16 * get_or lengths k 0) start top refl (sym at.top_is))
+
+-- And otherwise it isn't.
+is_other_block : (keeps : Bool → Bool) (base : ℕ) (lengths : List ℕ) (marks : List Bool) (start top k : ℕ)
+    → IsBlockAt base lengths start top k → keeps (get_or marks k false) ≡ false → is_block (blocks_of keeps base 0 lengths marks) start top ≡ false
+is_other_block keeps base lengths marks start top k at other =
+    any-no_block (has_bounds start top) keeps base lengths marks false
+    (λ j s s_is lt some kept. has_bounds_other s (16 * get_or lengths j 0) start top
+    (λ first last.
+    let same : j ≡ k = omega (arith, at.start_is) in
+    absurd (true≢false (sym kept ∙ subst (λ (i : ℕ). keeps (get_or marks i false) ≡ false) (sym same) other))))
+
+-- Where no block has these bounds, none in a list has.
+is_no_block : (keeps : Bool → Bool) (base : ℕ) (lengths : List ℕ) (marks : List Bool) (start top : ℕ)
+    → ((k : ℕ) → IsBlockAt base lengths start top k → ⊥) → is_block (blocks_of keeps base 0 lengths marks) start top ≡ false
+is_no_block keeps base lengths marks start top none =
+    any-no_block (has_bounds start top) keeps base lengths marks false
+    (λ j s s_is lt some kept. has_bounds_other s (16 * get_or lengths j 0) start top
+    (λ first last. none j (record { within = lt; some = some; start_is = omega arith; top_is = omega arith })))
+
+-- ---- what is answered
+
+pub freed_of-none : (base : ℕ) (lengths : List ℕ) (marks : List Bool) (start top : ℕ) → ((k : ℕ) → IsBlockAt base lengths start top k → ⊥)
+    → freed_of (table_state base lengths marks) start top ≡ NotBlock
+freed_of-none base lengths marks start top none =
+    rw (is_no_block is_live base lengths marks start top none, is_no_block is_held base lengths marks start top none) refl
+
+pub freed_of-held : (base : ℕ) (lengths : List ℕ) (marks : List Bool) (start top k : ℕ) → length marks ≡ length lengths
+    → IsBlockAt base lengths start top k → get_or marks k false ≡ true → freed_of (table_state base lengths marks) start top ≡ AlreadyHeld
+freed_of-held base lengths marks start top k same at held =
+    rw (is_other_block is_live base lengths marks start top k at (ap not held), is_block_at is_held base lengths marks start top k same at held) refl
+
+pub freed_of-live : (base : ℕ) (lengths : List ℕ) (marks : List Bool) (start top k : ℕ) → length marks ≡ length lengths
+    → IsBlockAt base lengths start top k → get_or marks k false ≡ false → freed_of (table_state base lengths marks) start top ≡ Held
+freed_of-live base lengths marks start top k same at live =
+    rw (is_block_at is_live base lengths marks start top k same at (ap not live)) refl
+
+-- ---- the table once the block is held
+
+-- Where no block has the bounds, all stay.
+blocks_without-none : (start top : ℕ) (blocks : List Span) → All (λ block. has_bounds start top block ≡ false) blocks → blocks_without start top blocks ≡ blocks
+blocks_without-none start top [] none = refl
+blocks_without-none start top (b ∷ blocks) none =
+    let here = All-head (λ block. has_bounds start top block ≡ false) b blocks none in
+    rw (here, blocks_without-none start top blocks (All-tail (λ block. has_bounds start top block ≡ false) b blocks none)) refl
+
+-- The live blocks are all but that one.
+pub live_blocks-held : (base i : ℕ) (lengths : List ℕ) (marks : List Bool) (start top k : ℕ) → length marks ≡ length lengths → k < length lengths
+    → start ≡ base + 16 * (i + k) → top ≡ start + 16 * get_or lengths k 0 → 0 < get_or lengths k 0
+    → blocks_of is_live base i lengths (set marks k true) ≡ blocks_without start top (blocks_of is_live base i lengths marks)
+live_blocks-held base i [] marks start top k same lt at end some = absurd (omega arith)
+live_blocks-held base i (n ∷ lengths) [] start top k same lt at end some = absurd (omega arith)
+live_blocks-held base i (n ∷ lengths) (mark ∷ marks) start top zero same lt at end some =
+    let here : has_bounds start top (base + 16 * i, 16 * n) ≡ true = has_bounds_same (base + 16 * i) (16 * n) start top (omega arith) (omega arith) in
+    let later : blocks_without start top (blocks_of is_live base (i + 1) lengths marks) ≡ blocks_of is_live base (i + 1) lengths marks =
+    blocks_without-none start top (blocks_of is_live base (i + 1) lengths marks)
+    (All-blocks_of (λ block. has_bounds start top block ≡ false) is_live base (i + 1) lengths marks false
+    (λ j s s_is j_lt j_some kept. has_bounds_other s (16 * get_or lengths j 0) start top (λ first last. absurd (omega arith)))) in
+    elim (cases_Bool mark) [
+      | inl is ↦ rw (is, lt-ltb 0 n some) (sym later)
+      | inr is ↦ rw (is, lt-ltb 0 n some, here) (sym later)
+    ]
+live_blocks-held base i (n ∷ lengths) (mark ∷ marks) start top (suc k) same lt at end some =
+    let rest = live_blocks-held base (i + 1) lengths marks start top k (omega arith) (omega arith) (omega arith) end some in
+    let here : has_bounds start top (base + 16 * i, 16 * n) ≡ false = has_bounds_other (base + 16 * i) (16 * n) start top (λ first last. absurd (omega arith)) in
+    elim (cases_Bool (nat_lt 0 n && not mark)) [
+      | inl is ↦ rw (is, here, rest) refl
+      | inr is ↦ rw (is, rest) refl
+    ]
+
+-- And it is one more of the held ones.
+pub held_blocks-held : (base : ℕ) (lengths : List ℕ) (marks : List Bool) (start top k : ℕ) → length marks ≡ length lengths
+    → IsBlockAt base lengths start top k → get_or marks k false ≡ false
+    → blocks_of is_held base 0 lengths (set marks k true) ≡ blocks_with (start, top - start) (blocks_of is_held base 0 lengths marks)
+held_blocks-held base lengths marks start top k same at live =
+    let n = get_or lengths k 0 in
+    let bytes : 16 * get_or lengths k 0 ≡ top - start = omega (arith, at.top_is) in
+    let more = blocks_of-set is_held base 0 lengths marks false k n start true at.within same (and_right (nat_lt 0 n) (get_or marks k false) live) at.some refl (omega (arith, at.start_is)) in
+    subst (λ (xs : List ℕ). blocks_of is_held base 0 xs (set marks k true) ≡ blocks_with (start, top - start) (blocks_of is_held base 0 lengths marks))
+    (set-get_or lengths k 0) (more ∙ ap (λ (x : ℕ). blocks_with (start, x) (blocks_of is_held base 0 lengths marks)) bytes)
+
+pub table_state-held : (base : ℕ) (lengths : List ℕ) (marks : List Bool) (start top k : ℕ) → length marks ≡ length lengths
+    → IsBlockAt base lengths start top k → get_or marks k false ≡ false
+    → table_state base lengths (set marks k true) ≡ with_held (table_state base lengths marks) start top
+table_state-held base lengths marks start top k same at live =
+    rw (live_blocks-held base 0 lengths marks start top k same at.within (omega (arith, at.start_is)) at.top_is at.some, held_blocks-held base lengths marks start top k same at live) refl
+
+pub IsTable-held : (base : ℕ) (lengths : List ℕ) (marks : List Bool) (k : ℕ) → IsTable base lengths marks → IsTable base lengths (set marks k true)
+IsTable-held base lengths marks k table = record {
+  same = length-set marks k true ∙ table.same;
+  pages = table.pages;
+  count = table.count;
+  size = table.size;
+  place = table.place;
+  inside = table.inside;
+  apart = table.apart;
+}
+
+-- The bytes of the block go from the live to the held ones.
+pub record HasMoved (base : ℕ) (lengths : List ℕ) (marks : List Bool) (k : ℕ) : Type 0 where
+  pub live : bytes_of (blocks_of is_live base 0 lengths (set marks k true)) + 16 * get_or lengths k 0 ≡ bytes_of (blocks_of is_live base 0 lengths marks)
+  pub held : bytes_of (blocks_of is_held base 0 lengths (set marks k true)) ≡ bytes_of (blocks_of is_held base 0 lengths marks) + 16 * get_or lengths k 0
+
+pub HasMoved-held : (base : ℕ) (lengths : List ℕ) (marks : List Bool) (start top k : ℕ) → length marks ≡ length lengths
+    → IsBlockAt base lengths start top k → get_or marks k false ≡ false → HasMoved base lengths marks k
+HasMoved-held base lengths marks start top k same at live =
+    let before = bytes_of_both base 0 lengths marks same in
+    let after = bytes_of_both base 0 lengths (set marks k true) (length-set marks k true ∙ same) in
+    let more = ap bytes_of (held_blocks-held base lengths marks start top k same at live)
+    ∙ bytes_of-blocks_with (start, top - start) (blocks_of is_held base 0 lengths marks) in
+    record { live = omega (arith, at.top_is); held = omega (arith, at.top_is) }

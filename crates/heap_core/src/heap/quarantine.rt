@@ -1,0 +1,78 @@
+//! Blocks that are given up, and wait until their bytes may be used again.
+
+ghost use Rattle.std.specs.Prelude.{◌≡◌, IfErr, IfOk, IsOk, true};
+ghost use Rattle.heap_core.specs.Blocks.{bytes_of};
+ghost use Rattle.heap_core.specs.Heap.{IsSound};
+ghost use Rattle.heap_core.specs.Quarantine.{IsShadow, freed_of, with_held, without_held};
+
+use crate::block::Freed;
+use crate::fault::HeapFault;
+use crate::free::{collect_extents, drop_held};
+use crate::heap::Heap;
+use crate::shadow::{Shadow, paint};
+use crate::table::block_index;
+use std::alloc::Global;
+use tag_memory::GRANULE;
+
+impl Heap {
+    /// Gives up the live block with exactly these bounds: it becomes held, and its bytes stay in use
+    /// until they are given back. It never errs.
+    pub fn release(&mut self, base: u64, top: u128) -> Result<Freed, HeapFault>
+        // A mark of the table is turned, which needs no memory.
+        ensures answer { result ≡ Ok (freed_of self.old base top) }
+        ensures held { result ≡ Ok Freed.Held → self.new ≡ with_held self.old base top }
+        ensures unchanged { ¬ (result ≡ Ok Freed.Held) → self.new ≡ self.old }
+        ensures sound { IsSound self.new }
+    {
+        let Some(index) = block_index(self.base, &self.lengths, base, top) else {
+            return Ok(Freed::NotBlock);
+        };
+        if self.held[index] {
+            return Ok(Freed::AlreadyHeld);
+        }
+        let granules = self.lengths[index];
+        self.held[index] = true;
+        self.live_granules -= granules;
+        self.held_granules += granules;
+        Ok(Freed::Held)
+    }
+
+    /// Which granules lie in held blocks now.
+    pub fn shadow(&self, alloc: Global) -> Result<Shadow, HeapFault>
+        ensures memory { IfErr result (λ fault. fault ≡ HeapFault.Memory) }
+        ensures shadow { IfOk result (λ shadow. IsShadow self.now shadow) }
+    {
+        let Ok(shadow) = paint(alloc, &self.lengths, &self.held) else {
+            return Err(HeapFault::Memory);
+        };
+        Ok(shadow)
+    }
+
+    /// Makes room for giving back. A heap has it from its making on, so this never errs.
+    pub fn prepare(&mut self) -> Result<(), HeapFault>
+        ensures ok { IsOk result }
+        ensures unchanged { self.new ≡ self.old }
+    {
+        Ok(())
+    }
+
+    /// Whether there is room to give back all held blocks. There always is.
+    pub fn is_prepared(&self) -> bool
+        ensures { result ≡ true }
+    {
+        self.extents.capacity() > self.lengths.len() / 2
+    }
+
+    /// Makes the held blocks free, and answers their bytes.
+    pub fn give_back(&mut self) -> u64
+        ensures bytes { result ≡ bytes_of self.old.held }
+        ensures free { self.new ≡ without_held self.old }
+        ensures sound { IsSound self.new }
+    {
+        let bytes = self.held_bytes();
+        drop_held(&mut self.lengths, &self.held);
+        collect_extents(&mut self.extents, &self.lengths);
+        self.held_granules = 0;
+        bytes
+    }
+}
