@@ -1,7 +1,13 @@
-//! Cuttings by their numbers.
+//! Cuttings by their numbers, and sweeps of small memories.
 
-use crate::{CutFault, Cutting, Gate, Open};
+ghost use Rattle.std.specs.Prelude.{◌≤◌};
+
+use crate::{CutFault, Cutting, Gate, Open, SweepFault, sweep_memory, swept_registers};
+use cap_codec::{Word, set_address, with_bounds};
+use heap_core::{Heap, HeapFault, Shadow};
+use std::alloc::Global;
 use std::test::Fail;
+use tag_memory::{Memory, Registers};
 
 #[test]
 fn cuttings_are_judged(rt: HostRuntime) {
@@ -38,4 +44,70 @@ fn tasks_are_counted(rt: HostRuntime) -> Result<(), Fail> {
     }
     Open.pass(0);
     Ok(())
+}
+
+const BASE: u64 = 0x4000_0000;
+
+// A heap of one page whose first two granules are held, and whose next two are live.
+fn held_shadow(alloc: Global) -> Result<Shadow, HeapFault> {
+    let mut heap = Heap::new(alloc, BASE, 1)?;
+    let _ = heap.reserve(32)?;
+    let _ = heap.reserve(32)?;
+    let _ = heap.release(BASE, u128::from(BASE) + 32)?;
+    heap.shadow(alloc)
+}
+
+// A word with these bounds, counted from the heap's base, and this address.
+fn word(from: u64, to: u64, address: u64) -> Word
+    requires order { from ≤ to }
+    requires limit { to ≤ 4096 }
+    requires small { address ≤ 4096 }
+{
+    let base = BASE + from;
+    let top = u128::from(BASE) + u128::from(to);
+    let (word, _) = with_bounds(Word::NULL, base, top);
+    set_address(word, BASE + address)
+}
+
+#[test]
+fn registers_are_swept_by_their_bases(rt: HostRuntime) -> Result<(), Fail> {
+    let shadow = held_shadow(rt.alloc())?;
+    let mut registers = Registers::new();
+    registers.set(1, word(0, 32, 0), true);
+    registers.set(2, word(16, 32, 0x100), true);
+    registers.set(3, word(32, 64, 0), true);
+    registers.set(4, word(0, 32, 0), false);
+    registers.set(31, word(5, 9, 5), true);
+    let mask = swept_registers(&registers, &shadow, BASE);
+    assert_eq!(rt; mask, 0x8000_0006);
+    Ok(())
+}
+
+#[test]
+fn memory_is_swept_by_bases(rt: HostRuntime) -> Result<(), Fail> {
+    let shadow = held_shadow(rt.alloc())?;
+    let mut memory = Memory::new(rt.alloc(), BASE, 1)?;
+    memory.put(0, word(0, 32, 0).bits, false);
+    memory.put(1, word(32, 64, 0).bits, true);
+    memory.put(64, word(0, 32, 0x100).bits, true);
+    memory.put(255, word(16, 32, 16).bits, true);
+    let masks = sweep_memory(rt.alloc(), &memory, &shadow)?;
+    assert_eq!(rt; masks.as_slice(), [0, 1, 0, 1 << 63].as_slice());
+    Ok(())
+}
+
+// It is run with each allocation refused in turn.
+#[test]
+fn a_refused_allocation_of_a_sweep_is_told(rt: HostRuntime) {
+    let Ok(shadow) = held_shadow(rt.alloc()) else {
+        return;
+    };
+    let Ok(mut memory) = Memory::new(rt.alloc(), BASE, 1) else {
+        return;
+    };
+    memory.put(65, word(0, 32, 0).bits, true);
+    match sweep_memory(rt.alloc(), &memory, &shadow) {
+        Ok(masks) => assert_eq!(rt; masks.as_slice(), [0, 2, 0, 0].as_slice()),
+        Err(fault) => assert_eq!(rt; fault, SweepFault::Memory),
+    }
 }

@@ -3,7 +3,7 @@
 ghost use Rattle.std.specs.Prelude.{◌≡◌, ◌<◌, ◌==◌, ℕ, if◌then◌else◌};
 ghost use Rattle.tag_memory.specs.Tags.{is_set};
 
-/// Bits a word, each a tag.
+/// Bits a word of tags, one a granule.
 pub const WORD_TAGS: usize = 64;
 
 /// Whether bit `j` is 1.
