@@ -2,9 +2,11 @@ pub mod CommandLines
 pub mod Digits
 pub mod FirstLine
 pub mod FirstWord
+mod GuardLaws
 pub mod HeapLines
 mod HexadecimalLaws
 mod ImageLaws
+mod NewBlock
 mod OnePlace
 pub mod OneRun
 pub mod OneStep

@@ -8,6 +8,7 @@ pub mod Outcome
 pub mod Reading
 pub mod Report
 pub mod Run
+pub mod Safety
 pub mod Sound
 pub mod State
 pub mod Step

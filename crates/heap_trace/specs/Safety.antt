@@ -1,0 +1,35 @@
+-- Safe reuse (Filardo et al. 2020, Cornucopia: heap temporal safety): bytes are handed out again only when
+-- no capability for them is left. So each tagged word keeps within one block, which is in use or in
+-- quarantine, and a new block shares no address with these.
+use Rattle.std.specs.Prelude.{◌<◌, ◌≤◌, ◌⊎◌, All, IsTrue}
+use Rattle.std.specs.List.{Contains}
+use Rattle.cap_codec.specs.declared.word.Bounds.{Bounds}
+use Rattle.heap_core.specs.Blocks.{Span, end_of, start_of}
+use Rattle.heap_core.specs.Heap.{HeapState, IsSound as IsSoundHeap}
+use Rattle.tag_memory.specs.Cells.{Cell, Granule}
+use Rattle.heap_trace.specs.State.{State}
+use Rattle.heap_trace.specs.Step.{bounds_in}
+
+-- The bounds lie in the block, and aren't empty.
+pub record LieIn (bounds : Bounds) (block : Span) : Type 0 where
+  pub start : start_of block ≤ bounds.base
+  pub some : bounds.base < bounds.top
+  pub end : bounds.top ≤ end_of block
+
+-- A block in use is live; one that was given up is held, in quarantine.
+abbrev pub IsLiveOrHeld : HeapState → Span → Type 0
+IsLiveOrHeld heap block = Contains heap.live block ⊎ Contains heap.held block
+
+-- The cell is guarded: where it is tagged, its bounds lie in one live or held block.
+pub record IsGuarded (heap : HeapState) (c : Cell) : Type 0 where
+  pub within : IsTrue c.1 → (block : Span) × IsLiveOrHeld heap block × LieIn (bounds_in c.0) block
+
+-- The same of a granule, as the word that its bytes are.
+abbrev pub HoldsGuarded : HeapState → Granule → Type 0
+HoldsGuarded heap granule = IsGuarded heap (record { bits = granule.0 }, granule.1)
+
+-- No two blocks, live or held, share an address, and each tagged word is guarded.
+pub record IsSafe (s : State) : Type 0 where
+  pub heap : IsSoundHeap s.heap
+  pub registers : All (IsGuarded s.heap) s.registers
+  pub cells : All (HoldsGuarded s.heap) s.cells
