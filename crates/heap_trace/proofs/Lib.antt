@@ -14,4 +14,5 @@ pub mod Operands
 pub mod Reading
 mod SoundLaws
 mod LongerRuns
+mod UnusedLaws
 pub mod WholeText

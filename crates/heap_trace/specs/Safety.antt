@@ -1,12 +1,14 @@
 -- Safe reuse (Filardo et al. 2020, Cornucopia: heap temporal safety): bytes are handed out again only when
 -- no capability for them is left. So each tagged word keeps within one block, which is in use or in
 -- quarantine, and a new block shares no address with these.
-use Rattle.std.specs.Prelude.{◌<◌, ◌≤◌, ◌⊎◌, All, IsTrue}
+use Rattle.std.specs.Prelude.{◌<◌, ◌≤◌, ◌⊎◌, ℕ, All, IsTrue}
 use Rattle.std.specs.List.{Contains}
 use Rattle.cap_codec.specs.declared.word.Bounds.{Bounds}
 use Rattle.heap_core.specs.Blocks.{Span, end_of, start_of}
 use Rattle.heap_core.specs.Heap.{HeapState, IsSound as IsSoundHeap}
 use Rattle.tag_memory.specs.Cells.{Cell, Granule}
+use Rattle.heap_trace.specs.declared.reply.Reply.{Reply}
+use Rattle.heap_trace.specs.declared.reply.Reply.TheVariants.{Block}
 use Rattle.heap_trace.specs.State.{State}
 use Rattle.heap_trace.specs.Step.{bounds_in}
 
@@ -24,12 +26,28 @@ IsLiveOrHeld heap block = Contains heap.live block ⊎ Contains heap.held block
 pub record IsGuarded (heap : HeapState) (c : Cell) : Type 0 where
   pub within : IsTrue c.1 → (block : Span) × IsLiveOrHeld heap block × LieIn (bounds_in c.0) block
 
--- The same of a granule, as the word that its bytes are.
+-- A granule, as the word that its bytes are.
+abbrev pub cell_of : Granule → Cell
+cell_of granule = (record { bits = granule.0 }, granule.1)
+
+-- It is guarded.
 abbrev pub HoldsGuarded : HeapState → Granule → Type 0
-HoldsGuarded heap granule = IsGuarded heap (record { bits = granule.0 }, granule.1)
+HoldsGuarded heap granule = IsGuarded heap (cell_of granule)
 
 -- No two blocks, live or held, share an address, and each tagged word is guarded.
 pub record IsSafe (s : State) : Type 0 where
   pub heap : IsSoundHeap s.heap
   pub registers : All (IsGuarded s.heap) s.registers
   pub cells : All (HoldsGuarded s.heap) s.cells
+
+-- The cell is tagged, and its base lies from `base` to before `top`.
+pub record HasBaseIn (base top : ℕ) (c : Cell) : Type 0 where
+  pub tagged : IsTrue c.1
+  pub from : base ≤ (bounds_in c.0).base
+  pub before : (bounds_in c.0).base < top
+
+-- Where the reply hands out a block, no tagged word of the state has its base in it.
+abbrev pub IsUnused : State → Reply → Type 0
+IsUnused s (Block base top) =
+    All (λ c. HasBaseIn base top c → ⊥) s.registers × All (λ granule. HasBaseIn base top (cell_of granule) → ⊥) s.cells
+IsUnused s other = Unit {0}

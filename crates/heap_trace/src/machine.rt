@@ -4,6 +4,7 @@ ghost use Rattle.std.specs.Prelude.{◌≡◌, ◌↔◌, ◌<◌, ◌+◌, IfEr
 ghost use Rattle.heap_core.specs.Blocks.{bytes_of};
 ghost use Rattle.tag_memory.specs.Span as span;
 ghost use Rattle.heap_trace.specs.Command.{IsValid};
+ghost use Rattle.heap_trace.specs.Safety.{IsSafe, IsUnused};
 ghost use Rattle.heap_trace.specs.State.{first_state, memory_of, register};
 ghost use Rattle.heap_trace.specs.Step.{Step, TakesNoMemory, access, first_failed, index_in};
 
@@ -57,6 +58,7 @@ impl Machine {
         ensures bad_base { (result ≡ Err MachineFault.BadBase)
             ↔ ((span.is_size pages ≡ true) × (span.is_base base pages ≡ false)) }
         ensures first { IfOk result (λ machine. machine ≡ first_state base pages) }
+        ensures safe { IfOk result IsSafe }
     {
         let memory = match Memory::new(alloc, base, pages) {
             Ok(memory) => memory,
@@ -83,6 +85,22 @@ impl Machine {
         command: Command,
         _gate: &G,
     ) -> Result<Reply, MachineFault>
+        requires { IsValid command }
+        ensures step { IfOk result (λ reply. Step self.old command reply self.new) }
+        ensures err { OnErr result (self.new ≡ self.old) }
+        ensures memory { IfErr result (λ fault. fault ≡ MachineFault.Memory) }
+        ensures ok { TakesNoMemory command → IsOk result }
+        ensures safe { IsSafe self.new }
+        ensures unused { IfOk result (λ reply. IsUnused self.old reply) }
+    {
+        // The invariant holds before and after: both states are safe.
+        let _ = &self.heap;
+        let result = self.serve(command);
+        let _ = &self.heap;
+        result
+    }
+
+    fn serve(&mut self, command: Command) -> Result<Reply, MachineFault>
         requires { IsValid command }
         ensures step { IfOk result (λ reply. Step self.old command reply self.new) }
         ensures err { OnErr result (self.new ≡ self.old) }
