@@ -7,14 +7,16 @@ use Rattle.heap_trace.specs.declared.running.RunFault.TheVariants.{Memory, Trace
 use Rattle.std.specs.Prelude.{ℕ}
 use Rattle.heap_trace.specs.Reading.{Script, trace_of}
 use Rattle.heap_trace.specs.Report.{report_text}
-use Rattle.heap_trace.specs.Run.{Run}
+use Rattle.heap_trace.specs.Run.{IsSafeRun, Run}
 use Rattle.heap_trace.specs.State.{State, first_state, memory_of}
 
--- A run of these commands from the first state leaves this report, these registers and this memory.
+-- A run of these commands from the first state, safe throughout, leaves this report, these registers and
+-- this memory.
 pub record IsOutcome (script : Script) (o : TheOutcome) : Type 0 where
   pub replies : List Reply
   pub last : State
   pub run : Run (first_state script.base script.pages) (map (λ c. c.1) script.commands) replies last
+  pub safe : IsSafeRun (first_state script.base script.pages) (map (λ c. c.1) script.commands) replies last run
   pub report : o.report.items ≡ report_text script.commands replies last
   pub registers : o.registers ≡ last.registers
   pub memory : o.memory ≡ memory_of last

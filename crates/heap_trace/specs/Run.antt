@@ -3,6 +3,7 @@ use Rattle.std.specs.Prelude.{◌≡◌, ℕ, List, [], ◌∷◌, map}
 use Rattle.heap_trace.specs.declared.trace.Command.{Command}
 use Rattle.heap_trace.specs.declared.reply.Reply.{Reply}
 use Rattle.heap_trace.specs.Report.{lines_text}
+use Rattle.heap_trace.specs.Safety.{IsSafe, IsUnused}
 use Rattle.heap_trace.specs.State.{State}
 use Rattle.heap_trace.specs.Step.{Step}
 
@@ -13,8 +14,16 @@ Run old (c ∷ cs) (r ∷ rs) new = (mid : State) × Step old c r mid × Run mid
 Run old [] (r ∷ rs) new = ⊥
 Run old (c ∷ cs) [] new = ⊥
 
--- The commands were a run from the first state to mid, and the text has a line for each.
+-- Each state of this run is safe, the first and the last too, and each reply is unused in the state before it.
+abbrev pub IsSafeRun : (old : State) (commands : List Command) (replies : List Reply) (new : State) → Run old commands replies new → Type 0
+IsSafeRun old [] [] new run = IsSafe new
+IsSafeRun old (c ∷ cs) (r ∷ rs) new run = IsSafe old × IsUnused old r × IsSafeRun run.0 cs rs new run.2
+IsSafeRun old [] (r ∷ rs) new run = ⊥
+IsSafeRun old (c ∷ cs) [] new run = ⊥
+
+-- The commands were a safe run from the first state to mid, and the text has a line for each.
 pub record Told (first : State) (items : List (ℕ × Command)) (mid : State) (text : List ℕ) : Type 0 where
   pub replies : List Reply
   pub run : Run first (map (λ c. c.1) items) replies mid
+  pub safe : IsSafeRun first (map (λ c. c.1) items) replies mid run
   pub lines : text ≡ lines_text items replies

@@ -8,6 +8,7 @@ ghost use Rattle.heap_trace.specs.Outcome.{Answers, IsOutcome};
 ghost use Rattle.heap_trace.specs.Reading.{script_of};
 ghost use Rattle.heap_trace.specs.Report.{end_text};
 ghost use Rattle.heap_trace.specs.Run.{Told};
+ghost use Rattle.heap_trace.specs.Safety.{IsSafe};
 
 use crate::fault::TraceFault;
 use crate::machine::Machine;
@@ -86,7 +87,8 @@ fn run_commands<R: Threads + Sync>(
     machine: &mut Machine,
     commands: &[(u32, Command)],
 ) -> Option<Vec<u8>>
-    requires { All IsListed commands.now }
+    requires valid { All IsListed commands.now }
+    requires safe { IsSafe machine.old }
     ensures { IfSome result (λ report. Told machine.old commands.now machine.new report.items) }
 {
     let mut report = Vec::new(alloc);

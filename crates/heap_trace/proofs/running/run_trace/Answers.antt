@@ -1,0 +1,8 @@
+use Rattle.std.proofs.Common.{rules}
+use Rattle.heap_trace.specs.Reading.{script_of}
+use Rattle.heap_trace.proofs.LongerRuns.{IsOutcome-told}
+use Rattle.heap_trace.proofs.running.run_trace.Goals as goal
+
+pub returns : goal.returns
+returns g c =
+    IsOutcome-told (script_of c.args.trace.now) c.finish.result c.in-Ok.machine c.run_commands.new.machine c.in_ok-report.report.items (search rules) c.in-Ok.ensures.first (search rules) (search rules) (search rules)
