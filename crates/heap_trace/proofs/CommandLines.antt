@@ -4,11 +4,11 @@ use Rattle.std.specs.Option.{ok_or}
 use Rattle.hex.specs.declared.error.FromHexError.{FromHexError}
 use Rattle.hex.specs.Hex.{decode_sized}
 use Rattle.heap_trace.specs.declared.trace.Command.{Command}
-use Rattle.heap_trace.specs.declared.trace.Command.TheVariants.{Malloc, Copy, SetAddr, Narrow, AndPerm, StoreCap, LoadCap, Write, Show}
+use Rattle.heap_trace.specs.declared.trace.Command.TheVariants.{Malloc, Free, Copy, SetAddr, Narrow, AndPerm, StoreCap, LoadCap, Write, Show, Sweep}
 use Rattle.heap_trace.specs.declared.fault.LineFault.{LineFault}
 use Rattle.heap_trace.specs.declared.fault.LineFault.TheVariants as line_fault
 use Rattle.heap_trace.specs.Grammar.{FirstLacks, Form, Register, Number, Mask, Data, HasFault, HasForm, HaveForms, IsCommand, IsData, IsMask, IsNumber, IsRegister, fault_of, forms_of}
-use Rattle.heap_trace.specs.Reading.{◌>>=◌, below, command_of, data_from, data_in, mask_in, number_in, number_of, one_of, register_in, register_of, three_of, two_of}
+use Rattle.heap_trace.specs.Reading.{◌>>=◌, below, command_of, data_from, data_in, mask_in, none_of, number_in, number_of, one_of, register_in, register_of, three_of, two_of}
 use Rattle.heap_trace.proofs.Operands.{IsMask-read, IsNumber-read, IsRegister-read, below-IsMask, number_of-IsNumber, register_of-IsRegister, same_bytes}
 
 -- ---- one word
@@ -157,6 +157,7 @@ Fits (name ∷ words) = (forms : List Form) × (forms_of name ≡ Some forms) ×
 
 IsCommand-fits : (words : List (List ℕ)) (command : Command) → IsCommand words command → Fits words
 IsCommand-fits words (Malloc rd size) h = subst Fits (sym h.2) (_, refl, ((rd, h.3), ((size, h.4), tt)))
+IsCommand-fits words (Free rs) h = subst Fits (sym h.1) (_, refl, ((rs, h.2), tt))
 IsCommand-fits words (Copy rd rs) h = subst Fits (sym h.2) (_, refl, ((rd, h.3), ((rs, h.4), tt)))
 IsCommand-fits words (SetAddr rd rs address) h = subst Fits (sym h.3) (_, refl, ((rd, h.4), ((rs, h.5), ((address, h.6), tt))))
 IsCommand-fits words (Narrow rd rs length) h = subst Fits (sym h.3) (_, refl, ((rd, h.4), ((rs, h.5), ((length, h.6), tt))))
@@ -165,6 +166,7 @@ IsCommand-fits words (StoreCap ra rs) h = subst Fits (sym h.2) (_, refl, ((ra, h
 IsCommand-fits words (LoadCap rd ra) h = subst Fits (sym h.2) (_, refl, ((rd, h.3), ((ra, h.4), tt)))
 IsCommand-fits words (Write ra bytes) h = subst Fits (sym h.2) (_, refl, ((ra, h.3), ((bytes, h.4), tt)))
 IsCommand-fits words (Show rs) h = subst Fits (sym h.1) (_, refl, ((rs, h.2), tt))
+IsCommand-fits words Sweep h = subst Fits (sym h) (_, refl, tt)
 
 no_fault : (name : List ℕ) (words : List (List ℕ)) (fault : LineFault) → Fits (name ∷ words) → HasFault (name ∷ words) fault → ⊥
 no_fault name words fault fits h = go (Faults-from name words fault h) where
@@ -183,6 +185,12 @@ no_fault name words fault fits h = go (Faults-from name words fault h) where
 -- what the words of a line are read as
 abbrev pub Read : List (List ℕ) → Result Command LineFault → Type 0
 Read words read = MatchResult read (IsCommand words) (HasFault words)
+
+none_read : (name : List ℕ) → forms_of name ≡ Some [] → (command : Command) → IsCommand (name ∷ []) command
+    → (words : List (List ℕ)) → Read (name ∷ words) (none_of words >>= λ _. Ok command)
+unfolding none_of
+none_read name is command built [] = built
+none_read name is command built (a ∷ ws) = HasFault-words name [] (a ∷ ws) line_fault.BadCount is (inl (λ e. omega arith, refl))
 
 one_read : {A : Type 0} (name : List ℕ) (form : Form) (read : List ℕ → Result A LineFault) → forms_of name ≡ Some (form ∷ []) → ((word : List ℕ) → Reads form word (read word))
     → (build : A → Command) → ((a : List ℕ) (x : A) → read a ≡ Ok x → IsCommand (name ∷ a ∷ []) (build x))
@@ -252,6 +260,7 @@ pub command_read : (name : List ℕ) (words : List (List ℕ)) → Read (name �
 unfolding command_of
 command_read name words =
     named (codes "malloc") name words _ _ (two_read (codes "malloc") Register Number register_in number_in refl reads_register reads_number Malloc malloc words) (λ malloc.
+    named (codes "free") name words _ _ (one_read (codes "free") Register register_in refl reads_register Free free words) (λ free.
     named (codes "copy") name words _ _ (two_read (codes "copy") Register Register register_in register_in refl reads_register reads_register Copy copy words) (λ copy.
     named (codes "setaddr") name words _ _ (three_read (codes "setaddr") Register Register Number register_in register_in number_in refl reads_register reads_register reads_number SetAddr setaddr words) (λ setaddr.
     named (codes "narrow") name words _ _ (three_read (codes "narrow") Register Register Number register_in register_in number_in refl reads_register reads_register reads_number Narrow narrow words) (λ narrow.
@@ -260,9 +269,13 @@ command_read name words =
     named (codes "loadcap") name words _ _ (two_read (codes "loadcap") Register Register register_in register_in refl reads_register reads_register LoadCap loadcap words) (λ loadcap.
     named (codes "write") name words _ _ (two_read (codes "write") Register Data register_in data_in refl reads_register reads_data Write write words) (λ write.
     named (codes "show") name words _ _ (one_read (codes "show") Register register_in refl reads_register Show show words) (λ show.
-    rw (malloc, copy, setaddr, narrow, andperm, storecap, loadcap, write, show) refl))))))))) where
+    named (codes "sweep") name words _ _ (none_read (codes "sweep") refl Sweep refl words) (λ sweep.
+    rw (malloc, free, copy, setaddr, narrow, andperm, storecap, loadcap, write, show, sweep) refl))))))))))) where
       malloc : (a b : List ℕ) (x y : ℕ) → register_in a ≡ Ok x → number_in b ≡ Ok y → IsCommand (codes "malloc" ∷ a ∷ b ∷ []) (Malloc x y)
       malloc a b x y e f = (a, b, refl, register_in_is a x e, number_in_is b y f)
+
+      free : (a : List ℕ) (x : ℕ) → register_in a ≡ Ok x → IsCommand (codes "free" ∷ a ∷ []) (Free x)
+      free a x e = (a, refl, register_in_is a x e)
 
       copy : (a b : List ℕ) (x y : ℕ) → register_in a ≡ Ok x → register_in b ≡ Ok y → IsCommand (codes "copy" ∷ a ∷ b ∷ []) (Copy x y)
       copy a b x y e f = (a, b, refl, register_in_is a x e, register_in_is b y f)
@@ -291,8 +304,9 @@ command_read name words =
 -- ---- the laws
 
 pub command_of-IsCommand : (words : List (List ℕ)) (command : Command) → IsCommand words command → command_of words ≡ Ok command
-unfolding command_of one_of two_of three_of
+unfolding command_of none_of one_of two_of three_of
 command_of-IsCommand words (Malloc rd size) h = rw (h.2, register_of-IsRegister h.0 rd h.3, number_of-IsNumber h.1 size h.4) refl
+command_of-IsCommand words (Free rs) h = rw (h.1, register_of-IsRegister h.0 rs h.2) refl
 command_of-IsCommand words (Copy rd rs) h = rw (h.2, register_of-IsRegister h.0 rd h.3, register_of-IsRegister h.1 rs h.4) refl
 command_of-IsCommand words (SetAddr rd rs address) h = rw (h.3, register_of-IsRegister h.0 rd h.4, register_of-IsRegister h.1 rs h.5, number_of-IsNumber h.2 address h.6) refl
 command_of-IsCommand words (Narrow rd rs length) h = rw (h.3, register_of-IsRegister h.0 rd h.4, register_of-IsRegister h.1 rs h.5, number_of-IsNumber h.2 length h.6) refl
@@ -301,6 +315,7 @@ command_of-IsCommand words (StoreCap ra rs) h = rw (h.2, register_of-IsRegister 
 command_of-IsCommand words (LoadCap rd ra) h = rw (h.2, register_of-IsRegister h.0 rd h.3, register_of-IsRegister h.1 ra h.4) refl
 command_of-IsCommand words (Write ra bytes) h = rw (h.2, register_of-IsRegister h.0 ra h.3, h.4) refl
 command_of-IsCommand words (Show rs) h = rw (h.1, register_of-IsRegister h.0 rs h.2) refl
+command_of-IsCommand words Sweep h = rw h refl
 
 pub IsCommand-read : (words : List (List ℕ)) (command : Command) → command_of words ≡ Ok command → IsCommand words command
 unfolding command_of

@@ -27,6 +27,10 @@ IsGuarded-narrowed heap w t c low high guarded tagged is from some end =
     let narrower : LieIn (record { base = low; top = high }) x.0 = record { start = omega (arith, x.2.start, from); some = some; end = omega (arith, x.2.end, end) } in
     record { within = λ _. (x.0, x.1, subst (λ (b : Bounds). LieIn b x.0) (sym is) narrower) }
 
+-- A cell stays guarded where each block is one still.
+pub IsGuarded-in : (old new : HeapState) (c : Cell) → ((block : Span) → IsLiveOrHeld old block → IsLiveOrHeld new block) → IsGuarded old c → IsGuarded new c
+IsGuarded-in old new c still guarded = record { within = λ e. let x = guarded.within e in (x.0, still x.0 x.1, x.2) }
+
 -- ---- what accesses need
 
 -- A block of a heap lies inside it.

@@ -2,6 +2,9 @@ pub mod CommandLines
 pub mod Digits
 pub mod FirstLine
 pub mod FirstWord
+mod BlockLists
+mod ClearedRegisters
+mod FreedBlock
 mod GuardLaws
 pub mod HeapLines
 mod HexadecimalLaws
@@ -12,7 +15,10 @@ pub mod OneRun
 pub mod OneStep
 pub mod Operands
 pub mod Reading
+mod RevokedLaws
 mod SoundLaws
+mod SweepStep
+mod SweptState
 mod LongerRuns
 mod UnusedLaws
 pub mod WholeText

@@ -8,7 +8,7 @@ use Rattle.heap_trace.specs.Outcome.{IsOutcome}
 use Rattle.heap_trace.specs.Reading.{Script}
 use Rattle.heap_trace.specs.Report.{end_text, line_text, lines_text}
 use Rattle.heap_trace.specs.Run.{IsSafeRun, Run, Told}
-use Rattle.heap_trace.specs.Safety.{IsSafe, IsUnused}
+use Rattle.heap_trace.specs.Safety.{IsReuseSafe, IsSafe}
 use Rattle.heap_trace.specs.State.{State, first_state, memory_of}
 use Rattle.heap_trace.specs.Step.{Step}
 
@@ -21,11 +21,11 @@ Run-push old (x ∷ cs) (y ∷ rs) mid c r new run step = (run.0, run.1, Run-pus
 
 -- Safe runs go on by a step that keeps the state safe.
 IsSafeRun-push : (old : State) (cs : List Command) (rs : List Reply) (mid : State) (c : Command) (r : Reply) (new : State)
-    → (run : Run old cs rs mid) → IsSafeRun old cs rs mid run → (step : Step mid c r new) → IsUnused mid r → IsSafe new
+    → (run : Run old cs rs mid) → IsSafeRun old cs rs mid run → (step : Step mid c r new) → IsReuseSafe mid r new → IsSafe new
     → IsSafeRun old (cs ++ c ∷ []) (rs ++ r ∷ []) new (Run-push old cs rs mid c r new run step)
 unfolding Run-push
 IsSafeRun-push old [] [] mid c r new run safe step unused kept =
-    subst (λ (s : State). IsSafe s × IsUnused s r × IsSafe new) run (safe, unused, kept)
+    subst (λ (s : State). IsSafe s × IsReuseSafe s r new × IsSafe new) run (safe, unused, kept)
 IsSafeRun-push old [] (y ∷ rs) mid c r new run safe step unused kept = absurd run
 IsSafeRun-push old (x ∷ cs) [] mid c r new run safe step unused kept = absurd run
 IsSafeRun-push old (x ∷ cs) (y ∷ rs) mid c r new run safe step unused kept =
@@ -54,7 +54,7 @@ pub Told-none : (first : State) → IsSafe first → Told first [] first []
 Told-none first safe = record { replies = []; run = refl; safe = safe; lines = refl }
 
 pub Told-push : (first : State) (items : List (ℕ × Command)) (mid new : State) (text more : List ℕ) (c : ℕ × Command) (r : Reply)
-    → Told first items mid text → Step mid c.1 r new → IsUnused mid r → IsSafe new → more ≡ text ++ line_text c.0 c.1 r → Told first (items ++ c ∷ []) new more
+    → Told first items mid text → Step mid c.1 r new → IsReuseSafe mid r new → IsSafe new → more ≡ text ++ line_text c.0 c.1 r → Told first (items ++ c ∷ []) new more
 Told-push first items mid new text more c r told step unused safe e =
     let cs : List Command = map (λ (x : ℕ × Command). x.1) items in
     let same : length told.replies ≡ length items = Run-length first cs told.replies mid told.run ∙ length-map items (λ (x : ℕ × Command). x.1) in

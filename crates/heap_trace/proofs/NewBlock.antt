@@ -1,48 +1,17 @@
 -- One more live block, and its capability, keep a state sound.
-use Rattle.std.proofs.Common.{◌≡◌, ◌<◌, ◌+◌, ℕ, zero, suc, true, inl, inr, nat_lt, List, [], ◌∷◌, refl, subst, sym, arith}
-use Rattle.std.specs.Prelude.{◌⊎◌}
-use Rattle.std.specs.List.{Contains}
-use Rattle.std.proofs.lemmas.Bool.{cond_both}
+use Rattle.std.proofs.Common.{◌≡◌, ◌<◌, ◌+◌, ℕ, true, inl, inr, subst, sym, arith}
 use Rattle.std.proofs.lemmas.List.Elements.{All-weaker}
 use Rattle.cap_codec.specs.declared.word.Bounds.{Bounds}
 use Rattle.cap_codec.specs.declared.word.Word.{Word}
 use Rattle.heap_core.specs.Blocks.{Span, blocks_with, end_of, start_of}
 use Rattle.heap_core.specs.Heap.{HeapState, IsSound as IsSoundHeap}
-use Rattle.tag_memory.specs.Cells.{Cell}
 use Rattle.heap_trace.specs.Safety.{HoldsGuarded, IsGuarded, IsLiveOrHeld, LieIn}
 use Rattle.heap_trace.specs.Sound.{IsSound}
 use Rattle.heap_trace.specs.State.{State, with_cell}
 use Rattle.heap_trace.specs.Step.{bounds_in}
-use Rattle.heap_trace.proofs.GuardLaws.{IsInside-block}
+use Rattle.heap_trace.proofs.BlockLists.{Contains-new, Contains-still}
+use Rattle.heap_trace.proofs.GuardLaws.{IsGuarded-in, IsInside-block}
 use Rattle.heap_trace.proofs.SoundLaws.{IsSound-with}
-
--- ---- lists
-
-Contains-first : {X : Type 0} (x : X) (xs : List X) → Contains (x ∷ xs) x
-Contains-first x xs = (0, omega arith, refl)
-
-Contains-later : {X : Type 0} (x : X) (xs : List X) (y : X) → Contains xs y → Contains (x ∷ xs) y
-Contains-later x xs y h = let lt = h.1 in (suc h.0, omega arith, h.2)
-
-Contains-cases : {X : Type 0} (x : X) (xs : List X) (y : X) → Contains (x ∷ xs) y → (x ≡ y) ⊎ Contains xs y
-Contains-cases x xs y (zero, lt, e) = inl e
-Contains-cases x xs y (suc k, lt, e) = inr (k, omega arith, e)
-
-Contains-new : (block : Span) (blocks : List Span) → Contains (blocks_with block blocks) block
-Contains-new block [] = Contains-first block []
-Contains-new block (b ∷ blocks) =
-    cond_both (nat_lt (start_of block) (start_of b)) (block ∷ b ∷ blocks) (b ∷ blocks_with block blocks) (λ xs. Contains xs block)
-    (λ _. Contains-first block (b ∷ blocks)) (λ _. Contains-later b (blocks_with block blocks) block (Contains-new block blocks))
-
-Contains-still : (block : Span) (blocks : List Span) (other : Span) → Contains blocks other → Contains (blocks_with block blocks) other
-Contains-still block [] other h = Contains-later block [] other h
-Contains-still block (b ∷ blocks) other h =
-    cond_both (nat_lt (start_of block) (start_of b)) (block ∷ b ∷ blocks) (b ∷ blocks_with block blocks) (λ xs. Contains xs other)
-    (λ _. Contains-later block (b ∷ blocks) other h)
-    (λ _. elim (Contains-cases b blocks other h) [
-      | inl e ↦ (0, omega arith, e)
-      | inr later ↦ Contains-later b (blocks_with block blocks) other (Contains-still block blocks other later)
-    ])
 
 -- ---- cells
 
@@ -52,10 +21,6 @@ IsGuarded-block : (heap : HeapState) (w : Word) (block : Span) → IsLiveOrHeld 
 IsGuarded-block heap w block there some is =
     let whole : LieIn (record { base = start_of block; top = end_of block }) block = record { start = omega arith; some = some; end = omega arith } in
     record { within = λ _. (block, there, subst (λ (b : Bounds). LieIn b block) (sym is) whole) }
-
--- A cell stays guarded where each block is one still.
-IsGuarded-in : (old new : HeapState) (c : Cell) → ((block : Span) → IsLiveOrHeld old block → IsLiveOrHeld new block) → IsGuarded old c → IsGuarded new c
-IsGuarded-in old new c still guarded = record { within = λ e. let x = guarded.within e in (x.0, still x.0 x.1, x.2) }
 
 -- ---- states
 
@@ -73,6 +38,7 @@ IsSound-live s block sound heap =
     record {
       granules = sound.granules;
       count = sound.count;
+      zero = sound.zero;
       safe = record {
         heap = heap;
         registers = All-weaker (IsGuarded s.heap) (IsGuarded new) (λ c. IsGuarded-in s.heap new c still) s.registers sound.safe.registers;

@@ -4,7 +4,7 @@ use Rattle.heap_core.specs.Blocks.{blocks_with}
 use Rattle.heap_core.specs.Place.{block_length}
 use Rattle.tag_memory.specs.Cells.{null_cell}
 use Rattle.heap_trace.specs.declared.trace.Command.{Command}
-use Rattle.heap_trace.specs.declared.trace.Command.TheVariants.{Malloc, Copy, SetAddr, Narrow, AndPerm, StoreCap, LoadCap, Write, Show}
+use Rattle.heap_trace.specs.declared.trace.Command.TheVariants.{Malloc, Free, Copy, SetAddr, Narrow, AndPerm, StoreCap, LoadCap, Write, Show, Sweep}
 use Rattle.heap_trace.specs.declared.reply.Reply.{Reply}
 use Rattle.heap_trace.specs.declared.reply.Reply.TheVariants.{Block, NoSpace}
 use Rattle.heap_trace.specs.declared.reply.Reply.TheVariants as reply
@@ -36,6 +36,7 @@ Effect-only old (Malloc rd size) NoSpace NoSpace m n p q = (refl, p.1 ∙ sym q.
 Effect-only old (Malloc rd size) (Block base top) other m n p q = absurd q
 Effect-only old (Malloc rd size) NoSpace other m n p q = absurd q
 Effect-only old (Malloc rd size) other s m n p q = absurd p
+Effect-only old (Free rs) r s m n p q = same_as p q
 Effect-only old (Copy rd rs) r s m n p q = same_as p q
 Effect-only old (SetAddr rd rs a) r s m n p q = same_as p q
 Effect-only old (Narrow rd rs length) r s m n p q = same_as p q
@@ -44,6 +45,7 @@ Effect-only old (StoreCap ra rs) r s m n p q = same_as p q
 Effect-only old (LoadCap rd ra) r s m n p q = same_as p q
 Effect-only old (Write ra bytes) r s m n p q = same_as p q
 Effect-only old (Show rs) r s m n p q = same_as p q
+Effect-only old Sweep r s m n p q = same_as p q
 
 StepAfter-only : (t : Option Trap) (old : State) (c : Command) (r s : Reply) (m n : State)
     → StepAfter t old c r m → StepAfter t old c s n → (r ≡ s) × (m ≡ n)
@@ -61,6 +63,7 @@ Effect-some old (Malloc rd size) =
       | inl found ↦ (Block found.0 (found.0 + block_length size), with_block old rd size found.0 (found.0 + block_length size), (found.1, refl, refl))
       | inr none ↦ (NoSpace, with_cell old rd null_cell, (none, refl))
     ]
+Effect-some old (Free rs) = (_, _, (refl, refl))
 Effect-some old (Copy rd rs) = (_, _, (refl, refl))
 Effect-some old (SetAddr rd rs a) = (_, _, (refl, refl))
 Effect-some old (Narrow rd rs length) = (_, _, (refl, refl))
@@ -69,6 +72,7 @@ Effect-some old (StoreCap ra rs) = (_, _, (refl, refl))
 Effect-some old (LoadCap rd ra) = (_, _, (refl, refl))
 Effect-some old (Write ra bytes) = (_, _, (refl, refl))
 Effect-some old (Show rs) = (_, _, (refl, refl))
+Effect-some old Sweep = (_, _, (refl, refl))
 
 StepAfter-some : (t : Option Trap) (old : State) (c : Command) → (r : Reply) × (m : State) × StepAfter t old c r m
 StepAfter-some None old c = Effect-some old c

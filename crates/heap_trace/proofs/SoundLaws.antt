@@ -1,8 +1,9 @@
 -- The state of every machine is sound.
-use Rattle.std.proofs.Common.{◌≡◌, ◌∙◌, ℕ, ◌<◌, ◌≤◌, ◌+◌, ◌*◌, ◌%◌, ◌^◌, Bool, true, false, cond, eqb, List, length, get_or, set, sym, ap, subst, arith}
+use Rattle.std.proofs.Common.{◌≡◌, ◌∙◌, ℕ, ◌<◌, ◌≤◌, ◌+◌, ◌*◌, ◌%◌, ◌^◌, Bool, true, false, cond, eqb, List, length, get_or, set, refl, sym, ap, subst, arith}
 use Rattle.std.specs.Prelude.{◌==◌, All, Some, nat_le, replicate, slice_get}
 use Rattle.std.proofs.lemmas.Bool.Decides.{nat_tests}
-use Rattle.std.proofs.lemmas.List.{length-replicate, length-set}
+use Rattle.std.proofs.lemmas.Bool.{eq-eqb, true≢false}
+use Rattle.std.proofs.lemmas.List.{get_or-set_other, length-replicate, length-set}
 use Rattle.std.proofs.lemmas.List.Elements.{All-get_or, All-replicate, All-set}
 use Rattle.std.proofs.lemmas.Option.{get_or_from_slice_get, slice_get_within}
 use Rattle.heap_core.specs.Heap.{HeapState, IsSound as IsSoundHeap, empty_heap}
@@ -56,18 +57,23 @@ pub IsSound-with : (s : State) (r : ℕ) (c : Cell) → IsSound s → IsGuarded 
 IsSound-with s r c sound guarded = record {
   granules = sound.granules;
   count = either (λ (xs : List Cell). length xs ≡ 32) (eqb r 0) s.registers (set s.registers r c) sound.count (length-set s.registers r c ∙ sound.count);
+  zero = zero_kept (eqb r 0) refl;
   safe = record {
     heap = sound.safe.heap;
     registers = either (All (IsGuarded s.heap)) (eqb r 0) s.registers (set s.registers r c) sound.safe.registers (All-set (IsGuarded s.heap) s.registers r c guarded sound.safe.registers);
     cells = sound.safe.cells;
   };
-}
+} where
+  zero_kept : (first : Bool) → eqb r 0 ≡ first → get_or (cond first s.registers (set s.registers r c)) 0 null_cell ≡ null_cell
+  zero_kept true is = sound.zero
+  zero_kept false is = get_or-set_other s.registers r 0 c null_cell (λ e. absurd (true≢false (sym (eq-eqb r 0 (sym e)) ∙ is))) ∙ sound.zero
 
 -- So may a granule.
 pub IsSound-put : (s : State) (i : ℕ) (granule : Granule) → IsSound s → HoldsGuarded s.heap granule → IsSound (record s { cells = set s.cells i granule })
 IsSound-put s i granule sound guarded = record {
   granules = ap (λ n. 16 * n) (length-set s.cells i granule) ∙ sound.granules;
   count = sound.count;
+  zero = sound.zero;
   safe = record {
     heap = sound.safe.heap;
     registers = sound.safe.registers;
@@ -83,6 +89,7 @@ IsSound-first s base pages sound heap cells registers =
     record {
       granules = omega (arith, count, size_is);
       count = ap length registers ∙ length-replicate 32 null_cell;
+      zero = ap (λ (xs : List Cell). get_or xs 0 null_cell) registers;
       safe = record {
         heap = sound;
         registers = subst (All (IsGuarded s.heap)) (sym registers) (All-replicate (IsGuarded s.heap) 32 null_cell (IsGuarded-untagged s.heap _));

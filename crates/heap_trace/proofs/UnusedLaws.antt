@@ -7,7 +7,7 @@ use Rattle.heap_core.specs.Heap.{HeapState}
 use Rattle.heap_core.specs.Place.{IsFree, block_length}
 use Rattle.tag_memory.specs.Cells.{Cell}
 use Rattle.heap_trace.specs.declared.trace.Command.{Command}
-use Rattle.heap_trace.specs.declared.trace.Command.TheVariants.{Malloc, Copy, SetAddr, Narrow, AndPerm, StoreCap, LoadCap, Write, Show}
+use Rattle.heap_trace.specs.declared.trace.Command.TheVariants.{Malloc, Free, Copy, SetAddr, Narrow, AndPerm, StoreCap, LoadCap, Write, Show, Sweep}
 use Rattle.heap_trace.specs.declared.reply.Reply.{Reply}
 use Rattle.heap_trace.specs.declared.reply.Reply.TheVariants.{Block, NoSpace, Done, Cleared}
 use Rattle.heap_trace.specs.declared.reply.Reply.TheVariants as reply
@@ -62,6 +62,7 @@ neither false = refl
 Effect-unused : (old : State) (c : Command) (r : Reply) (new : State) → IsSafe old → Effect old c r new → IsUnused old r
 Effect-unused old (Malloc rd size) (Block base top) new safe effect = IsUnused-free old size base top safe effect.0.free effect.1
 Effect-unused old (Malloc rd size) other new safe effect = tt
+Effect-unused old (Free rs) r new safe effect = IsUnused-same old r _ refl effect.0
 Effect-unused old (Copy rd rs) r new safe effect = IsUnused-same old r Done refl effect.0
 Effect-unused old (SetAddr rd rs a) r new safe effect = IsUnused-same old r _ (neither _) effect.0
 Effect-unused old (Narrow rd rs n) r new safe effect = IsUnused-same old r Done refl effect.0
@@ -70,6 +71,7 @@ Effect-unused old (StoreCap ra rs) r new safe effect = IsUnused-same old r Done 
 Effect-unused old (LoadCap rd ra) r new safe effect = IsUnused-same old r Done refl effect.0
 Effect-unused old (Write ra bytes) r new safe effect = IsUnused-same old r Done refl effect.0
 Effect-unused old (Show rs) r new safe effect = IsUnused-same old r _ refl effect.0
+Effect-unused old Sweep r new safe effect = IsUnused-same old r _ refl effect.0
 
 StepAfter-unused : (t : Option Trap) (old : State) (c : Command) (r : Reply) (new : State) → IsSafe old → StepAfter t old c r new → IsUnused old r
 StepAfter-unused None old c r new safe step = Effect-unused old c r new safe step

@@ -3,7 +3,7 @@ use Rattle.std.proofs.Common.{◌≡◌, ◌≢◌, ℕ, ◌+◌, Bool, true, fa
 use Rattle.std.specs.List.{AllByRecursion}
 use Rattle.std.proofs.lemmas.Bool.Decides.{nat_tests}
 use Rattle.heap_trace.specs.declared.trace.Command.{Command}
-use Rattle.heap_trace.specs.declared.trace.Command.TheVariants.{Malloc, Copy, SetAddr, Narrow, AndPerm, StoreCap, LoadCap, Write, Show}
+use Rattle.heap_trace.specs.declared.trace.Command.TheVariants.{Malloc, Free, Copy, SetAddr, Narrow, AndPerm, StoreCap, LoadCap, Write, Show, Sweep}
 use Rattle.heap_trace.specs.declared.fault.LineFault.{LineFault}
 use Rattle.heap_trace.specs.declared.fault.LineFault.TheVariants as line_fault
 use Rattle.heap_trace.specs.declared.fault.TraceFault.{TraceFault}
@@ -37,6 +37,7 @@ command_at-passed number words over = rw over refl
 
 not_passed : (words : List (List ℕ)) (command : Command) → IsCommand words command → is_passed_over words ≡ false
 not_passed words (Malloc rd size) h = ap is_passed_over h.2
+not_passed words (Free rs) h = ap is_passed_over h.1
 not_passed words (Copy rd rs) h = ap is_passed_over h.2
 not_passed words (SetAddr rd rs address) h = ap is_passed_over h.3
 not_passed words (Narrow rd rs length) h = ap is_passed_over h.3
@@ -45,6 +46,7 @@ not_passed words (StoreCap ra rs) h = ap is_passed_over h.2
 not_passed words (LoadCap rd ra) h = ap is_passed_over h.2
 not_passed words (Write ra bytes) h = ap is_passed_over h.2
 not_passed words (Show rs) h = ap is_passed_over h.1
+not_passed words Sweep h = ap is_passed_over h
 
 command_at-IsCommand : (number : ℕ) (words : List (List ℕ)) (command : Command) → IsCommand words command → command_at number words ≡ Ok (Some command)
 unfolding command_at

@@ -1,11 +1,12 @@
 -- Commands that can be carried out, in this project's own trace language.
 use Rattle.std.specs.Prelude.{ℕ, ◌<◌, ◌^◌}
 use Rattle.heap_trace.specs.declared.trace.Command.{Command}
-use Rattle.heap_trace.specs.declared.trace.Command.TheVariants.{Malloc, Copy, SetAddr, Narrow, AndPerm, StoreCap, LoadCap, Write, Show}
+use Rattle.heap_trace.specs.declared.trace.Command.TheVariants.{Malloc, Free, Copy, SetAddr, Narrow, AndPerm, StoreCap, LoadCap, Write, Show, Sweep}
 
 -- each register number is below 32
 abbrev pub IsValid : Command → Type 0
 IsValid (Malloc rd size) = rd < 32
+IsValid (Free rs) = rs < 32
 IsValid (Copy rd rs) = (rd < 32) × (rs < 32)
 IsValid (SetAddr rd rs address) = (rd < 32) × (rs < 32)
 IsValid (Narrow rd rs length) = (rd < 32) × (rs < 32)
@@ -14,6 +15,7 @@ IsValid (StoreCap ra rs) = (ra < 32) × (rs < 32)
 IsValid (LoadCap rd ra) = (rd < 32) × (ra < 32)
 IsValid (Write ra bytes) = ra < 32
 IsValid (Show rs) = rs < 32
+IsValid Sweep = Unit {0}
 
 -- a valid command with the number of its line, which has 32 bits
 abbrev pub IsListed : ℕ × Command → Type 0

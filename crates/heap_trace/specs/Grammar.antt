@@ -10,7 +10,7 @@ use Rattle.heap_trace.specs.declared.fault.LineFault.TheVariants as line_fault
 use Rattle.heap_trace.specs.declared.fault.TraceFault.{TraceFault}
 use Rattle.heap_trace.specs.declared.fault.TraceFault.TheVariants.{Memory, TooLong, NoHeap, BadHeap, BadCommand, BadCount, BadRegister, BadNumber, BadData}
 use Rattle.heap_trace.specs.declared.trace.Command.{Command}
-use Rattle.heap_trace.specs.declared.trace.Command.TheVariants.{Malloc, Copy, SetAddr, Narrow, AndPerm, StoreCap, LoadCap, Write, Show}
+use Rattle.heap_trace.specs.declared.trace.Command.TheVariants.{Malloc, Free, Copy, SetAddr, Narrow, AndPerm, StoreCap, LoadCap, Write, Show, Sweep}
 use Rattle.heap_trace.specs.Heap.{IsHeap}
 use Rattle.heap_trace.specs.Lines.{is_passed_over, lines_of, words_of}
 use Rattle.heap_trace.specs.Reading.{Script}
@@ -49,6 +49,8 @@ IsData word bytes = decode_sized word 16 ≡ Ok bytes
 abbrev pub IsCommand : List (List ℕ) → Command → Type 0
 IsCommand words (Malloc rd size) =
     (first second : List ℕ) × (words ≡ codes "malloc" ∷ first ∷ second ∷ []) × IsRegister first rd × IsNumber second size
+IsCommand words (Free rs) =
+    (first : List ℕ) × (words ≡ codes "free" ∷ first ∷ []) × IsRegister first rs
 IsCommand words (Copy rd rs) =
     (first second : List ℕ) × (words ≡ codes "copy" ∷ first ∷ second ∷ []) × IsRegister first rd × IsRegister second rs
 IsCommand words (SetAddr rd rs address) =
@@ -65,6 +67,7 @@ IsCommand words (Write ra bytes) =
     (first second : List ℕ) × (words ≡ codes "write" ∷ first ∷ second ∷ []) × IsRegister first ra × IsData second bytes
 IsCommand words (Show rs) =
     (first : List ℕ) × (words ≡ codes "show" ∷ first ∷ []) × IsRegister first rs
+IsCommand words Sweep = words ≡ codes "sweep" ∷ []
 
 -- the forms of the words after a command's name
 pub data Form : Type 0 where
@@ -90,6 +93,7 @@ fault_of Data = line_fault.BadData
 abbrev pub forms_of : List ℕ → Option (List Form)
 forms_of name =
     if bytes_eq name (codes "malloc") then Some (Register ∷ Number ∷ [])
+    else if bytes_eq name (codes "free") then Some (Register ∷ [])
     else if bytes_eq name (codes "copy") then Some (Register ∷ Register ∷ [])
     else if bytes_eq name (codes "setaddr") then Some (Register ∷ Register ∷ Number ∷ [])
     else if bytes_eq name (codes "narrow") then Some (Register ∷ Register ∷ Number ∷ [])
@@ -98,6 +102,7 @@ forms_of name =
     else if bytes_eq name (codes "loadcap") then Some (Register ∷ Register ∷ [])
     else if bytes_eq name (codes "write") then Some (Register ∷ Data ∷ [])
     else if bytes_eq name (codes "show") then Some (Register ∷ [])
+    else if bytes_eq name (codes "sweep") then Some []
     else None
 
 -- as many words as forms, each of its form

@@ -1,6 +1,6 @@
 -- How a text is read as a trace, or as its fault: one function, which is what other definitions cite.
 -- Grammar.antt says without any steps what is read.
-use Rattle.std.specs.Prelude.{◌≡◌, ℕ, ◌+◌, ◌^◌, Bool, not, List, [], ◌∷◌, ◌++◌, length, take, drop, Option, Some, None, Result, Ok, Err, nat_eq, nat_lt, nat_le, ◌&&◌, codes, if◌then◌else◌, bytes_eq, option_and_then}
+use Rattle.std.specs.Prelude.{◌≡◌, ℕ, ◌+◌, ◌^◌, Bool, true, false, not, List, [], ◌∷◌, ◌++◌, length, take, drop, Option, Some, None, Result, Ok, Err, nat_eq, nat_lt, nat_le, ◌&&◌, codes, if◌then◌else◌, bytes_eq, option_and_then}
 use Rattle.std.specs.Char.{is_digit}
 use Rattle.std.specs.List.{list_all, starts_with}
 use Rattle.std.specs.Option.{ok_or}
@@ -11,7 +11,7 @@ use Rattle.heap_trace.specs.declared.fault.LineFault.TheVariants as line_fault
 use Rattle.heap_trace.specs.declared.fault.TraceFault.{TraceFault}
 use Rattle.heap_trace.specs.declared.fault.TraceFault.TheVariants.{Memory, TooLong, NoHeap, BadHeap, BadCommand, BadCount, BadRegister, BadNumber, BadData}
 use Rattle.heap_trace.specs.declared.trace.Command.{Command}
-use Rattle.heap_trace.specs.declared.trace.Command.TheVariants.{Malloc, Copy, SetAddr, Narrow, AndPerm, StoreCap, LoadCap, Write, Show}
+use Rattle.heap_trace.specs.declared.trace.Command.TheVariants.{Malloc, Free, Copy, SetAddr, Narrow, AndPerm, StoreCap, LoadCap, Write, Show, Sweep}
 use Rattle.heap_trace.specs.declared.trace.Trace.{Trace}
 use Rattle.heap_trace.specs.Lines.{is_passed_over, lines_of, words_of}
 use Rattle.tag_memory.specs.Span.{is_base, is_size}
@@ -83,6 +83,10 @@ data_in word = data_from (decode_sized word 16)
 
 -- ---- the words after a command's name
 
+abbrev pub no_word_in : List (List ℕ) → Bool
+no_word_in [] = true
+no_word_in _ = false
+
 abbrev pub one_word_in : List (List ℕ) → Option (List ℕ)
 one_word_in (word ∷ []) = Some word
 one_word_in _ = None
@@ -94,6 +98,10 @@ two_words_in _ = None
 abbrev pub three_words_in : List (List ℕ) → Option (List ℕ × List ℕ × List ℕ)
 three_words_in (first ∷ second ∷ third ∷ []) = Some (first, second, third)
 three_words_in _ = None
+
+-- no word
+unfoldable pub none_of : List (List ℕ) → Result (Unit {0}) LineFault
+none_of words = if no_word_in words then Ok tt else Err line_fault.BadCount
 
 -- one word, read so
 unfoldable pub one_of : {A : Type 0} → (List ℕ → Result A LineFault) → List (List ℕ) → Result A LineFault
@@ -127,6 +135,7 @@ unfoldable pub command_of : List (List ℕ) → Result Command LineFault
 command_of [] = Err line_fault.BadCommand
 command_of (name ∷ words) =
     if bytes_eq name (codes "malloc") then (two_of register_in number_in words >>= λ read. Ok (Malloc read.0 read.1))
+    else if bytes_eq name (codes "free") then (one_of register_in words >>= λ rs. Ok (Free rs))
     else if bytes_eq name (codes "copy") then (two_of register_in register_in words >>= λ read. Ok (Copy read.0 read.1))
     else if bytes_eq name (codes "setaddr") then (three_of register_in register_in number_in words >>= λ read. Ok (SetAddr read.0 read.1 read.2))
     else if bytes_eq name (codes "narrow") then (three_of register_in register_in number_in words >>= λ read. Ok (Narrow read.0 read.1 read.2))
@@ -135,6 +144,7 @@ command_of (name ∷ words) =
     else if bytes_eq name (codes "loadcap") then (two_of register_in register_in words >>= λ read. Ok (LoadCap read.0 read.1))
     else if bytes_eq name (codes "write") then (two_of register_in data_in words >>= λ read. Ok (Write read.0 read.1))
     else if bytes_eq name (codes "show") then (one_of register_in words >>= λ rs. Ok (Show rs))
+    else if bytes_eq name (codes "sweep") then (none_of words >>= λ _. Ok Sweep)
     else Err line_fault.BadCommand
 
 -- the fault of a text whose first faulty line has this number

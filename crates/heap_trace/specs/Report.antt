@@ -1,23 +1,24 @@
 -- The text of a report: a line for each command, and a last line (this project's own profile).
-use Rattle.std.specs.Prelude.{ℕ, ◌+◌, ◌-◌, List, [], ◌∷◌, ◌++◌, codes, count_by, drop}
+use Rattle.std.specs.Prelude.{ℕ, ◌-◌, List, [], ◌∷◌, ◌++◌, codes}
 use Rattle.std.specs.Fmt.{decimal}
 use Rattle.std.specs.List.{concat}
 use Rattle.heap_core.specs.Blocks.{bytes_of}
 use Rattle.heap_core.specs.Heap.{HeapState}
 use Rattle.heap_trace.specs.declared.trace.Command.{Command}
-use Rattle.heap_trace.specs.declared.trace.Command.TheVariants.{Malloc, Copy, SetAddr, Narrow, AndPerm, StoreCap, LoadCap, Write, Show}
+use Rattle.heap_trace.specs.declared.trace.Command.TheVariants.{Malloc, Free, Copy, SetAddr, Narrow, AndPerm, StoreCap, LoadCap, Write, Show, Sweep}
 use Rattle.heap_trace.specs.declared.reply.Reply.{Reply}
 use Rattle.heap_trace.specs.declared.reply.Reply.TheVariants.{Block, NoSpace, Held, Done, Cleared, Swept}
 use Rattle.heap_trace.specs.declared.reply.Reply.TheVariants as reply
 use Rattle.heap_trace.specs.declared.reply.Shown.{Shown as ShownCell}
 use Rattle.heap_trace.specs.declared.reply.Trap.{Trap}
 use Rattle.heap_trace.specs.declared.reply.Trap.TheVariants as trap
-use Rattle.heap_trace.specs.State.{State}
+use Rattle.heap_trace.specs.State.{State, tags_of}
 use Rattle.heap_trace.specs.Display.{bit_text, hexadecimal_text, joined, place_text}
 
 -- The first word of a command.
 abbrev pub name_of : Command → List ℕ
 name_of (Malloc rd size) = codes "malloc"
+name_of (Free rs) = codes "free"
 name_of (Copy rd rs) = codes "copy"
 name_of (SetAddr rd rs address) = codes "setaddr"
 name_of (Narrow rd rs length) = codes "narrow"
@@ -26,6 +27,7 @@ name_of (StoreCap ra rs) = codes "storecap"
 name_of (LoadCap rd ra) = codes "loadcap"
 name_of (Write ra bytes) = codes "write"
 name_of (Show rs) = codes "show"
+name_of Sweep = codes "sweep"
 
 abbrev pub trap_name : Trap → List ℕ
 trap_name trap.Tag = codes "tag"
@@ -62,10 +64,6 @@ line_text n c r = concat (decimal n ∷ codes " " ∷ name_of c ∷ codes " " �
 abbrev pub lines_text : List (ℕ × Command) → List Reply → List ℕ
 lines_text (c ∷ cs) (r ∷ rs) = line_text c.0 c.1 r ++ lines_text cs rs
 lines_text _ _ = []
-
--- How many granules and registers are tagged. Register 0 never is.
-abbrev pub tags_of : State → ℕ
-tags_of s = count_by (λ c. c.1) s.cells + count_by (λ c. c.1) (drop 1 s.registers)
 
 -- The bytes in no block.
 abbrev pub free_of : HeapState → ℕ

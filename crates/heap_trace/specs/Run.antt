@@ -3,7 +3,7 @@ use Rattle.std.specs.Prelude.{◌≡◌, ℕ, List, [], ◌∷◌, map}
 use Rattle.heap_trace.specs.declared.trace.Command.{Command}
 use Rattle.heap_trace.specs.declared.reply.Reply.{Reply}
 use Rattle.heap_trace.specs.Report.{lines_text}
-use Rattle.heap_trace.specs.Safety.{IsSafe, IsUnused}
+use Rattle.heap_trace.specs.Safety.{IsReuseSafe, IsSafe}
 use Rattle.heap_trace.specs.State.{State}
 use Rattle.heap_trace.specs.Step.{Step}
 
@@ -14,10 +14,10 @@ Run old (c ∷ cs) (r ∷ rs) new = (mid : State) × Step old c r mid × Run mid
 Run old [] (r ∷ rs) new = ⊥
 Run old (c ∷ cs) [] new = ⊥
 
--- Each state of this run is safe, the first and the last too, and each reply is unused in the state before it.
+-- Each state of this run is safe, the first and the last too, and each command hands out bytes safely.
 abbrev pub IsSafeRun : (old : State) (commands : List Command) (replies : List Reply) (new : State) → Run old commands replies new → Type 0
 IsSafeRun old [] [] new run = IsSafe new
-IsSafeRun old (c ∷ cs) (r ∷ rs) new run = IsSafe old × IsUnused old r × IsSafeRun run.0 cs rs new run.2
+IsSafeRun old (c ∷ cs) (r ∷ rs) new run = IsSafe old × IsReuseSafe old r run.0 × IsSafeRun run.0 cs rs new run.2
 IsSafeRun old [] (r ∷ rs) new run = ⊥
 IsSafeRun old (c ∷ cs) [] new run = ⊥
 

@@ -8,7 +8,7 @@ use Rattle.heap_core.specs.Blocks.{Span, end_of, start_of}
 use Rattle.heap_core.specs.Heap.{HeapState, IsSound as IsSoundHeap}
 use Rattle.tag_memory.specs.Cells.{Cell, Granule}
 use Rattle.heap_trace.specs.declared.reply.Reply.{Reply}
-use Rattle.heap_trace.specs.declared.reply.Reply.TheVariants.{Block}
+use Rattle.heap_trace.specs.declared.reply.Reply.TheVariants.{Block, Swept}
 use Rattle.heap_trace.specs.State.{State}
 use Rattle.heap_trace.specs.Step.{bounds_in}
 
@@ -51,3 +51,17 @@ abbrev pub IsUnused : State → Reply → Type 0
 IsUnused s (Block base top) =
     All (λ c. HasBaseIn base top c → ⊥) s.registers × All (λ granule. HasBaseIn base top (cell_of granule) → ⊥) s.cells
 IsUnused s other = Unit {0}
+
+-- The cell is in use: where it is tagged, its bounds lie in one live block.
+pub record IsInUse (heap : HeapState) (c : Cell) : Type 0 where
+  pub within : IsTrue c.1 → (block : Span) × Contains heap.live block × LieIn (bounds_in c.0) block
+
+-- After a sweep no tagged word is left that points into a block that was given up: each is in use.
+abbrev pub IsRevoked : Reply → State → Type 0
+IsRevoked (Swept cleared released) s = All (IsInUse s.heap) s.registers × All (λ granule. IsInUse s.heap (cell_of granule)) s.cells
+IsRevoked other s = Unit {0}
+
+-- A command so answered hands out bytes safely: what it hands out is unused before, and what a sweep leaves is in use.
+pub record IsReuseSafe (old : State) (r : Reply) (new : State) : Type 0 where
+  pub unused : IsUnused old r
+  pub revoked : IsRevoked r new

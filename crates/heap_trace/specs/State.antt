@@ -1,5 +1,5 @@
 -- The state of a machine: one heap, its memory and 32 registers (this project's own profile).
-use Rattle.std.specs.Prelude.{ℕ, List}
+use Rattle.std.specs.Prelude.{ℕ, ◌+◌, List, count_by, drop}
 use Rattle.heap_core.specs.Heap.{HeapState, empty_heap}
 use Rattle.tag_memory.specs.Cells.{Cell, Granule, MemoryState, new_memory, new_registers, register_in, with_register}
 
@@ -23,3 +23,7 @@ register s r = register_in s.registers r
 -- The state after a write to a register.
 abbrev pub with_cell : State → ℕ → Cell → State
 with_cell s r cell = record s { registers = with_register s.registers r cell }
+
+-- How many granules and registers are tagged. Register 0 never is.
+abbrev pub tags_of : State → ℕ
+tags_of s = count_by (λ c. c.1) s.cells + count_by (λ c. c.1) (drop 1 s.registers)

@@ -11,18 +11,20 @@ use Rattle.cap_codec.specs.Fields.{bits_with, fields_of}
 use Rattle.cap_codec.specs.Mantissas.{exponent_of}
 use Rattle.cap_codec.specs.Representable.{is_representable}
 use Rattle.cap_codec.specs.Rounding.{outward_base, outward_top, with_bounds_of}
-use Rattle.heap_core.specs.Blocks.{blocks_with}
+use Rattle.heap_core.specs.Blocks.{blocks_with, bytes_of, is_block}
 use Rattle.heap_core.specs.Place.{IsFree, IsPlace, block_length}
+use Rattle.heap_core.specs.Quarantine.{with_held, without_held}
+use Rattle.sweep_pool.specs.Sweep.{swept_granules, swept_registers}
 use Rattle.tag_memory.specs.Cells.{Cell, Granule, null_cell}
 use Rattle.heap_trace.specs.declared.trace.Command.{Command}
-use Rattle.heap_trace.specs.declared.trace.Command.TheVariants.{Malloc, Copy, SetAddr, Narrow, AndPerm, StoreCap, LoadCap, Write, Show}
+use Rattle.heap_trace.specs.declared.trace.Command.TheVariants.{Malloc, Free, Copy, SetAddr, Narrow, AndPerm, StoreCap, LoadCap, Write, Show, Sweep}
 use Rattle.heap_trace.specs.declared.reply.Reply.{Reply}
-use Rattle.heap_trace.specs.declared.reply.Reply.TheVariants.{Block, NoSpace, Done, Cleared}
+use Rattle.heap_trace.specs.declared.reply.Reply.TheVariants.{Block, NoSpace, Held, Done, Cleared, Swept}
 use Rattle.heap_trace.specs.declared.reply.Reply.TheVariants as reply
 use Rattle.heap_trace.specs.declared.reply.Shown.{Shown as ShownCell}
 use Rattle.heap_trace.specs.declared.reply.Trap.{Trap}
 use Rattle.heap_trace.specs.declared.reply.Trap.TheVariants as trap
-use Rattle.heap_trace.specs.State.{State, register, with_cell}
+use Rattle.heap_trace.specs.State.{State, register, tags_of, with_cell}
 
 -- ---- words
 
@@ -111,10 +113,31 @@ granule_at s w = slice_index_or s.cells (index_in s w) (0, false)
 abbrev pub with_granule : State → Word → Granule → State
 with_granule s w granule = record s { cells = slice_set s.cells (index_in s w) granule }
 
+-- ---- freeing and sweeping
+
+-- The state once the live block with a word's bounds is held.
+abbrev pub freed : State → Word → State
+freed s w = record s { heap = with_held s.heap (bounds_in w).base (bounds_in w).top }
+
+-- The state after a sweep: each tagged word whose base lies in a held block has lost its tag, in memory and
+-- in the registers, and the held blocks are free.
+abbrev pub swept : State → State
+swept s = record s {
+  heap = without_held s.heap;
+  cells = swept_granules s.heap.held s.cells;
+  registers = swept_registers s.heap.held s.registers;
+}
+
 -- ---- steps
 
 -- The checks of a command in order, each with the trap where it fails.
 abbrev pub checks : State → Command → List (Bool × Trap)
+checks s (Free rs) =
+    let c = register s rs in
+    let b = bounds_in c.0 in
+    (c.1, trap.Tag)
+    ∷ (not (is_block s.heap.held b.base b.top), trap.Freed)
+    ∷ (is_block s.heap.live b.base b.top, trap.NotBlock) ∷ []
 checks s (Narrow rd rs n) =
     let c = register s rs in
     let a = address_in c.0 in
@@ -141,6 +164,9 @@ Effect old (Malloc rd size) (Block base top) new =
     × (new ≡ record (with_cell old rd (capability_of base top, true)) { heap = record old.heap { live = blocks_with (base, block_length size) old.heap.live } })
 Effect old (Malloc rd size) NoSpace new = ((a : ℕ) → IsFree old.heap size a → ⊥) × (new ≡ with_cell old rd null_cell)
 Effect old (Malloc rd size) other new = ⊥
+Effect old (Free rs) answer new =
+    let w = (register old rs).0 in
+    (answer ≡ Held ((bounds_in w).top - (bounds_in w).base)) × (new ≡ freed old w)
 Effect old (Copy rd rs) answer new = (answer ≡ Done) × (new ≡ with_cell old rd (register old rs))
 Effect old (SetAddr rd rs a) answer new =
     let c = register old rs in
@@ -161,6 +187,8 @@ Effect old (LoadCap rd ra) answer new =
     (answer ≡ Done) × (new ≡ with_cell old rd (record { bits = granule.0 }, granule.1 && allows load_capability w))
 Effect old (Write ra bytes) answer new = (answer ≡ Done) × (new ≡ with_granule old (register old ra).0 (bits_of_bytes bytes, false))
 Effect old (Show rs) answer new = (answer ≡ reply.Shown (shown_of (register old rs))) × (new ≡ old)
+Effect old Sweep answer new =
+    (answer ≡ Swept (tags_of old - tags_of (swept old)) (bytes_of old.heap.held)) × (new ≡ swept old)
 
 -- The step where a check fails, and where none does.
 abbrev pub StepAfter : Option Trap → State → Command → Reply → State → Type 0
@@ -174,4 +202,5 @@ Step old command answer new = StepAfter (first_failed (checks old command)) old 
 -- The commands that need no memory.
 abbrev pub TakesNoMemory : Command → Type 0
 TakesNoMemory (Malloc rd size) = ⊥
+TakesNoMemory Sweep = ⊥
 TakesNoMemory other = Unit {0}

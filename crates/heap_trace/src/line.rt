@@ -4,13 +4,25 @@ ghost use Rattle.std.specs.Prelude.{◌≡◌, ◌≤◌, ◌<◌, ◌∷◌, �
 ghost use Rattle.heap_trace.specs.Command.{IsValid};
 ghost use Rattle.heap_trace.specs.Heap.{IsHeap};
 ghost use Rattle.heap_trace.specs.Lines.{words_of};
-ghost use Rattle.heap_trace.specs.Reading.{command_of, command_at, data_in, heap_at, heap_of, is_heap, mask_in, number_in, one_of, register_in, three_of, two_of};
+ghost use Rattle.heap_trace.specs.Reading.{command_of, command_at, data_in, heap_at, heap_of, is_heap, mask_in, none_of, number_in, one_of, register_in, three_of, two_of};
 
 use crate::fault::{LineFault, TraceFault};
 use crate::operand::{data, mask, number, operand_number, register};
 use crate::trace::Command;
-use crate::words::{one_word, split_name, three_words, two_words};
+use crate::words::{no_word, one_word, split_name, three_words, two_words};
 use tag_memory::{is_base, is_size};
+
+// No operands.
+#[tactic(auto, unfolding(crate::specs::Reading::none_of))]
+fn no_operands(operands: &[u8]) -> Result<(), LineFault>
+    ensures { result ≡ none_of (words_of operands.now) }
+{
+    if no_word(operands) {
+        Ok(())
+    } else {
+        Err(LineFault::BadCount)
+    }
+}
 
 // A register and a number.
 #[tactic(auto, unfolding(crate::specs::Reading::two_of))]
@@ -106,6 +118,10 @@ fn command(name: &[u8], operands: &[u8]) -> Result<Command, LineFault>
         let (rd, size) = register_and_number(operands)?;
         return Ok(Command::Malloc { rd, size });
     }
+    if name == b"free".as_slice() {
+        let rs = one_register(operands)?;
+        return Ok(Command::Free { rs });
+    }
     if name == b"copy".as_slice() {
         let (rd, rs) = two_registers(operands)?;
         return Ok(Command::Copy { rd, rs });
@@ -137,6 +153,10 @@ fn command(name: &[u8], operands: &[u8]) -> Result<Command, LineFault>
     if name == b"show".as_slice() {
         let rs = one_register(operands)?;
         return Ok(Command::Show { rs });
+    }
+    if name == b"sweep".as_slice() {
+        no_operands(operands)?;
+        return Ok(Command::Sweep);
     }
     Err(LineFault::BadCommand)
 }

@@ -4,9 +4,11 @@ ghost use Rattle.std.specs.Prelude.{◌≡◌, ◌↔◌, ◌<◌, ◌+◌, IfEr
 ghost use Rattle.heap_core.specs.Blocks.{bytes_of};
 ghost use Rattle.tag_memory.specs.Span as span;
 ghost use Rattle.heap_trace.specs.Command.{IsValid};
-ghost use Rattle.heap_trace.specs.Safety.{IsSafe, IsUnused};
+ghost use Rattle.heap_trace.specs.Safety.{IsRevoked, IsSafe, IsUnused};
 ghost use Rattle.heap_trace.specs.State.{first_state, memory_of, register};
 ghost use Rattle.heap_trace.specs.Step.{Step, TakesNoMemory, access, first_failed, index_in};
+
+mod revocation;
 
 use crate::capability::{
     LOAD, LOAD_CAPABILITY, STORE, STORE_CAPABILITY, address_of, allowed_by, bounded,
@@ -81,7 +83,7 @@ impl Machine {
     pub fn step<R: Threads + Sync, G: Gate + Sync>(
         &mut self,
         _rt: &R,
-        _alloc: Global,
+        alloc: Global,
         command: Command,
         _gate: &G,
     ) -> Result<Reply, MachineFault>
@@ -92,15 +94,16 @@ impl Machine {
         ensures ok { TakesNoMemory command → IsOk result }
         ensures safe { IsSafe self.new }
         ensures unused { IfOk result (λ reply. IsUnused self.old reply) }
+        ensures revoked { IfOk result (λ reply. IsRevoked reply self.new) }
     {
         // The invariant holds before and after: both states are safe.
         let _ = &self.heap;
-        let result = self.serve(command);
+        let result = self.serve(alloc, command);
         let _ = &self.heap;
         result
     }
 
-    fn serve(&mut self, command: Command) -> Result<Reply, MachineFault>
+    fn serve(&mut self, alloc: Global, command: Command) -> Result<Reply, MachineFault>
         requires { IsValid command }
         ensures step { IfOk result (λ reply. Step self.old command reply self.new) }
         ensures err { OnErr result (self.new ≡ self.old) }
@@ -109,6 +112,7 @@ impl Machine {
     {
         match command {
             Command::Malloc { rd, size } => self.malloc(rd, size),
+            Command::Free { rs } => self.free(rs),
             Command::Copy { rd, rs } => Ok(self.copy(rd, rs)),
             Command::SetAddr { rd, rs, address } => Ok(self.set_address(rd, rs, address)),
             Command::Narrow { rd, rs, length } => Ok(self.narrow(rd, rs, length)),
@@ -117,6 +121,7 @@ impl Machine {
             Command::LoadCap { rd, ra } => Ok(self.load_cap(rd, ra)),
             Command::Write { ra, bytes } => Ok(self.write(ra, bytes)),
             Command::Show { rs } => Ok(self.show(rs)),
+            Command::Sweep => self.sweep(alloc),
         }
     }
 

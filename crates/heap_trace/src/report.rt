@@ -1,7 +1,8 @@
 //! The text of a report.
 
 ghost use Rattle.std.specs.Prelude.{◌≡◌, ◌++◌, IfOk, OnErr, OnOk, Some, string_bytes};
-ghost use Rattle.heap_trace.specs.Report.{answer_text, end_text, line_text, name_of, shown_text, tags_of, trap_name};
+ghost use Rattle.heap_trace.specs.Report.{answer_text, end_text, line_text, name_of, shown_text, trap_name};
+ghost use Rattle.heap_trace.specs.State.{tags_of};
 
 use crate::display::{Hexadecimal, Place, bit};
 use crate::machine::Machine;
@@ -15,6 +16,7 @@ fn name(command: Command) -> &'static str
 {
     match command {
         Command::Malloc { .. } => "malloc",
+        Command::Free { .. } => "free",
         Command::Copy { .. } => "copy",
         Command::SetAddr { .. } => "setaddr",
         Command::Narrow { .. } => "narrow",
@@ -23,6 +25,7 @@ fn name(command: Command) -> &'static str
         Command::LoadCap { .. } => "loadcap",
         Command::Write { .. } => "write",
         Command::Show { .. } => "show",
+        Command::Sweep => "sweep",
     }
 }
 

@@ -10,6 +10,7 @@ pub const REGISTERS: u8 = 32;
 #[derive(Clone, Copy, Debug, PartialEq, Eq)]
 pub enum Command {
     Malloc { rd: u8, size: u64 },
+    Free { rs: u8 },
     Copy { rd: u8, rs: u8 },
     SetAddr { rd: u8, rs: u8, address: u64 },
     Narrow { rd: u8, rs: u8, length: u64 },
@@ -18,6 +19,7 @@ pub enum Command {
     LoadCap { rd: u8, ra: u8 },
     Write { ra: u8, bytes: [u8; 16] },
     Show { rs: u8 },
+    Sweep,
 }
 
 impl Command {
@@ -36,7 +38,8 @@ impl Command {
             Command::StoreCap { ra, rs } => ra < REGISTERS && rs < REGISTERS,
             Command::LoadCap { rd, ra } => rd < REGISTERS && ra < REGISTERS,
             Command::Write { ra, .. } => ra < REGISTERS,
-            Command::Show { rs } => rs < REGISTERS,
+            Command::Free { rs } | Command::Show { rs } => rs < REGISTERS,
+            Command::Sweep => true,
         }
     }
 }

@@ -4,7 +4,7 @@ ghost use Rattle.std.specs.Prelude.{◌≡◌, ◌<◌, ◌==◌, [], ◌∷◌,
 ghost use Rattle.std.specs.List.{position};
 ghost use Rattle.std.specs.Option.{option_map};
 ghost use Rattle.heap_trace.specs.Lines.{is_blank, is_passed_over, lines_of, words_of};
-ghost use Rattle.heap_trace.specs.Reading.{one_word_in, three_words_in, two_words_in};
+ghost use Rattle.heap_trace.specs.Reading.{no_word_in, one_word_in, three_words_in, two_words_in};
 
 fn first_feed(text: &[u8]) -> Option<usize>
     ensures { result ≡ position (λ byte. byte == 10) text.now }
@@ -67,6 +67,13 @@ pub fn split_name(line: &[u8]) -> Option<(&[u8], &[u8])>
         return None;
     }
     Some((name, rest))
+}
+
+/// Whether a line has no word.
+pub fn no_word(line: &[u8]) -> bool
+    ensures { result ≡ no_word_in (words_of line.now) }
+{
+    split_word(line).is_none()
 }
 
 /// The word of a line that has just one.

@@ -51,12 +51,23 @@ fn command_lines_with_a_fault(rt: HostRuntime) -> Result<(), Fail> {
         ("frob", TraceFault::BadCommand(2)),
         ("MALLOC c1 16", TraceFault::BadCommand(2)),
         ("heap 0x40000000 1", TraceFault::BadCommand(2)),
-        ("free c1", TraceFault::BadCommand(2)),
-        ("sweep", TraceFault::BadCommand(2)),
+        ("frees c1", TraceFault::BadCommand(2)),
+        ("FREE c1", TraceFault::BadCommand(2)),
+        ("swee", TraceFault::BadCommand(2)),
+        ("Sweep", TraceFault::BadCommand(2)),
         ("malloc", TraceFault::BadCount(2)),
         ("malloc c1", TraceFault::BadCount(2)),
         ("malloc x", TraceFault::BadCount(2)),
         ("show c1 c2", TraceFault::BadCount(2)),
+        ("free", TraceFault::BadCount(2)),
+        ("free c1 c2", TraceFault::BadCount(2)),
+        ("free x y", TraceFault::BadCount(2)),
+        ("sweep now", TraceFault::BadCount(2)),
+        ("sweep c1", TraceFault::BadCount(2)),
+        ("sweep # all", TraceFault::BadCount(2)),
+        ("free x", TraceFault::BadRegister(2)),
+        ("free 1", TraceFault::BadRegister(2)),
+        ("free c32", TraceFault::BadRegister(2)),
         ("malloc x y", TraceFault::BadRegister(2)),
         ("malloc c1 y", TraceFault::BadNumber(2)),
         ("copy c1 c32", TraceFault::BadRegister(2)),
@@ -156,6 +167,11 @@ fn words_that_are_fine(rt: HostRuntime) -> Result<(), Fail> {
         ("\tmalloc c1 16\r", Command::Malloc { rd: 1, size: 16 }),
         (" copy \t c9\rc29 ", Command::Copy { rd: 9, rs: 29 }),
         ("show c2\n", Command::Show { rs: 2 }),
+        ("free c3", Command::Free { rs: 3 }),
+        ("\r free\t\tc31 \r\n", Command::Free { rs: 31 }),
+        ("sweep", Command::Sweep),
+        ("sweep\n# all", Command::Sweep),
+        (" \t\rsweep\t \r\n", Command::Sweep),
         ("storecap c5 c6", Command::StoreCap { ra: 5, rs: 6 }),
         ("loadcap c5 c6", Command::LoadCap { rd: 5, ra: 6 }),
         (
@@ -218,6 +234,8 @@ fn bytes_that_are_no_text(rt: HostRuntime) -> Result<(), Fail> {
     assert_eq!(rt; operand, Some(TraceFault::BadRegister(2)));
     let no_blank = after_heap(rt.alloc(), b"show\x0bc1\n")?.err();
     assert_eq!(rt; no_blank, Some(TraceFault::BadCommand(2)));
+    let word = after_heap(rt.alloc(), b"sweep \xff\n")?.err();
+    assert_eq!(rt; word, Some(TraceFault::BadCount(2)));
     Ok(())
 }
 
@@ -321,6 +339,9 @@ fn commands_that_are_valid(rt: HostRuntime) {
         ),
         (Command::Show { rs: 31 }, true),
         (Command::Show { rs: 32 }, false),
+        (Command::Free { rs: 31 }, true),
+        (Command::Free { rs: 32 }, false),
+        (Command::Sweep, true),
     ];
     for (command, valid) in cases {
         assert_eq!(rt; command.is_valid(), valid, "{command:?}");

@@ -1,0 +1,159 @@
+-- The state after a sweep: each tagged word whose base lies in a held block has lost its tag.
+use Rattle.std.proofs.Common.{◌≡◌, ◌∙◌, ◌<◌, ◌≤◌, ◌+◌, ◌-◌, ◌*◌, ◌/◌, ◌&&◌, ℕ, Bool, true, false, cond, not, inl, inr, List, [], ◌∷◌, length, get_or, drop, refl, sym, ap, subst, arith}
+use Rattle.std.specs.Prelude.{◌⊎◌, count_by}
+use Rattle.std.specs.List.{Contains, enumerate_from}
+use Rattle.std.proofs.lemmas.Bool.{cases_lt, le-leb, lt-leb, not-true, true≢false}
+use Rattle.std.proofs.lemmas.Bool.Decides.{nat_tests}
+use Rattle.std.proofs.lemmas.List.{drop-map, ext_get_or, get_or-map, get_or_past, length-map}
+use Rattle.std.proofs.lemmas.List.Elements.{All-map, All-weaker}
+use Rattle.std.proofs.lemmas.List.Folds.{list_any-from_Any, list_any_none}
+use Rattle.std.proofs.lemmas.List.FromFn.{get_or-enumerate_from, length-enumerate_from}
+use Rattle.std.proofs.lemmas.List.Sums.{sum_by-cons}
+use Rattle.heap_trace.proofs.Digits.{and_true}
+use Rattle.cap_codec.specs.declared.word.Word.{Word}
+use Rattle.heap_core.specs.Blocks.{Span, end_of, has_address, lies_in, start_of}
+use Rattle.heap_core.specs.Heap.{HeapState, IsInside, IsSound as IsSoundHeap}
+use Rattle.heap_core.specs.Quarantine.{IsShadow, without_held}
+use Rattle.sweep_pool.specs.Sweep.{AreMasks, base_of, is_hit, is_painted, is_revoked, swept_cell, swept_granule, swept_granules, swept_registers}
+use Rattle.tag_memory.specs.Cells.{Cell, Granule, null_cell}
+use Rattle.tag_memory.specs.Tags.{is_set_for, without_tags}
+use Rattle.heap_trace.specs.Safety.{HoldsGuarded, IsGuarded, LieIn, cell_of}
+use Rattle.heap_trace.specs.Sound.{IsSound}
+use Rattle.heap_trace.specs.State.{State, tags_of}
+use Rattle.heap_trace.specs.Step.{bounds_in, swept}
+
+-- ---- the shadow
+
+has_address_outside : (heap : HeapState) (a : ℕ) (block : Span) → IsInside heap block → (a < heap.base) ⊎ (heap.base + heap.size ≤ a) → has_address a block ≡ false
+has_address_outside heap a block inside (inl below) = (let from = inside.from in grind (arith, nat_tests))
+has_address_outside heap a block inside (inr above) = (let end = inside.end in grind (arith, nat_tests))
+
+-- No address outside the heap lies in a held block.
+lies_outside : (heap : HeapState) (a : ℕ) → IsSoundHeap heap → (a < heap.base) ⊎ (heap.base + heap.size ≤ a) → lies_in heap.held a ≡ false
+lies_outside heap a sound outside =
+    list_any_none (has_address a) heap.held
+    (All-weaker (IsInside heap) (λ block. has_address a block ≡ false) (λ block inside. has_address_outside heap a block inside outside) heap.held sound.held_inside)
+
+-- So an address lies in a held block exactly where the shadow of the heap is painted there.
+is_painted-shadow : (heap : HeapState) (shadow : List Bool) (a : ℕ) → IsSoundHeap heap → IsShadow heap shadow → is_painted shadow heap.base a ≡ lies_in heap.held a
+is_painted-shadow heap shadow a sound is =
+    elim (cases_lt a heap.base) [
+      | inl below ↦ rw (lt-leb heap.base a below, lies_outside heap a sound (inl below)) refl
+      | inr from ↦ elim (cases_lt a (heap.base + heap.size)) [
+        | inl before ↦ rw (le-leb heap.base a from) (is.painted a from before)
+        | inr above ↦
+            let past : get_or shadow ((a - heap.base) / 16) false ≡ false = get_or_past shadow ((a - heap.base) / 16) false (omega (arith, is.granules)) in
+            rw (le-leb heap.base a from, past, lies_outside heap a sound (inr above)) refl
+      ]
+    ]
+
+pub is_hit-shadow : (heap : HeapState) (shadow : List Bool) (c : Cell) → IsSoundHeap heap → IsShadow heap shadow
+    → is_hit shadow heap.base c ≡ (c.1 && is_revoked heap.held c.0)
+is_hit-shadow heap shadow c sound is = ap (λ b. c.1 && b) (is_painted-shadow heap shadow (base_of c.0) sound is)
+
+-- ---- memory
+
+-- A tag that is taken where it is and the word is revoked.
+pub and_not : (t r : Bool) → (t && not (t && r)) ≡ (t && not r)
+and_not true r = refl
+and_not false r = refl
+
+get_or-without_tags : (masks : List ℕ) (granules : List Granule) (i : ℕ) → i < length granules
+    → get_or (without_tags masks granules) i (0, false) ≡ ((get_or granules i (0, false)).0, (get_or granules i (0, false)).1 && not (is_set_for masks i))
+unfolding without_tags
+get_or-without_tags masks granules i lt =
+    let take : ℕ × Granule → Granule = λ at. (at.1.0, at.1.1 && not (is_set_for masks at.0)) in
+    let there : get_or (enumerate_from 0 granules) i (0, (0, false)) ≡ (i, get_or granules i (0, false)) =
+    (let here : 0 + i ≡ i = omega arith in get_or-enumerate_from 0 granules i (0, (0, false)) lt ∙ ap (λ (n : ℕ). (n, get_or granules i (0, false))) here) in
+    get_or-map take (enumerate_from 0 granules) i (0, (0, false)) (0, false) (rw length-enumerate_from lt) ∙ ap take there
+
+length-without_tags : (masks : List ℕ) (granules : List Granule) → length (without_tags masks granules) ≡ length granules
+unfolding without_tags
+length-without_tags masks granules = length-map _ _ ∙ length-enumerate_from 0 granules
+
+-- Memory without the tags of the masks is the memory swept.
+pub without_tags-swept : (heap : HeapState) (cells : List Granule) (shadow : List Bool) (masks : List ℕ) → IsSoundHeap heap → IsShadow heap shadow
+    → AreMasks (record { base = heap.base; cells = cells }) shadow masks → without_tags masks cells ≡ swept_granules heap.held cells
+without_tags-swept heap cells shadow masks sound is are =
+    ext_get_or (0, false) (without_tags masks cells) (swept_granules heap.held cells)
+    (length-without_tags masks cells ∙ sym (length-map cells (swept_granule heap.held)))
+    (λ i lt.
+    let inside : i < length cells = omega (arith, lt, length-without_tags masks cells) in
+    let granule = get_or cells i (0, false) in
+    let hit = are.bits i inside ∙ is_hit-shadow heap shadow (record { bits = granule.0 }, granule.1) sound is in
+    let tag : (granule.1 && not (is_set_for masks i)) ≡ (granule.1 && not (is_revoked heap.held (record { bits = granule.0 }))) =
+    ap (λ b. granule.1 && not b) hit ∙ and_not granule.1 (is_revoked heap.held (record { bits = granule.0 })) in
+    get_or-without_tags masks cells i inside
+    ∙ ((λ k. (granule.0, tag k)) ∙ sym (get_or-map (swept_granule heap.held) cells i (0, false) (0, false) inside)))
+
+-- ---- tags
+
+fewer : (t r : Bool) → cond (t && r) 1 0 ≤ cond t 1 0
+fewer true true = omega arith
+fewer true false = omega arith
+fewer false r = omega arith
+
+-- A sweep adds no tag.
+count-swept_granules : (held : List Span) (granules : List Granule) → count_by (λ (g : Granule). g.1) (swept_granules held granules) ≤ count_by (λ (g : Granule). g.1) granules
+count-swept_granules held [] = omega arith
+count-swept_granules held (g ∷ granules) =
+    let rest = count-swept_granules held granules in
+    let here = fewer g.1 (not (is_revoked held (cell_of g).0)) in
+    omega (arith, sum_by-cons (λ (x : Granule). cond x.1 1 0) (swept_granule held g) (swept_granules held granules), sum_by-cons (λ (x : Granule). cond x.1 1 0) g granules, rest, here)
+
+count-swept_registers : (held : List Span) (registers : List Cell) → count_by (λ (c : Cell). c.1) (swept_registers held registers) ≤ count_by (λ (c : Cell). c.1) registers
+count-swept_registers held [] = omega arith
+count-swept_registers held (c ∷ registers) =
+    let rest = count-swept_registers held registers in
+    let here = fewer c.1 (not (is_revoked held c.0)) in
+    omega (arith, sum_by-cons (λ (x : Cell). cond x.1 1 0) (swept_cell held c) (swept_registers held registers), sum_by-cons (λ (x : Cell). cond x.1 1 0) c registers, rest, here)
+
+pub tags_of-swept : (s : State) → tags_of (swept s) ≤ tags_of s
+tags_of-swept s =
+    let registers = subst (λ (xs : List Cell). count_by (λ (c : Cell). c.1) xs ≤ count_by (λ (c : Cell). c.1) (drop 1 s.registers))
+    (sym (drop-map (swept_cell s.heap.held) 1 s.registers)) (count-swept_registers s.heap.held (drop 1 s.registers)) in
+    omega (arith, count-swept_granules s.heap.held s.cells, registers)
+
+-- ---- what stays guarded
+
+base_in : (w : Word) → base_of w ≡ (bounds_in w).base
+unfolding bounds_in
+base_in w = refl
+
+-- A word whose bounds lie in a held block is revoked.
+revoked_in : (held : List Span) (w : Word) (block : Span) → Contains held block → LieIn (bounds_in w) block → is_revoked held w ≡ true
+revoked_in held w block there lie =
+    let base = base_in w in
+    let here : has_address (base_of w) block ≡ true =
+    (let from : start_of block ≤ base_of w = omega (arith, lie.start, base) in
+    let before : base_of w < end_of block = omega (arith, lie.some, lie.end, base) in
+    grind (arith, nat_tests)) in
+    list_any-from_Any (has_address (base_of w)) held (there.0, block, there.1, there.2, here)
+
+-- What keeps its tag lies in a live block.
+pub IsGuarded-swept : (heap : HeapState) (c : Cell) → IsGuarded heap c → IsGuarded (without_held heap) (swept_cell heap.held c)
+IsGuarded-swept heap c guarded = record {
+  within = λ e.
+      let both = and_true c.1 (not (is_revoked heap.held c.0)) e in
+      let x = guarded.within both.0 in
+      elim x.1 [
+        | inl live ↦ (x.0, inl live, x.2)
+        | inr held ↦ absurd (true≢false (sym (revoked_in heap.held c.0 x.0 held x.2) ∙ not-true (is_revoked heap.held c.0) both.1))
+      ];
+}
+
+pub IsSound-swept : (s : State) (heap : HeapState) → IsSound s → heap ≡ without_held s.heap → IsSoundHeap heap → IsSound (record (swept s) { heap = heap })
+IsSound-swept s heap sound same sound_heap =
+    let size : heap.size ≡ s.heap.size = ap (λ (h : HeapState). h.size) same in
+    let guarded : (c : Cell) → IsGuarded s.heap c → IsGuarded heap (swept_cell s.heap.held c) =
+    λ c g. subst (λ (h : HeapState). IsGuarded h (swept_cell s.heap.held c)) (sym same) (IsGuarded-swept s.heap c g) in
+    record {
+      granules = ap (λ n. 16 * n) (length-map s.cells (swept_granule s.heap.held)) ∙ (sound.granules ∙ sym size);
+      count = length-map s.registers (swept_cell s.heap.held) ∙ sound.count;
+      zero = get_or-map (swept_cell s.heap.held) s.registers 0 null_cell null_cell (omega (arith, sound.count)) ∙ ap (swept_cell s.heap.held) sound.zero;
+      safe = record {
+        heap = sound_heap;
+        registers = All-map (IsGuarded heap) (swept_cell s.heap.held) s.registers (All-weaker (IsGuarded s.heap) (λ c. IsGuarded heap (swept_cell s.heap.held c)) guarded s.registers sound.safe.registers);
+        cells = All-map (HoldsGuarded heap) (swept_granule s.heap.held) s.cells (All-weaker (HoldsGuarded s.heap) (λ granule. HoldsGuarded heap (swept_granule s.heap.held granule)) (λ granule. guarded (cell_of granule)) s.cells sound.safe.cells);
+      };
+    }
