@@ -1,19 +1,10 @@
 //! The program on its command line, standard input and standard output.
 #![tactic(auto)]
 
-mod devices;
-#[cfg(test)]
-mod tests;
-mod text;
-mod tool;
-mod words;
-
-use devices::{FromRead, FromWrite};
+use heap_command::{FromRead, FromWrite, Refusal, refuse, tool};
 use std::env;
 use std::io::ErrorKind;
 use std::process::ExitCode;
-use tool::{refuse, tool};
-use words::Refusal;
 
 fn main(rt: HostRuntime) -> ExitCode {
     let alloc = rt.alloc();

@@ -1,0 +1,122 @@
+-- What the words ask for, and what that answers.
+use Rattle.std.proofs.Common.{◌≡◌, ◌≢◌, ◌∙◌, ℕ, ap, ap₂, sym, subst, List, ◌++◌, Option, Some, Result, Ok, Err, IfOk, IfErr, codes, refl, arith}
+use Rattle.std.proofs.KnownBytes.{Appends-nil}
+use Rattle.std.specs.Io.KnownBytes.{Appends}
+use Rattle.cap_codec.specs.declared.word.Word.{Word}
+use Rattle.clap.specs.Words.{Row, Text, first_of}
+use Rattle.heap_trace.specs.declared.fault.TraceFault.{TraceFault}
+use Rattle.heap_trace.specs.declared.running.Outcome.{Outcome}
+use Rattle.heap_trace.specs.Image.{image_of}
+use Rattle.heap_trace.specs.Outcome.{IsOutcome}
+use Rattle.heap_trace.specs.Reading.{Script, trace_of}
+use Rattle.heap_trace.specs.Report.{report_text}
+use Rattle.heap_trace.specs.State.{memory_of}
+use Rattle.heap_command.specs.declared.program.Answer.{Answer}
+use Rattle.heap_command.specs.declared.words.Options.{Options}
+use Rattle.heap_command.specs.declared.words.Refusal.{Refusal}
+use Rattle.heap_command.specs.declared.words.Refusal.TheVariants.{Memory, Words}
+use Rattle.heap_command.specs.Answer.{Answers, BeginsAnswer, IsAnswer, IsRunAnswer, image_shown, lacks_memory, most_read, names_fault, refusal_line, refusal_status, refuses, reports, shows_run, shows_word, status_of, text_of}
+use Rattle.heap_command.specs.Device.{AppendsBeginning, ReadsUpTo}
+use Rattle.heap_command.specs.Text.{fault_text, memory_line, word_line}
+use Rattle.heap_command.specs.Words.{AskForNothing, IsTextOf, Names, NamesNothing, NamesRun, NamesWord}
+
+-- ---- words
+
+-- The words name one subcommand, with one list of entries.
+pub Names-unique : (words : List Text) (m n : Text) (a b : List Row) → Names words m a → Names words n b → (m ≡ n) × (a ≡ b)
+Names-unique words m n a b p q =
+    let both : Some (m, a) ≡ Some (n, b) = sym p.subcommand ∙ q.subcommand in
+    let pairs : (m, a) ≡ (n, b) = cc in
+    (ap (λ (x : Text × List Row). x.0) pairs, ap (λ (x : Text × List Row). x.1) pairs)
+
+-- The words name one text.
+NamesWord-unique : (words : List Text) (a b : Text) → NamesWord words a → NamesWord words b → a ≡ b
+NamesWord-unique words a b p q =
+    let rows : p.rows ≡ q.rows = (Names-unique words _ _ _ _ p.names q.names).1 in
+    let texts : Some a ≡ Some b = sym p.value ∙ (ap (first_of (codes "hex")) rows ∙ q.value) in
+    cc
+
+-- Words that name `word` don't name `run`.
+NamesWord-run : (words : List Text) (hex : Text) → NamesWord words hex → (options : Options) → NamesRun words options → ⊥
+NamesWord-run words hex p options q = let same : codes "word" ≡ codes "run" = (Names-unique words _ _ _ _ p.names q.names).0 in absurd cc
+
+-- Where the named text is no word's, the words ask for nothing.
+AskForNothing-text : (words : List Text) (hex : Text) → NamesWord words hex → ((w : Word) → IsTextOf hex w → ⊥) → AskForNothing words
+AskForNothing-text words hex named none = record {
+  run = NamesWord-run words hex named;
+  word = λ w asks.
+      let same = NamesWord-unique words asks.hex hex asks.named named in
+      none w (subst (λ t. IsTextOf t w) same asks.text);
+}
+
+-- ---- runs
+
+-- The report of a run, and the image of its memory if asked for, are its answer.
+pub IsRunAnswer-report : (input : List ℕ) (options : Options) (script : Script) (o : Outcome) (r : Result Answer Refusal) → trace_of input ≡ Ok script → IsOutcome script o
+    → IfOk r (λ answer. (answer.status ≡ 0) × (answer.text.items ≡ o.report.items ++ image_shown options (image_of o.memory))) → IfOk r (λ answer. IsRunAnswer input options answer.status answer.text.items)
+IsRunAnswer-report input options script o (Ok answer) reads is told =
+    let text : answer.text.items ≡ report_text script.commands is.replies is.last ++ image_shown options (image_of (memory_of is.last)) = told.1 ∙ ap₂ (λ xs m. xs ++ image_shown options (image_of m)) is.report is.memory in
+    let answers : IsRunAnswer input options 0 (report_text script.commands is.replies is.last ++ image_shown options (image_of (memory_of is.last))) = reports script is.replies is.last reads is.run in
+    subst (λ status. IsRunAnswer input options status answer.text.items) (sym told.0) (subst (IsRunAnswer input options 0) (sym text) answers)
+IsRunAnswer-report input options script o (Err refusal) reads is told = tt
+
+-- The line of a fault is the answer where the text has that fault.
+pub IsRunAnswer-fault : (input : List ℕ) (options : Options) (fault : TraceFault) (r : Result Answer Refusal) → trace_of input ≡ Err fault
+    → IfOk r (λ answer. (answer.status ≡ 3) × (answer.text.items ≡ fault_text fault)) → IfOk r (λ answer. IsRunAnswer input options answer.status answer.text.items)
+IsRunAnswer-fault input options fault (Ok answer) reads is =
+    subst (λ status. IsRunAnswer input options status answer.text.items) (sym is.0) (subst (IsRunAnswer input options 3) (sym is.1) (names_fault fault reads))
+IsRunAnswer-fault input options fault (Err refusal) reads is = tt
+
+-- Its status is not 4.
+run_status : (input : List ℕ) (options : Options) (status : ℕ) (text : List ℕ) → IsRunAnswer input options status text → status ≢ 4
+run_status input options status text (reports script replies last reads run) = λ e. absurd cc
+run_status input options status text (names_fault fault reads) = λ e. absurd cc
+
+pub IsRunAnswer-status : (input : List ℕ) (options : Options) (r : Result Answer Refusal) → IfOk r (λ answer. IsRunAnswer input options answer.status answer.text.items) → IfOk r (λ answer. answer.status ≢ 4)
+IsRunAnswer-status input options (Ok answer) is = run_status input options answer.status answer.text.items is
+IsRunAnswer-status input options (Err refusal) is = tt
+
+-- ---- answers
+
+-- A refusal answers words that ask for nothing, if it is the words that are refused.
+IsAnswer-refused : (words : List Text) (unread left : Option (List ℕ)) (refusal : Refusal) → (refusal ≡ Words → AskForNothing words)
+    → IsAnswer words unread left (refusal_status refusal) (refusal_line refusal)
+IsAnswer-refused words unread left Memory h = lacks_memory
+IsAnswer-refused words unread left Words h = refuses (h refl)
+
+-- A refusal answers words that name nothing.
+pub IsAnswer-refusal : (words : List Text) (unread left : Option (List ℕ)) (refusal : Refusal) → (refusal ≡ Words → NamesNothing words)
+    → IsAnswer words unread left (refusal_status refusal) (refusal_line refusal)
+IsAnswer-refusal words unread left refusal h =
+    IsAnswer-refused words unread left refusal (λ e. record { run = (h e).run; word = λ w asks. (h e).word asks.hex asks.named })
+
+-- What is answered for the text that the words name answers the words.
+pub IsAnswer-word : (words : List Text) (unread left : Option (List ℕ)) (hex : Text) (r : Result Answer Refusal) → NamesWord words hex
+    → IfOk r (λ answer. answer.status ≡ 0) → IfOk r (λ answer. (w : Word) × IsTextOf hex w × (answer.text.items ≡ word_line w))
+    → (r ≡ Err Words → (w : Word) → IsTextOf hex w → ⊥) → IsAnswer words unread left (status_of r) (text_of r)
+IsAnswer-word words unread left hex (Ok answer) named status (w, is, line) none =
+    let shows : IsAnswer words unread left 0 (word_line w) = shows_word w (record { hex = hex; named = named; text = is }) in
+    subst (λ n. IsAnswer words unread left n answer.text.items) (sym status) (subst (IsAnswer words unread left 0) (sym line) shows)
+IsAnswer-word words unread left hex (Err refusal) named status is none =
+    IsAnswer-refused words unread left refusal (λ e. AskForNothing-text words hex named (none (ap Err e)))
+
+-- What is answered for the bytes read answers the words that name `run`.
+pub IsAnswer-run : (words : List Text) (unread left : Option (List ℕ)) (input : List ℕ) (options : Options) (r : Result Answer Refusal) → NamesRun words options → ReadsUpTo most_read unread left input
+    → IfOk r (λ answer. IsRunAnswer input options answer.status answer.text.items) → IfErr r (λ refusal. refusal ≡ Memory) → IsAnswer words unread left (status_of r) (text_of r)
+IsAnswer-run words unread left input options (Ok answer) named reads is memory = shows_run input options _ _ named reads is
+IsAnswer-run words unread left input options (Err Memory) named reads is memory = lacks_memory
+IsAnswer-run words unread left input options (Err Words) named reads is memory = absurd cc
+
+-- An answer that was written whole.
+pub Answers-told : (words : List Text) (unread left : Option (List ℕ)) (status said : ℕ) (text : List ℕ) (old new : Option (List ℕ)) → IsAnswer words unread left said text
+    → (status ≡ said) × Appends old new text → Answers words unread left status old new
+Answers-told words unread left status said text old new is (same, written) = record { text = text; is = subst (λ n. IsAnswer words unread left n text) (sym same) is; written = written }
+
+-- An answer of which a beginning was written.
+pub BeginsAnswer-told : (words : List Text) (unread left : Option (List ℕ)) (said : ℕ) (text : List ℕ) (old new : Option (List ℕ)) → IsAnswer words unread left said text
+    → AppendsBeginning old new text → BeginsAnswer words unread left old new
+BeginsAnswer-told words unread left said text old new is begun = record { status = said; text = text; is = is; begun = begun }
+
+-- Where nothing was written.
+pub BeginsAnswer-unwritten : (words : List Text) (unread left same : Option (List ℕ)) → BeginsAnswer words unread left same same
+BeginsAnswer-unwritten words unread left same = record { status = 1; text = memory_line; is = lacks_memory; begun = (0, omega arith, Appends-nil same) }

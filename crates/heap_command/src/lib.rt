@@ -1,0 +1,13 @@
+//! The program over any devices: words and bytes in, an exit status and bytes out.
+#![tactic(auto)]
+
+mod devices;
+mod program;
+#[cfg(test)]
+mod tests;
+mod text;
+mod words;
+
+pub use crate::devices::{Failed, FromRead, FromWrite, Sink, Source};
+pub use crate::program::{refuse, tool};
+pub use crate::words::{Options, Refusal};

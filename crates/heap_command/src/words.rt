@@ -1,0 +1,130 @@
+//! What the command line asks for.
+
+ghost use Rattle.std.specs.Prelude.{◌≡◌, ◌↔◌, IfErr, IfOk, OnOk, false};
+ghost use Rattle.clap.specs.Walk.{texts};
+ghost use Rattle.clap.specs.Words.{app_of, found_of, kind_of, rows_of, rule_of, subcommand_rows_of};
+ghost use Rattle.clap.specs.declared.builder.command.Command.TheViews.{out-Command as fields_of};
+ghost use Rattle.heap_command.specs.Words.{AreTaken, AsksFor, HasOptions, NamesNothing, hex_rule, image_rule, run_app, subcommand_named, tool_app, word_app};
+
+use clap::error::ErrorKind;
+use clap::{Arg, ArgAction, ArgMatches, Command, Error};
+use std::alloc::{AllocError, Global};
+
+/// What the words of a command line ask for.
+#[derive(Drop)]
+pub enum Asked<'a> {
+    /// The run of the trace that standard input has.
+    Run(Options),
+    /// The line of one word, whose text stands as it was written.
+    Word(&'a str),
+}
+
+/// How a trace is run.
+#[derive(Clone, Copy, Debug, PartialEq, Eq)]
+pub struct Options {
+    /// Whether the image is written after the report.
+    pub image: bool,
+}
+
+/// Why nothing is asked for.
+#[derive(Clone, Copy, Debug, PartialEq, Eq)]
+pub enum Refusal {
+    /// Memory ran out.
+    Memory,
+    /// The words are no command of the program's.
+    Words,
+}
+
+/// Reads the words of a command line, of which the first is the program's name.
+pub fn asked_by<'a>(alloc: Global, words: &'a [&'a str]) -> Result<Asked<'a>, Refusal>
+    ensures ok { IfOk result (AsksFor (texts words.entry.now)) }
+    ensures refused { result ≡ Err Refusal.Words → NamesNothing (texts words.entry.now) }
+{
+    let matches = match parsed(alloc, words) {
+        Ok(matches) => matches,
+        Err(error) => return Err(refusal_of(&error)),
+    };
+    let Some((name, inner)) = matches.subcommand() else {
+        return Err(Refusal::Words);
+    };
+    if name == "run" {
+        return Ok(Asked::Run(options_of(inner)));
+    }
+    if name != "word" {
+        return Err(Refusal::Words);
+    }
+    let Some(hex) = inner.get_str("hex") else {
+        return Err(Refusal::Words);
+    };
+    Ok(Asked::Word(hex))
+}
+
+// The options of `run`.
+fn options_of(matches: &ArgMatches<'_>) -> Options
+    ensures { HasOptions (rows_of (found_of matches.now)) result }
+{
+    Options {
+        image: matches.get_flag("image"),
+    }
+}
+
+// Anything but want of memory is the words' fault.
+fn refusal_of(error: &Error) -> Refusal
+    ensures { (result ≡ Refusal.Memory) ↔ (kind_of error.now ≡ ErrorKind.OutOfMemory) }
+{
+    match error.kind() {
+        ErrorKind::OutOfMemory => Refusal::Memory,
+        _ => Refusal::Words,
+    }
+}
+
+fn parsed<'a>(alloc: Global, words: &'a [&'a str]) -> Result<ArgMatches<'a>, Error>
+    ensures taken { OnOk result (AreTaken (texts words.entry.now)) }
+    ensures matches { IfOk result (λ matches.
+        subcommand_rows_of matches ≡ subcommand_named (texts words.entry.now)) }
+    ensures err { IfErr result (λ error.
+        AreTaken (texts words.entry.now) → kind_of error ≡ ErrorKind.OutOfMemory) }
+{
+    let command = tool_command(alloc)?;
+    command.try_get_matches_from(words)
+}
+
+fn tool_command<'a>(alloc: Global) -> Result<Command<'a>, AllocError>
+    ensures { IfOk result (λ command. app_of command ≡ tool_app) }
+{
+    let run = run_command(alloc)?;
+    let word = word_command(alloc)?;
+    Command::new(alloc, "heap_tool")
+        .subcommand(run)?
+        .subcommand(word)
+}
+
+fn run_command<'a>(alloc: Global) -> Result<Command<'a>, AllocError>
+    ensures app { IfOk result (λ command. app_of command ≡ run_app) }
+    ensures local { IfOk result (λ command. (fields_of command).has_globals ≡ false) }
+{
+    Command::new(alloc, "run").arg(image_arg(alloc))
+}
+
+fn image_arg<'a>(alloc: Global) -> Arg<'a>
+    ensures rule { rule_of result ≡ image_rule }
+    ensures local { result.global ≡ false }
+{
+    Arg::new(alloc, "image")
+        .long("image")
+        .action(ArgAction::SetTrue)
+}
+
+fn word_command<'a>(alloc: Global) -> Result<Command<'a>, AllocError>
+    ensures app { IfOk result (λ command. app_of command ≡ word_app) }
+    ensures local { IfOk result (λ command. (fields_of command).has_globals ≡ false) }
+{
+    Command::new(alloc, "word").arg(hex_arg(alloc))
+}
+
+fn hex_arg<'a>(alloc: Global) -> Arg<'a>
+    ensures rule { rule_of result ≡ hex_rule }
+    ensures local { result.global ≡ false }
+{
+    Arg::new(alloc, "hex").required(true)
+}
