@@ -3,4 +3,5 @@
 mod image;
 mod machine;
 mod runs;
+mod sweeps;
 mod texts;
