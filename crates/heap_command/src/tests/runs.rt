@@ -132,7 +132,10 @@ fn faulty_texts_are_not_run(rt: HostRuntime) {
             "heap 0x40000000 1\nmalloc c1 16\nfrob c1",
             "fault bad-command 3\n",
         ),
-        ("heap 0x40000000 1\nheap 0x40000000 1", "fault bad-command 2\n"),
+        (
+            "heap 0x40000000 1\nheap 0x40000000 1",
+            "fault bad-command 2\n",
+        ),
         ("heap 0x40000000 1\nsweep now", "fault bad-count 2\n"),
         (
             "heap 0x40000000 1\nmalloc c1 16\nwrite c1 0001",
