@@ -48,8 +48,8 @@ impl Model for Machine {
 }
 
 impl Machine {
-    /// A machine whose heap has so many pages of 4,096 bytes from `base` on; sweeps are cut as
-    /// `cutting` says. The size is judged before the base.
+    /// A machine whose heap has so many pages of 4,096 bytes from `base` on. `cutting` says how sweeps
+    /// are to be cut for workers; one thread makes them today. The size is judged before the base.
     pub fn new(
         alloc: Global,
         base: u64,
