@@ -25,7 +25,7 @@ IsWindowAt-window_start f =
     let before = place_in-lt first (window_size f) (window_mark f) size in
     record { holds = omega arith; ends = omega arith; congruent = place_in-congruent first (window_size f) (window_mark f) size }
 
-IsPlaceAt-place_in : (low size x : ℕ) → 0 < size → IsPlaceAt low size x (place_in low size x)
+pub IsPlaceAt-place_in : (low size x : ℕ) → 0 < size → IsPlaceAt low size x (place_in low size x)
 IsPlaceAt-place_in low size x h = record { from = omega arith; before = place_in-lt low size x h; congruent = place_in-congruent low size x h }
 
 corrected-lt : (e base r : ℕ) → r < 2 ^ 65 → corrected e base r < 2 ^ 65
@@ -74,13 +74,13 @@ one_of_window : (low : ℤ) (size : ℕ) (x m n : ℤ) → IsWithin low size m �
 one_of_window low size x m n p q c d =
     near_integers size m n (IsCongruent-trans size m x n c (IsCongruent-sym d)) (omega (arith, ints)) (omega (arith, ints))
 
-IsWindow-unique : (f : Fields) (m n : ℤ) → IsWindow f m → IsWindow f n → m ≡ n
+pub IsWindow-unique : (f : Fields) (m n : ℤ) → IsWindow f m → IsWindow f n → m ≡ n
 IsWindow-unique f m n p q =
     let size = window_size f in
     let c : IsCongruent (window_size f) m n = IsCongruent-trans (window_size f) m (pos (window_mark f)) n p.start (IsCongruent-sym q.start) in
     near_integers (window_size f) m n c (omega (arith, ints)) (omega (arith, ints))
 
-IsPlaceOf-unique : (f : Fields) (low : ℤ) (mantissa : ℕ) (m n : ℤ) → IsPlaceOf f low mantissa m → IsPlaceOf f low mantissa n → m ≡ n
+pub IsPlaceOf-unique : (f : Fields) (low : ℤ) (mantissa : ℕ) (m n : ℤ) → IsPlaceOf f low mantissa m → IsPlaceOf f low mantissa n → m ≡ n
 IsPlaceOf-unique f low mantissa m n p q =
     one_of_window low (window_size f) (pos (mantissa * 2 ^ exponent_of f)) m n p.within q.within p.congruent q.congruent
 

@@ -54,7 +54,7 @@ IsWindow-counted f low w =
       start = congruent_at f low (window_mark f) w.congruent;
     }
 
-IsPlaceOf-counted : (f : Fields) (low mantissa n : ℕ) → IsPlaceAt low (window_size f) (mantissa * 2 ^ exponent_of f) n
+pub IsPlaceOf-counted : (f : Fields) (low mantissa n : ℕ) → IsPlaceAt low (window_size f) (mantissa * 2 ^ exponent_of f) n
     → IsPlaceOf f (pos low -ℤ pos origin) mantissa (pos n -ℤ pos origin)
 IsPlaceOf-counted f low mantissa n p =
     record {

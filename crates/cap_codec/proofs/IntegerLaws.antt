@@ -1,7 +1,8 @@
--- Congruent integers.
-use Rattle.std.proofs.Common.{◌≡◌, ℕ, ◌+◌, ◌*◌, ◌/◌, ◌%◌, ◌<◌, ◌≤◌, sym, ap, arith}
-use Rattle.std.specs.Prelude.{ℤ, pos, ◌+ℤ◌, ◌-ℤ◌, ◌<ℤ◌}
+-- Congruent integers, and multiples of integers.
+use Rattle.std.proofs.Common.{◌≡◌, ℕ, suc, ◌+◌, ◌*◌, ◌/◌, ◌%◌, ◌<◌, ◌≤◌, sym, ap, ◌∙◌, arith}
+use Rattle.std.specs.Prelude.{ℤ, pos, negsuc, ◌+ℤ◌, ◌-ℤ◌, ◌*ℤ◌, ◌<ℤ◌}
 use Rattle.std.proofs.lemmas.Int.{ints}
+use Rattle.std.proofs.Math.IntN.{negsuc-*ℤ-pos, pos-*ℤ-pos}
 use Rattle.std.proofs.Math.Nat.{div-add-mod, mul-le-mul_right}
 use Rattle.cap_codec.specs.Integers.{IsCongruent}
 
@@ -26,3 +27,38 @@ near_integers m x y c p q =
     let multiples : c.i ≡ c.j = omega arith in
     let equal : c.i * m ≡ c.j * m = ap (λ n. n * m) multiples in
     omega (arith, ints, c.same)
+
+-- ---- multiples
+
+-- An integer as a difference of numbers.
+pub difference : (x : ℤ) → (a : ℕ) × (b : ℕ) × (x ≡ pos a -ℤ pos b)
+difference (pos n) = (n, 0, omega (arith, ints))
+difference (negsuc n) = (0, suc n, omega (arith, ints))
+
+-- A multiple of a difference.
+pub multiple_is : (x : ℤ) (a b m : ℕ) → x ≡ pos a -ℤ pos b → x *ℤ pos m ≡ pos (a * m) -ℤ pos (b * m)
+multiple_is (pos n) a b m e =
+    let s : n + b ≡ a = omega (arith, ints) in
+    let t : (n + b) * m ≡ a * m = ap (λ k. k * m) s in
+    pos-*ℤ-pos n m ∙ omega (arith, ints)
+multiple_is (negsuc n) a b m e =
+    let s : suc n + a ≡ b = omega (arith, ints) in
+    let t : (suc n + a) * m ≡ b * m = ap (λ k. k * m) s in
+    negsuc-*ℤ-pos n m ∙ omega (arith, ints)
+
+-- Integers with one multiple are equal.
+pub multiple_cancel : (x y : ℤ) (m : ℕ) → 0 < m → x *ℤ pos m ≡ y *ℤ pos m → x ≡ y
+multiple_cancel x y m h e =
+    let p = difference x in
+    let q = difference y in
+    let a = p.0 in
+    let b = p.1 in
+    let c = q.0 in
+    let d = q.1 in
+    let x_is = multiple_is x a b m p.2 in
+    let y_is = multiple_is y c d m q.2 in
+    let sums : (a + d) * m ≡ (c + b) * m = omega (arith, ints) in
+    let below : a + d < c + b → ⊥ = λ l. let k : (a + d + 1) * m ≤ (c + b) * m = mul-le-mul_right m (omega arith) in omega arith in
+    let above : c + b < a + d → ⊥ = λ l. let k : (c + b + 1) * m ≤ (a + d) * m = mul-le-mul_right m (omega arith) in omega arith in
+    let same : a + d ≡ c + b = omega arith in
+    omega (arith, ints, p.2, q.2)

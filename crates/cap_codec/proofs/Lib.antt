@@ -1,10 +1,13 @@
 pub mod BoundsLaws
 pub mod ByteLaws
+pub mod CorrectionLaws
 pub mod CountedBounds
 pub mod EncodeLaws
 pub mod FieldLaws
+pub mod IntegerCorrections
 pub mod IntegerLaws
 pub mod LengthLaws
+pub mod MantissaLaws
 pub mod PlaceLaws
 pub mod RepresentLaws
 pub mod RoundingLaws

@@ -1,5 +1,6 @@
 pub mod Bounds
 pub mod Bytes
+pub mod Corrections
 pub mod Fields
 pub mod Integers
 pub mod Mantissas

@@ -3,6 +3,7 @@
 #![tactic(auto)]
 
 mod bytes;
+mod corrected;
 mod decode;
 mod derive;
 mod mantissas;
@@ -13,6 +14,7 @@ mod tests;
 mod word;
 
 pub use crate::bytes::{from_bytes, to_bytes};
+pub use crate::corrected::corrections;
 pub use crate::decode::{fields, word_of};
 pub use crate::derive::{and_perms, set_address};
 pub use crate::mantissas::exponent;

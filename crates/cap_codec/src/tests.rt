@@ -2,8 +2,8 @@
 //! made for bounds.
 
 use crate::{
-    Bounds, Fields, Word, alignment_mask, and_perms, bounds, exponent, fields, from_bytes,
-    representable, representable_length, set_address, to_bytes, with_bounds, word_of,
+    Bounds, Fields, Word, alignment_mask, and_perms, bounds, corrections, exponent, fields,
+    from_bytes, representable, representable_length, set_address, to_bytes, with_bounds, word_of,
 };
 
 // The fields of the null capability.
@@ -174,6 +174,21 @@ fn window_wraps(rt: HostRuntime) {
     };
     let within = bounds(word_of(last_page));
     assert_eq!(rt; (within.base, within.top), (0xffff_ffff_ffff_f000, 1 << 64));
+}
+
+// Below the block's window start lies an eighth of a window that belongs to the multiple before.
+#[test]
+fn upper_bits_are_corrected(rt: HostRuntime) {
+    let block = word_of(BLOCK);
+    let cases = [
+        (Word::NULL, 0, 0),
+        (block, 0, 0),
+        (set_address(block, 0x3fff_f800), 1, 1),
+        (Word { bits: u128::MAX }, 0, 1),
+    ];
+    for (w, first, second) in cases {
+        assert_eq!(rt; corrections(w), (first, second));
+    }
 }
 
 #[test]

@@ -1,0 +1,72 @@
+//! The bounds as hardware decodes them: by shifts, masks and comparisons of 3 bits, which say by how
+//! many windows the address's upper bits have to be corrected.
+
+ghost use Rattle.std.specs.Prelude.{◌≡◌, ◌<◌, ◌≤◌, ◌^◌, ℤ, pos, ◌-ℤ◌};
+ghost use Rattle.cap_codec.specs.Corrections.{AreCorrections};
+ghost use Rattle.cap_codec.specs.Fields.{IsValid, bit_of, fields_of};
+ghost use Rattle.cap_codec.specs.Mantissas.{base_mantissa, exponent_of, top_mantissa};
+
+use crate::decode::fields;
+use crate::word::{Fields, Word};
+
+/// By how many windows the base and the top of a word lie apart from the multiple of a window that
+/// the address's upper bits say: each by -1, 0 or 1.
+pub fn corrections(w: Word) -> (i8, i8)
+    ensures meets { AreCorrections (fields_of w) result.0 result.1 }
+    ensures only { (first second : ℤ) → AreCorrections (fields_of w) first second → (first ≡ result.0) × (second ≡ result.1) }
+{
+    corrections_in(fields(w))
+}
+
+// The corrections of a word with these fields.
+fn corrections_in(f: Fields) -> (i8, i8)
+    requires { IsValid f }
+    ensures { AreCorrections f result.0 result.1 }
+{
+    let (exponent, base, top) = mantissas_in(f);
+    let start = (base >> 11).wrapping_sub(1) & 7;
+    let here = f.address >> (exponent + 11) & 7;
+    let is_next = here < start;
+    (
+        correction(base >> 11 < start, is_next),
+        correction(top >> 11 < start, is_next),
+    )
+}
+
+// By how many windows a place lies after the address's own: each lies in the next one where its
+// eighth of the window is below the start's.
+fn correction(place_is_next: bool, address_is_next: bool) -> i8
+    ensures { result ≡ pos (bit_of place_is_next) -ℤ pos (bit_of address_is_next) }
+{
+    i8::from(place_is_next) - i8::from(address_is_next)
+}
+
+// The exponent and the mantissas of base and top of a word with these fields. Without the internal
+// exponent the mask of the low 3 bits is 0.
+fn mantissas_in(f: Fields) -> (u8, u64, u64)
+    requires { IsValid f }
+    ensures exponent { result.0 ≡ exponent_of f }
+    ensures base { result.1 ≡ base_mantissa f }
+    ensures top { result.2 ≡ top_mantissa f }
+    ensures exponent_limit { result.0 ≤ 52 }
+    ensures base_limit { result.1 < 2 ^ 14 }
+    ensures top_limit { result.2 < 2 ^ 14 }
+{
+    let internal = bit(f.internal);
+    let low = 7 * internal;
+    let base_field = u64::from(f.base14);
+    let top_field = u64::from(f.top12);
+    let exponent = ((top_field & low) << 3) + (base_field & low);
+    let base = base_field - (base_field & low);
+    let top_low = top_field - (top_field & low);
+    let carry = bit(top_low < base & 0xfff);
+    let upper = (base >> 12) + carry + internal & 3;
+    (exponent.min(52) as u8, base, (upper << 12) + top_low)
+}
+
+// A flag as a bit.
+fn bit(flag: bool) -> u64
+    ensures { result ≡ bit_of flag }
+{
+    u64::from(flag)
+}
