@@ -62,8 +62,9 @@ start-is f h b =
     let q = f.address / 2 ^ (e + 14) in
     let whole : (n + 2 ^ (e + 14) * h) % 2 ^ (e + 14) ≡ (k * v + 2 ^ (e + 14) * (o + q)) % 2 ^ (e + 14) =
     ap (λ x. x % 2 ^ (e + 14)) (omega (arith, sum, oe)) in
-    let congruent : n % 2 ^ (e + 14) ≡ (k * v) % 2 ^ (e + 14) =
-    sym (add-mul-mod_self_left n (2 ^ (e + 14)) h) ∙ (whole ∙ add-mul-mod_self_left (k * v) (2 ^ (e + 14)) (o + q)) in
+    let left : (n + 2 ^ (e + 14) * h) % 2 ^ (e + 14) ≡ n % 2 ^ (e + 14) = add-mul-mod_self_left n (2 ^ (e + 14)) h in
+    let right : (k * v + 2 ^ (e + 14) * (o + q)) % 2 ^ (e + 14) ≡ k * v % 2 ^ (e + 14) = add-mul-mod_self_left (k * v) (2 ^ (e + 14)) (o + q) in
+    let congruent : n % 2 ^ (e + 14) ≡ k * v % 2 ^ (e + 14) = cc in
     let window : IsWindowAt f n = record { holds = omega (arith, p.2, oe'); ends = omega (arith, p.3, oe', m_v); congruent = congruent } in
     let same : window_start f ≡ n = IsWindowAt-unique f (window_start f) n (IsWindowAt-window_start f) window in
     ap (λ x. x + h * 2 ^ (e + 14)) same ∙ sum
@@ -120,11 +121,13 @@ place-is f h j n small b bj =
     let oe : origin ≡ o * 2 ^ (e + 14) = origin_is e (exponent_of-le f) in
     let sum : n' + h * m ≡ origin + own + j * m + n * u = omega (arith, p.1, hm, jm, taken) in
     let whole : (n' + m * h) % m ≡ (n * u + m * (o + f.address / m + j)) % m = ap (λ y. y % m) (omega (arith, sum, oe)) in
-    let congruent : n' % m ≡ (n * u) % m = sym (add-mul-mod_self_left n' m h) ∙ (whole ∙ add-mul-mod_self_left (n * u) m (o + f.address / m + j)) in
+    let left : (n' + m * h) % m ≡ n' % m = add-mul-mod_self_left n' m h in
+    let right : (n * u + m * (o + f.address / m + j)) % m ≡ n * u % m = add-mul-mod_self_left (n * u) m (o + f.address / m + j) in
+    let congruent : n' % m ≡ n * u % m = cc in
     let size = window_size-pos f in
     let after : place_in low m (n * u) < low + m = place_in-lt low m (n * u) size in
     let before : n' < low + m = omega (arith, p.3, m_v) in
     let here : place_in low m (n * u) % m ≡ n * u % m = place_in-congruent low m (n * u) size in
-    let alike : place_in low m (n * u) % m ≡ n' % m = ◌∙◌ {b = n * u % m} here (sym congruent) in
+    let alike : place_in low m (n * u) % m ≡ n' % m = cc in
     let same : place_in low m (n * u) ≡ n' = near_congruent m (place_in low m (n * u)) n' alike (omega (arith, p.2)) (omega arith) in
     omega (arith, same, sum)

@@ -3,6 +3,7 @@ pub mod ByteLaws
 pub mod CorrectionLaws
 pub mod CountedBounds
 pub mod EncodeLaws
+pub mod ExponentLaws
 pub mod FieldLaws
 pub mod IntegerCorrections
 pub mod IntegerLaws

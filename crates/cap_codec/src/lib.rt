@@ -7,7 +7,8 @@ mod corrected;
 mod decode;
 mod derive;
 mod mantissas;
-mod plain;
+pub mod plain;
+mod rounded;
 mod rounding;
 #[cfg(test)]
 mod tests;

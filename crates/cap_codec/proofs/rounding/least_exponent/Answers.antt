@@ -1,14 +1,30 @@
 use Rattle.std.proofs.Common.{arith, rules}
-use Rattle.cap_codec.specs.Rounding.{Fits}
-use Rattle.cap_codec.proofs.RoundingLaws.{exponent_for-is, fits_at_52}
+use Rattle.cap_codec.proofs.ExponentLaws.{IsHighest-of, lowest-is, raised-is}
+use Rattle.cap_codec.proofs.RoundingLaws.{exponent_for-le}
 use Rattle.cap_codec.proofs.rounding.least_exponent.Goals as goal
+
+pub overflow_sub-exponent : goal.overflow_sub-exponent
+overflow_sub-exponent c =
+    let x = IsHighest-of c.args.base c.args.top c.max-length.result c.ilog2.result c.requires.room (omega arith) c.ilog2.ensures.power_le c.ilog2.ensures.next_power_gt in
+    x.from
+
+pub fits-requires-clause-exponent : goal.fits-requires-clause-exponent
+fits-requires-clause-exponent c =
+    let x = IsHighest-of c.args.base c.args.top c.max-length.result c.ilog2.result c.requires.room (omega arith) c.ilog2.ensures.power_le c.ilog2.ensures.next_power_gt in
+    omega (arith, x.limit)
 
 pub returns-then-fits-clause-value : goal.returns-then-fits-clause-value
 returns-then-fits-clause-value c =
-    let f : Fits c.args.base c.args.top c.loop-exponent.exponent = search rules in
-    exponent_for-is c.args.base c.args.top c.loop-exponent.exponent c.requires.order c.requires.room f c.loop-exponent.invariant
+    let x = IsHighest-of c.args.base c.args.top c.max-length.result c.ilog2.result c.requires.room (omega arith) c.ilog2.ensures.power_le c.ilog2.ensures.next_power_gt in
+    lowest-is c.args.base c.args.top c.ilog2.result c.requires.order c.requires.room x (search rules)
 
-pub returns-clause-value : goal.returns-clause-value
-returns-clause-value c =
-    exponent_for-is c.args.base c.args.top 52 c.requires.order c.requires.room (fits_at_52 c.args.base c.args.top c.requires.order c.requires.room)
-    (λ k l. c.loop-exponent.invariant k (omega arith))
+pub returns-then-fits-clause-limit : goal.returns-then-fits-clause-limit
+returns-then-fits-clause-limit c = omega (arith, returns-then-fits-clause-value c, exponent_for-le c.args.base c.args.top)
+
+pub returns-else-fits-clause-value : goal.returns-else-fits-clause-value
+returns-else-fits-clause-value c =
+    let x = IsHighest-of c.args.base c.args.top c.max-length.result c.ilog2.result c.requires.room (omega arith) c.ilog2.ensures.power_le c.ilog2.ensures.next_power_gt in
+    raised-is c.args.base c.args.top c.ilog2.result c.requires.order c.requires.room x (search rules)
+
+pub returns-else-fits-clause-limit : goal.returns-else-fits-clause-limit
+returns-else-fits-clause-limit c = omega (arith, returns-else-fits-clause-value c, exponent_for-le c.args.base c.args.top)

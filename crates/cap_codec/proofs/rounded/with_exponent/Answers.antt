@@ -5,7 +5,7 @@ use Rattle.cap_codec.specs.Mantissas.{exponent_of}
 use Rattle.cap_codec.specs.Rounding.{IsExponent, exponent_for}
 use Rattle.cap_codec.proofs.EncodeLaws.{bounds_of-with_bounds_of, exponent_of-with_bounds_of}
 use Rattle.cap_codec.proofs.RoundingLaws.{IsExponent-exponent_for, IsNearExponent-from}
-use Rattle.cap_codec.proofs.rounding.with_bounds.Goals as goal
+use Rattle.cap_codec.proofs.rounded.with_exponent.Goals as goal
 
 pub returns-clause-fields : goal.returns-clause-fields
 returns-clause-fields c = search rules

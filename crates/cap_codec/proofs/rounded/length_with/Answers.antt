@@ -1,7 +1,7 @@
 use Rattle.std.proofs.Common.{arith, rules}
 use Rattle.cap_codec.specs.Rounding.{length_for}
 use Rattle.cap_codec.proofs.LengthLaws.{length_for-least, outward-length_for}
-use Rattle.cap_codec.proofs.rounding.representable_length.Goals as goal
+use Rattle.cap_codec.proofs.rounded.length_with.Goals as goal
 
 pub returns-clause-value : goal.returns-clause-value
 unfolding length_for
