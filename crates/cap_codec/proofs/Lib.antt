@@ -1,5 +1,6 @@
 pub mod BoundsLaws
 pub mod ByteLaws
+pub mod CorrectedBounds
 pub mod CorrectionLaws
 pub mod CountedBounds
 pub mod EncodeLaws

@@ -1,13 +1,15 @@
 //! The bounds as hardware decodes them: by shifts, masks and comparisons of 3 bits, which say by how
 //! many windows the address's upper bits have to be corrected.
 
-ghost use Rattle.std.specs.Prelude.{◌≡◌, ◌<◌, ◌≤◌, ◌^◌, ℤ, pos, ◌-ℤ◌};
+ghost use Rattle.std.specs.Prelude.{◌≡◌, ◌<◌, ◌≤◌, ◌+◌, ◌-◌, ◌*◌, ◌/◌, ◌%◌, ◌^◌, ℕ, ℤ, pos, ◌+ℤ◌, ◌-ℤ◌, ◌*ℤ◌};
+ghost use Rattle.cap_codec.specs.Bounds.{IsBounds, bounds_of};
 ghost use Rattle.cap_codec.specs.Corrections.{AreCorrections};
 ghost use Rattle.cap_codec.specs.Fields.{IsValid, bit_of, fields_of};
+ghost use Rattle.cap_codec.specs.Integers.{IsCongruent};
 ghost use Rattle.cap_codec.specs.Mantissas.{base_mantissa, exponent_of, top_mantissa};
 
 use crate::decode::fields;
-use crate::word::{Fields, Word};
+use crate::word::{Bounds, Fields, Word};
 
 /// By how many windows the base and the top of a word lie apart from the multiple of a window that
 /// the address's upper bits say: each by -1, 0 or 1.
@@ -16,6 +18,24 @@ pub fn corrections(w: Word) -> (i8, i8)
     ensures only { (first second : ℤ) → AreCorrections (fields_of w) first second → (first ≡ result.0) × (second ≡ result.1) }
 {
     corrections_in(fields(w))
+}
+
+/// The bounds of a word, whatever its 128 bits are.
+pub fn bounds(w: Word) -> Bounds
+    ensures value { result ≡ bounds_of (fields_of w) }
+    ensures meets { IsBounds (fields_of w) result.base result.top }
+    ensures only { (base top : ℕ) → IsBounds (fields_of w) base top → (base ≡ result.base) × (top ≡ result.top) }
+{
+    let f = fields(w);
+    let (exponent, base_mantissa, top_mantissa) = mantissas_in(f);
+    let (first, second) = corrections_in(f);
+    let base = corrected_place(f.address, exponent, base_mantissa, first);
+    let top = corrected_place(f.address, exponent, top_mantissa, second);
+    let bit_64 = top_bit(exponent, top_mantissa, base, top);
+    Bounds {
+        base,
+        top: (u128::from(bit_64) << 64) + u128::from(top),
+    }
 }
 
 // The corrections of a word with these fields.
@@ -39,6 +59,29 @@ fn correction(place_is_next: bool, address_is_next: bool) -> i8
     ensures { result ≡ pos (bit_of place_is_next) -ℤ pos (bit_of address_is_next) }
 {
     i8::from(place_is_next) - i8::from(address_is_next)
+}
+
+// The place of a mantissa modulo 2 ^ 64: below the address's upper bits, these corrected.
+fn corrected_place(address: u64, exponent: u8, mantissa: u64, correction: i8) -> u64
+    requires exponent { exponent ≤ 52 }
+    requires mantissa { mantissa < 2 ^ 14 }
+    ensures { IsCongruent (2 ^ 64) (pos result) ((pos (address / 2 ^ (exponent + 14)) +ℤ correction) *ℤ pos (2 ^ (exponent + 14)) +ℤ pos (mantissa * 2 ^ exponent)) }
+{
+    let upper = (address >> exponent >> 14).wrapping_add_signed(i64::from(correction));
+    (upper << 14) + mantissa << exponent
+}
+
+// Bit 64 of a top with this mantissa, whose lower 64 bits are `top`. Where the window is smaller than
+// the address space, it is 1 where the base has bit 63 and the top hasn't; else it is the mantissa's.
+fn top_bit(exponent: u8, mantissa: u64, base: u64, top: u64) -> u64
+    requires exponent { exponent ≤ 52 }
+    requires mantissa { mantissa < 2 ^ 14 }
+    ensures small { exponent < 51 → (2 * result + top / 2 ^ 63 + 4 - base / 2 ^ 63) % 4 ≤ 1 }
+    ensures large { 51 ≤ exponent → result ≡ mantissa / 2 ^ (64 - exponent) % 2 }
+    ensures limit { result ≤ 1 }
+{
+    let wraps = (exponent < 51) & (top >> 63 < base >> 63);
+    bit(wraps) + (mantissa >> 1 >> (63 - exponent) & 1)
 }
 
 // The exponent and the mantissas of base and top of a word with these fields. Without the internal
