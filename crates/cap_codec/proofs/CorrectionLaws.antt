@@ -41,7 +41,7 @@ start-plain o v k a h pv k8 po b =
     (cases_lt (q % 8) k)
 
 -- The window's start, from the address's own multiple of the window.
-start-is : (f : Fields) (h : ℕ) → IsBelow (f.address / 2 ^ (exponent_of f + 11) % 8) ((base_mantissa f / 2 ^ 11 + 7) % 8) h
+pub start-is : (f : Fields) (h : ℕ) → IsBelow (f.address / 2 ^ (exponent_of f + 11) % 8) ((base_mantissa f / 2 ^ 11 + 7) % 8) h
     → window_start f + h * window_size f ≡ origin + f.address / window_size f * window_size f + window_mark f
 start-is f h b =
     let e = exponent_of f in

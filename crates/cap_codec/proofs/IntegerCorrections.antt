@@ -3,13 +3,14 @@ use Rattle.std.proofs.Common.{◌≡◌, ℕ, ◌+◌, ◌*◌, ◌/◌, ◌%◌
 use Rattle.std.specs.Prelude.{ℤ, pos, ◌+ℤ◌, ◌-ℤ◌, ◌*ℤ◌}
 use Rattle.std.proofs.lemmas.Bool.Decides.{nat_tests}
 use Rattle.std.proofs.lemmas.Int.{ints}
+use Rattle.std.proofs.lemmas.Nat.{pow-add}
 use Rattle.cap_codec.specs.declared.word.Fields.{Fields}
-use Rattle.cap_codec.specs.Bounds.{base_place, origin, place_in, top_place, window_size, window_start}
+use Rattle.cap_codec.specs.Bounds.{base_place, origin, place_in, top_place, window_mark, window_size, window_start}
 use Rattle.cap_codec.specs.Corrections.{AreCorrections, place_with}
 use Rattle.cap_codec.specs.Fields.{bit_of}
 use Rattle.cap_codec.specs.Mantissas.{base_mantissa, exponent_of, top_mantissa}
 use Rattle.cap_codec.proofs.BoundsLaws.{IsPlaceAt-place_in, IsPlaceOf-unique, IsWindow-unique, IsWindowAt-window_start}
-use Rattle.cap_codec.proofs.CorrectionLaws.{IsBelow, place-is}
+use Rattle.cap_codec.proofs.CorrectionLaws.{IsBelow, place-is, start-is}
 use Rattle.cap_codec.proofs.CountedBounds.{IsPlaceOf-counted, IsWindow-counted}
 use Rattle.cap_codec.proofs.IntegerLaws.{multiple_cancel, multiple_is}
 use Rattle.cap_codec.proofs.WindowSizes.{window_size-pos}
@@ -33,6 +34,16 @@ place-corrected : (f : Fields) (n : ℕ) (there here : Bool) → n < 2 ^ 14
 place-corrected f n there here small h t =
     integer-form (bit_of there) (bit_of here) (place_in (window_start f) (window_size f) (n * 2 ^ exponent_of f)) (f.address / window_size f) (window_size f) (n * 2 ^ exponent_of f) origin
     (place-is f (bit_of here) (bit_of there) n small (IsBelow-test _ _ here h) (IsBelow-test _ _ there t))
+
+-- The window's start, as the place of its eighth.
+pub window_start-corrected : (f : Fields) (here : Bool) → here ≡ nat_lt (f.address / 2 ^ (exponent_of f + 11) % 8) (start_eighth f)
+    → pos (window_start f) -ℤ pos origin ≡ place_with f (pos 0 -ℤ pos (bit_of here)) (start_eighth f * 2 ^ 11)
+window_start-corrected f here e =
+    let scaled : start_eighth f * 2 ^ 11 * 2 ^ exponent_of f ≡ window_mark f =
+    let d : start_eighth f * 2 ^ (exponent_of f + 11) ≡ start_eighth f * (2 ^ exponent_of f * 2 ^ 11) = ap (λ x. start_eighth f * x) (pow-add 2 (exponent_of f) 11) in
+    omega arith in
+    integer-form 0 (bit_of here) (window_start f) (f.address / window_size f) (window_size f) (start_eighth f * 2 ^ 11 * 2 ^ exponent_of f) origin
+    (omega (arith, start-is f (bit_of here) (IsBelow-test _ _ here e)))
 
 -- The corrections by comparisons of 3 bits.
 pub AreCorrections-tests : (f : Fields) (here base top : Bool) (first second : ℤ) → base_mantissa f < 2 ^ 14 → top_mantissa f < 2 ^ 14

@@ -1,6 +1,7 @@
 pub mod BoundsLaws
 pub mod ByteLaws
 pub mod CorrectedBounds
+pub mod CorrectedWindow
 pub mod CorrectionLaws
 pub mod CountedBounds
 pub mod EncodeLaws

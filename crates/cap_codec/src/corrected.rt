@@ -1,12 +1,13 @@
 //! The bounds as hardware decodes them: by shifts, masks and comparisons of 3 bits, which say by how
 //! many windows the address's upper bits have to be corrected.
 
-ghost use Rattle.std.specs.Prelude.{◌≡◌, ◌<◌, ◌≤◌, ◌+◌, ◌-◌, ◌*◌, ◌/◌, ◌%◌, ◌^◌, ℕ, ℤ, pos, ◌+ℤ◌, ◌-ℤ◌, ◌*ℤ◌};
+ghost use Rattle.std.specs.Prelude.{◌≡◌, ◌<◌, ◌≤◌, ◌+◌, ◌-◌, ◌*◌, ◌/◌, ◌%◌, ◌^◌, ◌↔◌, IsTrue, ℕ, ℤ, pos, ◌+ℤ◌, ◌-ℤ◌, ◌*ℤ◌};
 ghost use Rattle.cap_codec.specs.Bounds.{IsBounds, bounds_of};
 ghost use Rattle.cap_codec.specs.Corrections.{AreCorrections};
 ghost use Rattle.cap_codec.specs.Fields.{IsValid, bit_of, fields_of};
 ghost use Rattle.cap_codec.specs.Integers.{IsCongruent};
 ghost use Rattle.cap_codec.specs.Mantissas.{base_mantissa, exponent_of, top_mantissa};
+ghost use Rattle.cap_codec.specs.Representable.{IsInWindow, IsRepresentable, is_representable};
 
 use crate::decode::fields;
 use crate::word::{Bounds, Fields, Word};
@@ -38,19 +39,51 @@ pub fn bounds(w: Word) -> Bounds
     }
 }
 
+/// Whether the word keeps its bounds with this address.
+pub fn representable(w: Word, address: u64) -> bool
+    ensures value { result ≡ is_representable (fields_of w) address }
+    ensures same { IsTrue result ↔ IsRepresentable (fields_of w) address }
+    ensures window { IsTrue result ↔ IsInWindow (fields_of w) address }
+{
+    let f = fields(w);
+    let (exponent, base_mantissa, _) = mantissas_in(f);
+    let start = start_eighth(base_mantissa);
+    let own = correction(false, eighth_at(f.address, exponent) < start);
+    let low = corrected_place(f.address, exponent, start << 11, own);
+
+    // The bits above the window. From the exponent 50 on there are none.
+    address.wrapping_sub(low) >> exponent >> 14 == 0
+}
+
 // The corrections of a word with these fields.
 fn corrections_in(f: Fields) -> (i8, i8)
     requires { IsValid f }
     ensures { AreCorrections f result.0 result.1 }
 {
     let (exponent, base, top) = mantissas_in(f);
-    let start = (base >> 11).wrapping_sub(1) & 7;
-    let here = f.address >> (exponent + 11) & 7;
-    let is_next = here < start;
+    let start = start_eighth(base);
+    let is_next = eighth_at(f.address, exponent) < start;
     (
         correction(base >> 11 < start, is_next),
         correction(top >> 11 < start, is_next),
     )
+}
+
+// The eighth of a window that the word's window starts at: one below the base's.
+fn start_eighth(base_mantissa: u64) -> u64
+    requires { base_mantissa < 2 ^ 14 }
+    ensures value { result ≡ (base_mantissa / 2 ^ 11 + 7) % 8 }
+    ensures limit { result < 8 }
+{
+    (base_mantissa >> 11).wrapping_sub(1) & 7
+}
+
+// The eighth of a window that the address lies in, as its own bits say.
+fn eighth_at(address: u64, exponent: u8) -> u64
+    requires { exponent ≤ 52 }
+    ensures { result ≡ address / 2 ^ (exponent + 11) % 8 }
+{
+    address >> (exponent + 11) & 7
 }
 
 // By how many windows a place lies after the address's own: each lies in the next one where its

@@ -1,7 +1,5 @@
-use Rattle.std.proofs.Common.{◌≡◌, ◌<◌, ◌^◌, ◌/◌, ◌%◌, ◌+◌, ◌-◌, ℕ, arith, rules, ap, subst, ◌∙◌, nat_lt, w8}
-use Rattle.std.specs.Prelude.{bit_and}
+use Rattle.std.proofs.Common.{◌≡◌, ◌<◌, ◌^◌, ◌/◌, ◌%◌, ◌+◌, ℕ, rules, ap, subst, ◌∙◌, nat_lt, w8}
 use Rattle.std.proofs.lemmas.Int.{to_z-of_z}
-use Rattle.std.proofs.lemmas.Nat.{and_mask}
 use Rattle.cap_codec.specs.Mantissas.{exponent_of}
 use Rattle.cap_codec.proofs.IntegerCorrections.{AreCorrections-tests, start_eighth}
 use Rattle.cap_codec.proofs.corrected.corrections_in.Goals as goal
@@ -11,12 +9,10 @@ returns c =
     let f = c.args.f in
     let m = c.mantissas_in-exponent.result in
     let is = c.mantissas_in-exponent.ensures in
-    let start = bit_and ((m.1 / 2 ^ 11 + (2 ^ 64 - 1)) % 2 ^ 64) 7 in
-    let here = bit_and (f.address / 2 ^ (m.0 + 11)) 7 in
-    let start_is : start ≡ start_eighth f =
-    and_mask ((m.1 / 2 ^ 11 + (2 ^ 64 - 1)) % 2 ^ 64) 3 ∙ omega (arith, is.base) in
-    let here_is : here ≡ f.address / 2 ^ (exponent_of f + 11) % 8 =
-    and_mask (f.address / 2 ^ (m.0 + 11)) 3 ∙ ap (λ e. f.address / 2 ^ (e + 11) % 8) is.exponent in
+    let start = c.start_eighth-start.result in
+    let here = c.eighth_at.result in
+    let start_is : start ≡ start_eighth f = c.start_eighth-start.ensures.value ∙ ap (λ x. (x / 2 ^ 11 + 7) % 8) is.base in
+    let here_is : here ≡ f.address / 2 ^ (exponent_of f + 11) % 8 = c.eighth_at.ensures ∙ ap (λ e. f.address / 2 ^ (e + 11) % 8) is.exponent in
     let test : (n n' : ℕ) → n ≡ n' → nat_lt n start ≡ nat_lt n' (start_eighth f) = λ n n' e. ap (λ x. nat_lt x start) e ∙ ap (λ x. nat_lt n' x) start_is in
     AreCorrections-tests f (nat_lt here start) (nat_lt (m.1 / 2 ^ 11) start) (nat_lt (m.2 / 2 ^ 11) start) _ _
     (subst (λ x. x < 2 ^ 14) is.base is.base_limit) (subst (λ x. x < 2 ^ 14) is.top is.top_limit)
