@@ -3,7 +3,8 @@
 
 use crate::{
     Bounds, Fields, Word, alignment_mask, and_perms, bounds, corrections, exponent, fields,
-    from_bytes, representable, representable_length, set_address, to_bytes, with_bounds, word_of,
+    from_bytes, plain, representable, representable_length, set_address, to_bytes, with_bounds,
+    word_of,
 };
 
 // The fields of the null capability.
@@ -308,4 +309,65 @@ fn words_are_edited(rt: HostRuntime) {
         ..BLOCK
     };
     assert_eq!(rt; fields(and_perms(block, 0x07)), fewer);
+}
+
+// The eighth of its window that this base field's base lies in is 6, so its window starts at eighth 5.
+const BASE_FIELD: u16 = 0x3120;
+
+// Addresses at both edges of a window of that base, and of the address space.
+fn edges(exponent: u16) -> [u64; 6] {
+    let start = 5 * 2048 << exponent.min(52);
+    let end = (1u64 << 14 << exponent.min(52)).wrapping_add(start);
+    [
+        start.wrapping_sub(1),
+        start,
+        end.wrapping_sub(1),
+        end,
+        0,
+        u64::MAX,
+    ]
+}
+
+#[test]
+fn decoding_is_the_plain_one(rt: HostRuntime) {
+    for field in 0..64u16 {
+        for internal in [false, true] {
+            let with = Fields {
+                internal,
+                top12: 0x460 + field / 8,
+                base14: BASE_FIELD + field % 8,
+                ..NULL
+            };
+            for address in edges(field) {
+                let w = word_of(Fields { address, ..with });
+                assert_eq!(rt; bounds(w), plain::bounds(w), "at {field}");
+                for other in edges(field) {
+                    let kept = plain::representable(w, other);
+                    assert_eq!(rt; representable(w, other), kept, "at {field}");
+                }
+            }
+        }
+    }
+}
+
+#[test]
+fn rounding_is_the_plain_one(rt: HostRuntime) {
+    for place in 0..64u16 {
+        for less in [0, 1, 8, 9] {
+            let length = (1u64 << place).wrapping_sub(less);
+            for base in edges(place) {
+                let top = u128::from(base) + u128::from(length);
+                if top <= 1 << 64 {
+                    let set = plain::with_bounds(Word::NULL, base, top);
+                    assert_eq!(rt; with_bounds(Word::NULL, base, top), set, "at {place}");
+                }
+            }
+            let rounded = (
+                plain::representable_length(length),
+                plain::alignment_mask(length),
+            );
+            let here = (representable_length(length), alignment_mask(length));
+            assert_eq!(rt; here, rounded, "at {place}");
+        }
+    }
 }
