@@ -1,0 +1,5 @@
+use Rattle.mark_board.specs.Board.{IsOf}
+use Rattle.board_speed.proofs.marked.Given as goal
+
+abbrev pub invariant-loop-k : goal.invariant-loop-k
+invariant-loop-k l = IsOf l.board l.seat

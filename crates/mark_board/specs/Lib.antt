@@ -1,0 +1,4 @@
+pub mod Bits
+pub mod Board
+pub mod Laws
+pub mod Rule
