@@ -1,39 +1,34 @@
-//! Work for a stopwatch: ten million marks of one word of a board, one after the other. With the
-//! argument `bare` it is as many steps on a bare atomic word, and the sum of the answers is the same.
+//! Work for a stopwatch: ten million marks of one word of a board, and as many steps on a bare atomic
+//! word. The sums go to standard output, and the times to standard error.
 #![tactic(auto)]
 
 ghost use Rattle.std.specs.Prelude.{◌≡◌};
 ghost use Rattle.mark_board.specs.Board.{IsOf};
 
-use mark_board::{Board, BoardFault, MarkSeat};
-use std::alloc::Global;
-use std::env;
-use std::io::Write;
+use mark_board::{Board, MarkSeat};
+use std::io;
+use std::process::Abort;
 use std::sync::atomic::{AtomicU64, Ordering};
+use std::time::{CpuClock, Duration};
 
 const MARKS: u32 = 10_000_000;
 
 const WORD_BITS: u32 = 64;
 
-fn main(rt: HostRuntime) {
-    let sum = if is_bare(&rt) {
-        Ok(sum_of_steps())
-    } else {
-        sum_of_marks(rt.alloc())
-    };
-    let mut out = rt.stdout();
-    let _ = match sum {
-        Ok(sum) => write!(out, "{MARKS} marks, sum {sum}\n"),
-        Err(_) => write!(out, "want of memory\n"),
-    };
+fn main(rt: HostRuntime) -> io::Result<()> {
+    let (board, seat) = Board::new(rt.alloc(), WORD_BITS, 1).expect(&rt, "a board");
+    let start = rt.thread_cpu_time()?;
+    let marks = sum_of_marks(&board, seat);
+    let between = rt.thread_cpu_time()?;
+    let steps = sum_of_steps();
+    let end = rt.thread_cpu_time()?;
+    report(&rt, "marks", marks, between.saturating_sub(start))?;
+    report(&rt, "bare steps", steps, end.saturating_sub(between))
 }
 
-// Whether the first argument is `bare`.
-fn is_bare(rt: &HostRuntime) -> bool {
-    match env::args(rt) {
-        Ok(mut args) => args.nth(1).is_some_and(|word| word.as_str() == "bare"),
-        Err(_) => false,
-    }
+fn report(rt: &HostRuntime, name: &str, sum: u64, time: Duration) -> io::Result<()> {
+    println!(rt; "{MARKS} {name}, sum {sum}")?;
+    eprintln!(rt; "{name}: {} microseconds", time.as_micros())
 }
 
 // The k-th mask: one bit after the other.
@@ -41,13 +36,8 @@ fn mask(k: u32) -> u64 {
     1 << (k % WORD_BITS)
 }
 
-fn sum_of_marks(alloc: Global) -> Result<u64, BoardFault> {
-    let (board, seat) = Board::new(alloc, WORD_BITS, 1)?;
-    Ok(marked(&board, seat))
-}
-
 // The sum of what the marks answer.
-fn marked(board: &Board, mut seat: MarkSeat) -> u64
+fn sum_of_marks(board: &Board, mut seat: MarkSeat) -> u64
     requires board { IsOf board.now seat }
     requires bits { board.now.bits ≡ 64 }
 {
