@@ -54,8 +54,8 @@ abbrev pub IsMask : BoardState → ℕ → ℕ → Type 0
 IsMask board word mask = mask < 2 ^ (board.bits - 64 * word)
 
 -- The bits found in this word are all that the seat had seen there, and maybe more.
-abbrev pub HasSeen : SeatState → ℕ → ℕ → Type 0
-HasSeen seat word found = (j : ℕ) → bit seat.seen word j ≤ bit_at found j
+abbrev pub HasAllSeen : SeatState → ℕ → ℕ → Type 0
+HasAllSeen seat word found = (j : ℕ) → bit seat.seen word j ≤ bit_at found j
 
 -- What holds of every seat: its sets have a word for each of the board's, it has seen what it set, all
 -- that it has seen stands before the board's end, and it has a part and no more parts than there are.

@@ -1,11 +1,11 @@
 //! A row of bits, all 0 at first, and what threads do with it through a `&`.
 
-ghost use Rattle.std.specs.Prelude.{◌≡◌, ◌↔◌, ◌+◌, ◌<◌, ◌^◌, ℕ, IfOk, IsOkUnless, bit_or, false, length, true};
+ghost use Rattle.std.specs.Prelude.{◌≡◌, ◌↔◌, ◌+◌, ◌<◌, ◌≤◌, ◌^◌, ℕ, IfOk, IsOkUnless, bit_or, false, length, true};
 ghost use Rattle.std.specs.Int.{bit_at};
 ghost use Rattle.std.specs.Slots.{IsFull, slots_items, slots_len};
 ghost use Rattle.mark_board.specs.Bits.{Apart, IsInside, bit, gains, united, without};
 ghost use Rattle.mark_board.specs.Board as spec;
-ghost use Rattle.mark_board.specs.Board.{HasSeen, IsBoard, IsMask, IsOf, IsSound, are_parts, first_seat, is_size, no_bits, word_count};
+ghost use Rattle.mark_board.specs.Board.{HasAllSeen, IsBoard, IsMask, IsOf, IsSound, are_parts, first_seat, is_size, no_bits, word_count};
 
 use crate::fault::BoardFault;
 use crate::rule::{Both, Cut, Marks, Settles, Shape, View};
@@ -89,9 +89,9 @@ impl Board {
         requires mask { IsMask self.now word mask }
         ensures board { IsOf self.now seat.new }
         ensures parts { seat.new.parts ≡ seat.old.parts }
-        ensures fresh { (j : ℕ) → (bit_at result j + bit seat.old.mine word j < 2)
-            × (bit_at result j + bit seat.old.seen word j < 2) }
-        ensures found { (found : ℕ) × (found < 2 ^ 64) × HasSeen seat.old word found
+        ensures fresh { (j : ℕ) → (bit_at result j + bit seat.old.mine word j ≤ 1)
+            × (bit_at result j + bit seat.old.seen word j ≤ 1) }
+        ensures found { (found : ℕ) × (found < 2 ^ 64) × HasAllSeen seat.old word found
             × (result ≡ without mask found)
             × (seat.new.seen ≡ gains seat.old.seen word (bit_or found mask)) }
         ensures mine { seat.new.mine ≡ gains seat.old.mine word result }
@@ -110,7 +110,7 @@ impl Board {
         requires word { word < word_count self.now }
         ensures board { IsOf self.now seat.new }
         ensures parts { seat.new.parts ≡ seat.old.parts }
-        ensures all_seen { HasSeen seat.old word result }
+        ensures all_seen { HasAllSeen seat.old word result }
         ensures mine { seat.new.mine ≡ seat.old.mine }
         ensures seen { seat.new.seen ≡ gains seat.old.seen word result }
         ensures sound { IsSound seat.new }
