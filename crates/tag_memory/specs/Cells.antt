@@ -32,6 +32,10 @@ pub record IsMemory (m : MemoryState) : Type 0 where
 abbrev pub Cell : Type 0
 Cell = Word × Bool
 
+-- A granule, as the word that its bytes are.
+abbrev pub cell_of : Granule → Cell
+cell_of granule = (record { bits = granule.0 }, granule.1)
+
 -- The null capability, untagged.
 abbrev pub null_cell : Cell
 null_cell = (record { bits = 0 }, false)

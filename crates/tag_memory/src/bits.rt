@@ -1,10 +1,10 @@
-//! Single bits of a word of tags.
+//! Single bits of a word that has one for each of 64 granules.
 
 ghost use Rattle.std.specs.Prelude.{◌≡◌, ◌<◌, ◌==◌, ℕ, if◌then◌else◌};
 ghost use Rattle.tag_memory.specs.Tags.{is_set};
 
-/// Bits a word of tags, one a granule.
-pub const WORD_TAGS: usize = 64;
+/// Granules a word, each with one bit.
+pub const WORD_GRANULES: usize = 64;
 
 /// Whether bit `j` is 1.
 pub fn bit(word: u64, j: usize) -> bool

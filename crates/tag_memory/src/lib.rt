@@ -8,7 +8,7 @@ mod span;
 #[cfg(test)]
 mod tests;
 
-pub use crate::bits::{WORD_TAGS, bit, with_bit};
-pub use crate::memory::{Memory, MemoryFault};
-pub use crate::registers::Registers;
+pub use crate::bits::{WORD_GRANULES, bit, with_bit};
+pub use crate::memory::{Memory, MemoryFault, PAGE_WORDS};
+pub use crate::registers::{REGISTERS, Registers};
 pub use crate::span::{GRANULE, MOST_PAGES, PAGE, PAGE_GRANULES, is_base, is_size};

@@ -6,7 +6,7 @@ ghost use Rattle.tag_memory.specs.Span as span;
 ghost use Rattle.tag_memory.specs.Tags.{is_set, is_tagged, without_tags};
 ghost use Rattle.tag_memory.specs.Tags as tags;
 
-use crate::bits::{WORD_TAGS, bit, with_bit};
+use crate::bits::{WORD_GRANULES, bit, with_bit};
 use crate::span::{PAGE_GRANULES, is_base, is_size};
 use std::alloc::Global;
 use std::marker::Model;
@@ -27,7 +27,7 @@ pub enum MemoryFault {
 }
 
 /// Words of tags a page.
-const PAGE_WORDS: usize = PAGE_GRANULES as usize / WORD_TAGS;
+pub const PAGE_WORDS: usize = PAGE_GRANULES as usize / WORD_GRANULES;
 
 /// The granules of some pages, each 16 bytes with one tag. Bit `j` of word `w` of the tags is that of
 /// granule `64 * w + j`.
@@ -108,7 +108,10 @@ impl Memory {
         requires { i < length self.now.cells }
         ensures { slice_get self.now.cells i ≡ Some result }
     {
-        (self.bits[i], bit(self.tags[i / WORD_TAGS], i % WORD_TAGS))
+        (
+            self.bits[i],
+            bit(self.tags[i / WORD_GRANULES], i % WORD_GRANULES),
+        )
     }
 
     /// Writes a granule's bytes and its tag.
@@ -117,8 +120,8 @@ impl Memory {
         ensures { self.new ≡ record self.old { cells = slice_set self.old.cells i (bits, tag) } }
     {
         self.bits[i] = bits;
-        let word = &mut self.tags[i / WORD_TAGS];
-        *word = with_bit(*word, i % WORD_TAGS, tag);
+        let word = &mut self.tags[i / WORD_GRANULES];
+        *word = with_bit(*word, i % WORD_GRANULES, tag);
     }
 
     /// The tags of granules `64 * w` to `64 * w + 63`, the first in bit 0.

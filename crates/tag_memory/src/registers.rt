@@ -7,13 +7,13 @@ use cap_codec::Word;
 use std::marker::Model;
 
 /// How many registers there are.
-const COUNT: usize = 32;
+pub const REGISTERS: u8 = 32;
 
 /// 32 registers, each a word with its tag. Register 0 reads as the null capability, untagged, and
 /// ignores writes.
 #[derive(Drop)]
 pub struct Registers {
-    cells: [(Word, bool); COUNT],
+    cells: [(Word, bool); REGISTERS as usize],
 }
 
 impl Model for Registers {
@@ -31,7 +31,7 @@ impl Registers {
         ensures { result ≡ new_registers }
     {
         Registers {
-            cells: [(Word::NULL, false); COUNT],
+            cells: [(Word::NULL, false); REGISTERS as usize],
         }
     }
 
