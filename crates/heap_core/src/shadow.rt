@@ -7,9 +7,7 @@ ghost use Rattle.tag_memory.specs.Tags.{is_set, is_set_for};
 
 use std::alloc::{AllocError, Global};
 use std::marker::Model;
-
-// Granules a word.
-const WORD_GRANULES: usize = 64;
+use tag_memory::{WORD_GRANULES, bit};
 
 /// Which granules of a heap lay in held blocks when it was made: one bit a granule, as the revoker's
 /// shadow bitmap has it (Filardo et al. 2020, Cornucopia).
@@ -43,8 +41,7 @@ impl Shadow {
         requires { granule < length self.now }
         ensures { result ≡ slice_index_or self.now granule false }
     {
-        let word = self.words[granule / WORD_GRANULES];
-        (word >> (granule % WORD_GRANULES)) & 1 == 1
+        bit(self.words[granule / WORD_GRANULES], granule % WORD_GRANULES)
     }
 }
 

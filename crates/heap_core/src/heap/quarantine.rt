@@ -12,7 +12,6 @@ use crate::heap::Heap;
 use crate::shadow::{Shadow, paint};
 use crate::table::block_index;
 use std::alloc::Global;
-use tag_memory::GRANULE;
 
 impl Heap {
     /// Gives up the live block with exactly these bounds: it becomes held, and its bytes stay in use

@@ -1,12 +1,11 @@
-use Rattle.std.proofs.Common.{◌<◌, ◌*◌, ◌/◌, ◌%◌, ◌∙◌, nat_eq, ℕ, length, sym, ap, arith}
+use Rattle.std.proofs.Common.{◌<◌, ◌*◌, ◌/◌, ◌%◌, ◌∙◌, ℕ, length, sym, ap, arith}
 use Rattle.std.proofs.lemmas.List.{get_or_read}
-use Rattle.std.proofs.lemmas.Nat.Bits.{shr_and_one}
 use Rattle.heap_core.proofs.ShadowLaws.{get_or-bits_of, length-bits_of}
 use Rattle.tag_memory.specs.Tags.{is_set}
 use Rattle.heap_core.proofs.shadow.Shadow.painted.Goals as goal
 
-pub index-word-requires : goal.index-word-requires
-index-word-requires c =
+pub index-requires : goal.index-requires
+index-requires c =
     let within = rw (← c.self.view_is) at c.requires in
     omega (arith, within, length-bits_of c.self.inside.words.items)
 
@@ -16,6 +15,5 @@ returns c =
     let words = c.self.inside.words.items in
     let within = rw (← c.self.view_is) at c.requires in
     let inside : c.args.granule < 64 * length c.self.inside.words.items = omega (arith, within, length-bits_of words) in
-    let word = get_or_read words (c.args.granule / 64) c.index-word.result.now (omega arith) c.index-word.ensures 0 in
-    ap (λ (n : ℕ). nat_eq n 1) (shr_and_one c.index-word.result.now (c.args.granule % 64))
-    ∙ (ap (λ (n : ℕ). is_set n (k % 64)) word ∙ rw (← c.self.view_is) (sym (get_or-bits_of words k inside)))
+    let word = get_or_read words (c.args.granule / 64) c.index.result.now (omega arith) c.index.ensures 0 in
+    c.bit.ensures ∙ (ap (λ (n : ℕ). is_set n (k % 64)) word ∙ rw (← c.self.view_is) (sym (get_or-bits_of words k inside)))
