@@ -1,20 +1,16 @@
 -- The sweep (Filardo et al. 2020, Cornucopia: revocation by the shadow bitmap): each capability whose base
 -- lies in a held block loses its tag. Its address and its permissions don't matter, and its bits stay.
-use Rattle.std.specs.Prelude.{◌≡◌, ◌<◌, ◌-◌, ◌*◌, ◌/◌, ◌&&◌, ℕ, Bool, false, not, List, length, map, nat_le, slice_index_or}
+use Rattle.std.specs.Prelude.{◌≡◌, ◌<◌, ◌+◌, ◌-◌, ◌*◌, ◌/◌, ◌&&◌, ℕ, Bool, false, not, List, count_by, drop, length, map, nat_le, slice_index_or}
 use Rattle.cap_codec.specs.Bounds.{bounds_of}
 use Rattle.cap_codec.specs.Fields.{fields_of}
 use Rattle.cap_codec.specs.declared.word.Word.{Word}
 use Rattle.heap_core.specs.Blocks.{Span, lies_in}
-use Rattle.tag_memory.specs.Cells.{Cell, Granule, MemoryState}
+use Rattle.tag_memory.specs.Cells.{Cell, Granule, MemoryState, cell_of}
 use Rattle.tag_memory.specs.Tags.{is_set_for}
 
 -- The base of a word.
 abbrev pub base_of : Word → ℕ
 base_of w = (bounds_of (fields_of w)).base
-
--- A granule, as the word that its bytes are.
-abbrev pub cell_of : Granule → Cell
-cell_of granule = (record { bits = granule.0 }, granule.1)
 
 -- ---- what a sweep does
 
@@ -36,6 +32,11 @@ swept_registers held registers = map (swept_cell held) registers
 
 abbrev pub swept_granules : List Span → List Granule → List Granule
 swept_granules held granules = map (swept_granule held) granules
+
+-- How many tags a sweep takes. That of register 0, which always reads as null, never counts.
+abbrev pub tags_taken : List Span → List Granule → List Cell → ℕ
+tags_taken held granules registers =
+    count_by (λ g. g.1 && is_revoked held (cell_of g).0) granules + count_by (λ c. c.1 && is_revoked held c.0) (drop 1 registers)
 
 -- ---- how it is found out
 

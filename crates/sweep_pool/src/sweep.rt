@@ -9,7 +9,7 @@ ghost use Rattle.tag_memory.specs.Tags.{is_set};
 use cap_codec::{Word, bounds};
 use heap_core::Shadow;
 use std::alloc::Global;
-use tag_memory::{GRANULE, Memory, PAGE_GRANULES, Registers, WORD_TAGS, with_bit};
+use tag_memory::{GRANULE, Memory, PAGE_WORDS, REGISTERS, Registers, WORD_GRANULES, with_bit};
 use thiserror::Error;
 
 /// Why a sweep wasn't made.
@@ -19,9 +19,6 @@ pub enum SweepFault {
     #[error("Memory")]
     Memory,
 }
-
-// Words of tags a page.
-const PAGE_WORDS: usize = PAGE_GRANULES as usize / WORD_TAGS;
 
 // Whether an address lies in a painted granule of the heap that starts at `base`.
 fn is_painted(shadow: &Shadow, base: u64, address: u64) -> bool
@@ -59,8 +56,12 @@ fn word_mask(memory: &Memory, shadow: &Shadow, w: usize) -> u64
     if memory.tag_word(w) == 0 {
         return mask;
     }
-    for j in 0..WORD_TAGS {
-        mask = with_bit(mask, j, is_granule_hit(memory, shadow, WORD_TAGS * w + j));
+    for j in 0..WORD_GRANULES {
+        mask = with_bit(
+            mask,
+            j,
+            is_granule_hit(memory, shadow, WORD_GRANULES * w + j),
+        );
     }
     mask
 }
@@ -99,7 +100,7 @@ pub fn swept_registers(registers: &Registers, shadow: &Shadow, base: u64) -> u32
     ensures { (r : ℕ) → r < 32 → is_set result r ≡ is_hit shadow.now base (register_in registers.now r) }
 {
     let mut mask = 0;
-    for r in 0..32 {
+    for r in 0..REGISTERS {
         if is_register_hit(registers, shadow, base, r) {
             mask |= 1 << r;
         }

@@ -32,6 +32,8 @@ fn faults_by_their_names(rt: HostRuntime) -> Result<(), Fail> {
         let message = format!(in rt.alloc(); "{fault}")?;
         assert_eq!(rt; message.as_str(), name);
     }
+    let message = format!(in rt.alloc(); "{}", SweepFault::Memory)?;
+    assert_eq!(rt; message.as_str(), "Memory");
     Ok(())
 }
 
