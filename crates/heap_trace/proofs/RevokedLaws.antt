@@ -1,11 +1,12 @@
 -- After a sweep each tagged word's bounds lie in a live block.
-use Rattle.std.proofs.Common.{◌≡◌, ◌∙◌, ◌-◌, ℕ, Bool, true, false, cond, Option, Some, None, inl, inr, List, [], refl, ap, sym, subst, arith}
+use Rattle.std.proofs.Common.{◌≡◌, ◌∙◌, ℕ, Bool, true, false, cond, Option, Some, None, inl, inr, List, [], refl, ap, sym, subst, arith}
 use Rattle.std.specs.List.{Contains}
 use Rattle.std.specs.Prelude.{Result, Ok, Err, IfOk}
 use Rattle.std.proofs.lemmas.List.Elements.{All-weaker}
 use Rattle.heap_core.specs.Blocks.{Span, bytes_of}
 use Rattle.heap_core.specs.Heap.{HeapState}
-use Rattle.tag_memory.specs.Cells.{Cell}
+use Rattle.sweep_pool.specs.Sweep.{tags_taken}
+use Rattle.tag_memory.specs.Cells.{Cell, cell_of}
 use Rattle.heap_trace.specs.declared.trace.Command.{Command}
 use Rattle.heap_trace.specs.declared.trace.Command.TheVariants.{Malloc, Free, Copy, SetAddr, Narrow, AndPerm, StoreCap, LoadCap, Write, Show, Sweep}
 use Rattle.heap_trace.specs.declared.reply.Reply.{Reply}
@@ -13,9 +14,9 @@ use Rattle.heap_trace.specs.declared.reply.Reply.TheVariants.{Done, Cleared, Swe
 use Rattle.heap_trace.specs.declared.reply.Reply.TheVariants as reply
 use Rattle.heap_trace.specs.declared.reply.MachineFault.{MachineFault}
 use Rattle.heap_trace.specs.declared.reply.Trap.{Trap}
-use Rattle.heap_trace.specs.Safety.{HoldsGuarded, IsGuarded, IsInUse, IsRevoked, IsSafe, cell_of}
-use Rattle.heap_trace.specs.State.{State, tags_of}
-use Rattle.heap_trace.specs.Step.{Effect, Step, StepAfter, checks, first_failed, swept}
+use Rattle.heap_trace.specs.Safety.{HoldsGuarded, IsGuarded, IsInUse, IsRevoked, IsSafe}
+use Rattle.heap_trace.specs.State.{State}
+use Rattle.heap_trace.specs.Step.{Effect, Step, StepAfter, checks, first_failed}
 
 -- Where no block is held, a guarded cell is in use.
 IsInUse-guarded : (heap : HeapState) (c : Cell) → heap.held ≡ [] → IsGuarded heap c → IsInUse heap c
@@ -65,7 +66,7 @@ Effect-revoked old (Write ra bytes) r new safe effect = IsRevoked-same r Done ne
 Effect-revoked old (Show rs) r new safe effect = IsRevoked-same r _ new refl effect.0
 Effect-revoked old Sweep r new safe effect =
     let none : new.heap.held ≡ [] = ap (λ (s : State). s.heap.held) effect.1 in
-    subst (λ (x : Reply). IsRevoked x new) (sym effect.0) (IsRevoked-swept new (tags_of old - tags_of (swept old)) (bytes_of old.heap.held) safe none)
+    subst (λ (x : Reply). IsRevoked x new) (sym effect.0) (IsRevoked-swept new (tags_taken old.heap.held old.cells old.registers) (bytes_of old.heap.held) safe none)
 
 StepAfter-revoked : (t : Option Trap) (old : State) (c : Command) (r : Reply) (new : State) → IsSafe new → StepAfter t old c r new → IsRevoked r new
 StepAfter-revoked None old c r new safe step = Effect-revoked old c r new safe step

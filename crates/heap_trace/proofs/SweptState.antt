@@ -14,10 +14,10 @@ use Rattle.cap_codec.specs.declared.word.Word.{Word}
 use Rattle.heap_core.specs.Blocks.{Span, end_of, has_address, lies_in, start_of}
 use Rattle.heap_core.specs.Heap.{HeapState, IsInside, IsSound as IsSoundHeap}
 use Rattle.heap_core.specs.Quarantine.{IsShadow, without_held}
-use Rattle.sweep_pool.specs.Sweep.{AreMasks, base_of, is_hit, is_painted, is_revoked, swept_cell, swept_granule, swept_granules, swept_registers}
-use Rattle.tag_memory.specs.Cells.{Cell, Granule, null_cell}
+use Rattle.sweep_pool.specs.Sweep.{AreMasks, base_of, is_hit, is_painted, is_revoked, swept_cell, swept_granule, swept_granules, swept_registers, tags_taken}
+use Rattle.tag_memory.specs.Cells.{Cell, Granule, cell_of, null_cell}
 use Rattle.tag_memory.specs.Tags.{is_set_for, without_tags}
-use Rattle.heap_trace.specs.Safety.{HoldsGuarded, IsGuarded, LieIn, cell_of}
+use Rattle.heap_trace.specs.Safety.{HoldsGuarded, IsGuarded, LieIn}
 use Rattle.heap_trace.specs.Sound.{IsSound}
 use Rattle.heap_trace.specs.State.{State, tags_of}
 use Rattle.heap_trace.specs.Step.{bounds_in, swept}
@@ -88,31 +88,57 @@ without_tags-swept heap cells shadow masks sound is are =
 
 -- ---- tags
 
-fewer : (t r : Bool) → cond (t && r) 1 0 ≤ cond t 1 0
-fewer true true = omega arith
-fewer true false = omega arith
-fewer false r = omega arith
+kept_or_taken : (t r : Bool) → cond (t && not r) 1 0 + cond (t && r) 1 0 ≡ cond t 1 0
+kept_or_taken true true = refl
+kept_or_taken true false = refl
+kept_or_taken false r = refl
 
--- A sweep adds no tag.
-count-swept_granules : (held : List Span) (granules : List Granule) → count_by (λ (g : Granule). g.1) (swept_granules held granules) ≤ count_by (λ (g : Granule). g.1) granules
-count-swept_granules held [] = omega arith
+-- The tags that a sweep leaves and those that it takes are the tags before.
+count-swept_granules : (held : List Span) (granules : List Granule)
+    → count_by (λ (g : Granule). g.1) (swept_granules held granules) + count_by (λ (g : Granule). g.1 && is_revoked held (cell_of g).0) granules
+    ≡ count_by (λ (g : Granule). g.1) granules
+count-swept_granules held [] = refl
 count-swept_granules held (g ∷ granules) =
+    let taken : Granule → Bool = λ x. x.1 && is_revoked held (cell_of x).0 in
     let rest = count-swept_granules held granules in
-    let here = fewer g.1 (not (is_revoked held (cell_of g).0)) in
-    omega (arith, sum_by-cons (λ (x : Granule). cond x.1 1 0) (swept_granule held g) (swept_granules held granules), sum_by-cons (λ (x : Granule). cond x.1 1 0) g granules, rest, here)
+    let here = kept_or_taken g.1 (is_revoked held (cell_of g).0) in
+    omega (
+      arith,
+      sum_by-cons (λ (x : Granule). cond x.1 1 0) (swept_granule held g) (swept_granules held granules),
+      sum_by-cons (λ (x : Granule). cond (taken x) 1 0) g granules,
+      sum_by-cons (λ (x : Granule). cond x.1 1 0) g granules,
+      rest,
+      here,
+    )
 
-count-swept_registers : (held : List Span) (registers : List Cell) → count_by (λ (c : Cell). c.1) (swept_registers held registers) ≤ count_by (λ (c : Cell). c.1) registers
-count-swept_registers held [] = omega arith
+count-swept_registers : (held : List Span) (registers : List Cell)
+    → count_by (λ (c : Cell). c.1) (swept_registers held registers) + count_by (λ (c : Cell). c.1 && is_revoked held c.0) registers
+    ≡ count_by (λ (c : Cell). c.1) registers
+count-swept_registers held [] = refl
 count-swept_registers held (c ∷ registers) =
+    let taken : Cell → Bool = λ x. x.1 && is_revoked held x.0 in
     let rest = count-swept_registers held registers in
-    let here = fewer c.1 (not (is_revoked held c.0)) in
-    omega (arith, sum_by-cons (λ (x : Cell). cond x.1 1 0) (swept_cell held c) (swept_registers held registers), sum_by-cons (λ (x : Cell). cond x.1 1 0) c registers, rest, here)
+    let here = kept_or_taken c.1 (is_revoked held c.0) in
+    omega (
+      arith,
+      sum_by-cons (λ (x : Cell). cond x.1 1 0) (swept_cell held c) (swept_registers held registers),
+      sum_by-cons (λ (x : Cell). cond (taken x) 1 0) c registers,
+      sum_by-cons (λ (x : Cell). cond x.1 1 0) c registers,
+      rest,
+      here,
+    )
 
-pub tags_of-swept : (s : State) → tags_of (swept s) ≤ tags_of s
+pub tags_of-swept : (s : State) → tags_of (swept s) + tags_taken s.heap.held s.cells s.registers ≡ tags_of s
 tags_of-swept s =
-    let registers = subst (λ (xs : List Cell). count_by (λ (c : Cell). c.1) xs ≤ count_by (λ (c : Cell). c.1) (drop 1 s.registers))
-    (sym (drop-map (swept_cell s.heap.held) 1 s.registers)) (count-swept_registers s.heap.held (drop 1 s.registers)) in
-    omega (arith, count-swept_granules s.heap.held s.cells, registers)
+    let held = s.heap.held in
+    let taken = count_by (λ (c : Cell). c.1 && is_revoked s.heap.held c.0) (drop 1 s.registers) in
+    let registers = subst (λ (xs : List Cell). count_by (λ (c : Cell). c.1) xs + taken ≡ count_by (λ (c : Cell). c.1) (drop 1 s.registers))
+    (sym (drop-map (swept_cell held) 1 s.registers)) (count-swept_registers held (drop 1 s.registers)) in
+    omega (arith, count-swept_granules held s.cells, registers)
+
+-- So what is counted before and after tells how many it takes.
+pub tags_taken-difference : (s : State) → tags_of s - tags_of (swept s) ≡ tags_taken s.heap.held s.cells s.registers
+tags_taken-difference s = omega (arith, tags_of-swept s)
 
 -- ---- what stays guarded
 

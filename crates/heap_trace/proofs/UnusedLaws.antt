@@ -5,14 +5,14 @@ use Rattle.cap_codec.specs.declared.word.Bounds.{Bounds}
 use Rattle.heap_core.specs.Blocks.{IsApart, Span}
 use Rattle.heap_core.specs.Heap.{HeapState}
 use Rattle.heap_core.specs.Place.{IsFree, block_length}
-use Rattle.tag_memory.specs.Cells.{Cell}
+use Rattle.tag_memory.specs.Cells.{Cell, cell_of}
 use Rattle.heap_trace.specs.declared.trace.Command.{Command}
 use Rattle.heap_trace.specs.declared.trace.Command.TheVariants.{Malloc, Free, Copy, SetAddr, Narrow, AndPerm, StoreCap, LoadCap, Write, Show, Sweep}
 use Rattle.heap_trace.specs.declared.reply.Reply.{Reply}
 use Rattle.heap_trace.specs.declared.reply.Reply.TheVariants.{Block, NoSpace, Done, Cleared}
 use Rattle.heap_trace.specs.declared.reply.Reply.TheVariants as reply
 use Rattle.heap_trace.specs.declared.reply.Trap.{Trap}
-use Rattle.heap_trace.specs.Safety.{HasBaseIn, HoldsGuarded, IsGuarded, IsLiveOrHeld, IsSafe, IsUnused, LieIn, cell_of}
+use Rattle.heap_trace.specs.Safety.{HasBaseIn, HoldsGuarded, IsGuarded, IsLiveOrHeld, IsSafe, IsUnused, LieIn}
 use Rattle.heap_trace.specs.State.{State}
 use Rattle.heap_trace.specs.Step.{Effect, Step, StepAfter, bounds_in, checks, first_failed}
 

@@ -6,7 +6,7 @@ use Rattle.std.specs.List.{Contains}
 use Rattle.cap_codec.specs.declared.word.Bounds.{Bounds}
 use Rattle.heap_core.specs.Blocks.{Span, end_of, start_of}
 use Rattle.heap_core.specs.Heap.{HeapState, IsSound as IsSoundHeap}
-use Rattle.tag_memory.specs.Cells.{Cell, Granule}
+use Rattle.tag_memory.specs.Cells.{Cell, Granule, cell_of}
 use Rattle.heap_trace.specs.declared.reply.Reply.{Reply}
 use Rattle.heap_trace.specs.declared.reply.Reply.TheVariants.{Block, Swept}
 use Rattle.heap_trace.specs.State.{State}
@@ -26,11 +26,7 @@ IsLiveOrHeld heap block = Contains heap.live block ⊎ Contains heap.held block
 pub record IsGuarded (heap : HeapState) (c : Cell) : Type 0 where
   pub within : IsTrue c.1 → (block : Span) × IsLiveOrHeld heap block × LieIn (bounds_in c.0) block
 
--- A granule, as the word that its bytes are.
-abbrev pub cell_of : Granule → Cell
-cell_of granule = (record { bits = granule.0 }, granule.1)
-
--- It is guarded.
+-- The granule is guarded, as the word that its bytes are.
 abbrev pub HoldsGuarded : HeapState → Granule → Type 0
 HoldsGuarded heap granule = IsGuarded heap (cell_of granule)
 

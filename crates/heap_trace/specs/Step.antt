@@ -14,7 +14,7 @@ use Rattle.cap_codec.specs.Rounding.{outward_base, outward_top, with_bounds_of}
 use Rattle.heap_core.specs.Blocks.{blocks_with, bytes_of, is_block}
 use Rattle.heap_core.specs.Place.{IsFree, IsPlace, block_length}
 use Rattle.heap_core.specs.Quarantine.{with_held, without_held}
-use Rattle.sweep_pool.specs.Sweep.{swept_granules, swept_registers}
+use Rattle.sweep_pool.specs.Sweep.{swept_granules, swept_registers, tags_taken}
 use Rattle.tag_memory.specs.Cells.{Cell, Granule, null_cell}
 use Rattle.heap_trace.specs.declared.trace.Command.{Command}
 use Rattle.heap_trace.specs.declared.trace.Command.TheVariants.{Malloc, Free, Copy, SetAddr, Narrow, AndPerm, StoreCap, LoadCap, Write, Show, Sweep}
@@ -24,7 +24,7 @@ use Rattle.heap_trace.specs.declared.reply.Reply.TheVariants as reply
 use Rattle.heap_trace.specs.declared.reply.Shown.{Shown as ShownCell}
 use Rattle.heap_trace.specs.declared.reply.Trap.{Trap}
 use Rattle.heap_trace.specs.declared.reply.Trap.TheVariants as trap
-use Rattle.heap_trace.specs.State.{State, register, tags_of, with_cell}
+use Rattle.heap_trace.specs.State.{State, register, with_cell}
 
 -- ---- words
 
@@ -188,7 +188,7 @@ Effect old (LoadCap rd ra) answer new =
 Effect old (Write ra bytes) answer new = (answer ≡ Done) × (new ≡ with_granule old (register old ra).0 (bits_of_bytes bytes, false))
 Effect old (Show rs) answer new = (answer ≡ reply.Shown (shown_of (register old rs))) × (new ≡ old)
 Effect old Sweep answer new =
-    (answer ≡ Swept (tags_of old - tags_of (swept old)) (bytes_of old.heap.held)) × (new ≡ swept old)
+    (answer ≡ Swept (tags_taken old.heap.held old.cells old.registers) (bytes_of old.heap.held)) × (new ≡ swept old)
 
 -- The step where a check fails, and where none does.
 abbrev pub StepAfter : Option Trap → State → Command → Reply → State → Type 0

@@ -4,8 +4,8 @@ ghost use Rattle.std.specs.Prelude.{◌≡◌, ◌<◌, ◌≤◌, IfOk, IfSome}
 ghost use Rattle.heap_trace.specs.Reading.{all_digits_in, data_in, mask_in, number_in, number_of, numeral_of, register_in, register_of};
 
 use crate::fault::LineFault;
-use crate::trace::REGISTERS;
 use hex::FromHex;
+use tag_memory::REGISTERS;
 
 fn all_digits(digits: &[u8], radix: u32) -> bool
     requires low { 2 ≤ radix }

@@ -2,8 +2,7 @@
 
 ghost use Rattle.std.specs.Prelude.{◌↔◌, IsTrue};
 
-/// How many registers there are.
-pub const REGISTERS: u8 = 32;
+use tag_memory::REGISTERS;
 
 /// A command of a trace. Registers go by their numbers; sizes and lengths are in bytes.
 /// `ra` is the register whose capability allows a store or a load.

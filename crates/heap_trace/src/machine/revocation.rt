@@ -9,12 +9,12 @@ ghost use Rattle.tag_memory.specs.Tags.{is_set};
 use crate::capability::bounds_of_word;
 use crate::machine::Machine;
 use crate::reply::{MachineFault, Reply, Trap};
-use crate::trace::{Command, REGISTERS};
+use crate::trace::Command;
 use cap_codec::Bounds;
 use heap_core::Freed;
 use std::alloc::Global;
 use sweep_pool::{sweep_memory, swept_registers};
-use tag_memory::{Registers, bit};
+use tag_memory::{REGISTERS, Registers, bit};
 
 // Takes the tags of the registers whose bits are 1 in the mask. Register 0 stays as it is.
 fn clear_registers(registers: &mut Registers, mask: u32)

@@ -3,7 +3,6 @@
 use crate::tests::runs::answer;
 use crate::{Command, Machine, MachineFault, Reply, RunFault, image_text};
 use std::alloc::Global;
-use std::process::Abort;
 use std::test::Fail;
 use std::thread::Threads;
 use sweep_pool::{Cutting, Open};

@@ -3,7 +3,7 @@ use Rattle.heap_core.specs.Heap.{HeapState}
 use Rattle.heap_core.specs.Quarantine.{IsShadow, without_held}
 use Rattle.heap_trace.specs.State.{State}
 use Rattle.heap_trace.proofs.SweepStep.{AreSwept-masks, tags-left}
-use Rattle.heap_trace.proofs.SweptState.{IsSound-swept, tags_of-swept}
+use Rattle.heap_trace.proofs.SweptState.{IsSound-swept, tags_of-swept, tags_taken-difference}
 use Rattle.heap_trace.proofs.machine.Machine.sweep.Goals as goal
 
 pub overflow_sub-result : goal.overflow_sub-result
@@ -42,5 +42,5 @@ returns-clause-step c =
     c.clear_registers.ensures.count c.clear_registers.ensures.zero c.clear_registers.ensures.cells in
     let left = tags-left m.heap m.memory c.clear_tags.new.self m.registers c.clear_registers.new.registers are in
     let free : c.give_back-released.new.self ≡ without_held c.self.inside.heap = c.give_back-released.ensures.free ∙ ap without_held c.prepare.ensures.unchanged in
-    rw (← c.self.view_is, c.tagged.ensures, c.tagged-2.ensures, c.tagged-3.ensures, c.tagged-4.ensures, left, c.give_back-released.ensures.bytes, c.prepare.ensures.unchanged, free, are.cells, are.registers_are)
+    rw (← c.self.view_is, c.tagged.ensures, c.tagged-2.ensures, c.tagged-3.ensures, c.tagged-4.ensures, left, tags_taken-difference s, c.give_back-released.ensures.bytes, c.prepare.ensures.unchanged, free, are.cells, are.registers_are)
     (refl, refl)
