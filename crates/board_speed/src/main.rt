@@ -7,7 +7,6 @@ ghost use Rattle.mark_board.specs.Board.{IsOf};
 
 use mark_board::{Board, MarkSeat};
 use std::io;
-use std::process::Abort;
 use std::sync::atomic::{AtomicU64, Ordering};
 use std::time::{CpuClock, Duration};
 
@@ -16,7 +15,9 @@ const MARKS: u32 = 10_000_000;
 const WORD_BITS: u32 = 64;
 
 fn main(rt: HostRuntime) -> io::Result<()> {
-    let (board, seat) = Board::new(rt.alloc(), WORD_BITS, 1).expect(&rt, "a board");
+    let Ok((board, seat)) = Board::new(rt.alloc(), WORD_BITS, 1) else {
+        return println!(rt; "want of memory");
+    };
     let start = rt.thread_cpu_time()?;
     let marks = sum_of_marks(&board, seat);
     let between = rt.thread_cpu_time()?;

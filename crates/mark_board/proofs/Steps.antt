@@ -7,7 +7,7 @@ use Rattle.std.specs.Int.{bit_at}
 use Rattle.std.specs.Prelude.{bit_or}
 use Rattle.atomic_table.proofs.Lists.{at_set, at_snoc, set_else}
 use Rattle.atomic_table.specs.Seated.{TableId}
-use Rattle.atomic_table.specs.Table.{Allows, Joins, Me, Splits, keeps, opening, step}
+use Rattle.atomic_table.specs.Table.{Allows, Final, Joins, Me, Seen, Splits, keeps, opening, step}
 use mathlib.Core.Logic.{dite}
 use mathlib.Core.Option.{none, some, some-ne-none}
 use lib.ListN.{get_elem?}
@@ -16,7 +16,7 @@ use Rattle.mark_board.specs.declared.rule.View.{View}
 use Rattle.mark_board.specs.Bits.{Apart, IsInside, Within, bit, gains, without}
 use Rattle.mark_board.specs.Board.{IsSound, words_for}
 use Rattle.mark_board.specs.Laws.{bit-gains_other, bit-gains_same, bit-none, bit-united, bit-without, gains-keep, length-gains, same_bits}
-use Rattle.mark_board.specs.Rule.{IsHonest, IsLawful, IsLawfulState, Marks, Settles, both_parts, cut_part, first_view, kept_part, marked, seat_of, spent, total, view}
+use Rattle.mark_board.specs.Rule.{IsHonest, IsLawful, IsLawfulState, Marks, Settles, both_parts, cut_part, first_view, kept_part, marked, seat_of, settled, spent, total, view}
 use Rattle.mark_board.proofs.Rows.{set-itself}
 use Rattle.mark_board.proofs.Totals.{all_here, total-at, total-set, total-snoc}
 use Rattle.mark_board.proofs.Views.{inside-gains, none-within, own-marked, own-united}
@@ -239,7 +239,7 @@ pub settles : (shape : Shape) (slots id : ℕ) (me : Me (Unit {0}) View) → 0 <
 settles shape slots id me some_part s r _ at _ =
     let v : View = me.0 in
     let h = r.honest id v at in
-    let w : View = view v.shape v.parts v.mine v.seen in
+    let w : View = settled v in
     let known : v.shape.parts ≡ shape.parts = ap (λ (t : Shape). t.parts) (h.known some_part) in (
       w,
       keeps,
@@ -255,14 +255,15 @@ settles shape slots id me some_part s r _ at _ =
     )
 
 -- The words at the end are what a seat with all parts has set first, and what it has seen.
-pub ends : (shape : Shape) (ws : List ℕ) (views : List View) (id : ℕ) (z : TableId) (v : View) → v.parts ≡ shape.parts → IsSound (seat_of z v) → IsLawful shape ws views → get_elem? views id ≡ some v
+pub ends : (shape : Shape) (ws : List ℕ) (xs : List (Unit {0})) (id : ℕ) (z : TableId) (v : View) → v.parts ≡ shape.parts → IsSound (seat_of z v) → Final (Seen (IsLawfulState shape) id v) ws xs
     → (ws ≡ v.mine) × (ws ≡ v.seen) × IsInside shape.bits ws
-ends shape ws views id z v all sound r at =
-    let h = r.honest id v at in
-    let wide : length ws ≡ words_for v.shape.bits = r.width ∙ ap (λ (t : Shape). words_for t.bits) (sym (h.known sound.some)) in
-    let same : (i j : ℕ) → bit ws i j ≡ bit v.mine i j = λ i j.
-    sym (r.first i j) ∙ all_here (λ u. bit u.mine i j) (λ u. u.parts) views id v (λ k u e no_part. (r.honest k u e).none no_part i j) at (r.parts ∙ sym all) in (
-      same_bits ws v.mine (wide ∙ sym sound.mine_width) same,
-      same_bits ws v.seen (wide ∙ sym sound.seen_width) (λ i j. let a = same i j in let b = h.own i j in let c = h.set i j in omega arith),
-      r.inside,
+ends shape ws xs id z v all sound last =
+    let r = last.1.0 in
+    let h = r.honest id v last.1.1 in
+    let wide : length last.0.words ≡ words_for v.shape.bits = r.width ∙ ap (λ (t : Shape). words_for t.bits) (sym (h.known sound.some)) in
+    let same : (i j : ℕ) → bit last.0.words i j ≡ bit v.mine i j = λ i j.
+    sym (r.first i j) ∙ all_here (λ u. bit u.mine i j) (λ u. u.parts) last.0.views id v (λ k u e no_part. (r.honest k u e).none no_part i j) last.1.1 (r.parts ∙ sym all) in (
+      sym last.2 ∙ same_bits last.0.words v.mine (wide ∙ sym sound.mine_width) same,
+      sym last.2 ∙ same_bits last.0.words v.seen (wide ∙ sym sound.seen_width) (λ i j. let a = same i j in let b = h.own i j in let c = h.set i j in omega arith),
+      subst (λ (words : List ℕ). IsInside shape.bits words) last.2 r.inside,
     )

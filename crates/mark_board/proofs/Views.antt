@@ -6,12 +6,13 @@ use Rattle.std.proofs.lemmas.Nat.Bits.{bit_at_or}
 use Rattle.std.specs.Int.{bit_at}
 use Rattle.std.specs.Prelude.{bit_or}
 use Rattle.atomic_table.specs.Seated.{TableId}
+use Rattle.atomic_table.specs.Table.{Me}
 use mathlib.Core.Logic.{dite}
 use Rattle.mark_board.specs.declared.rule.View.{View}
 use Rattle.mark_board.specs.Bits.{IsInside, Within, bit, gains, united, without}
 use Rattle.mark_board.specs.Board.{IsSound, words_for}
 use Rattle.mark_board.specs.Laws.{bit-gains_other, bit-gains_same, bit-none, bit-united, bit-without, length-gains, length-united}
-use Rattle.mark_board.specs.Rule.{both_parts, cut_part, kept_part, marked, seat_of}
+use Rattle.mark_board.specs.Rule.{IsKept, both_parts, cut_part, kept_part, marked, seat_of, settled}
 
 pub own-marked : (mine seen : List ℕ) (i k x : ℕ) → i < length mine → i < length seen → k < 2 ^ 64 → x < 2 ^ 64 → Within mine seen → Within (gains mine i (without k x)) (gains seen i (bit_or x k))
 own-marked mine seen i k x in_mine in_seen fits word own w j = dite (ℕ_discrete w i)
@@ -75,6 +76,10 @@ sound-marked z v i k x there fits word found mask s = record {
   parts = s.parts;
 }
 
+-- The same of an equal view at the same table.
+kept-same : (parts : ℕ) (z z' : TableId) (me me' : Me (Unit {0}) View) → IsKept parts z me → z' ≡ z → me' ≡ me → IsKept parts z' me'
+kept-same parts z z' me me' kept table is = subst (λ (m : Me (Unit {0}) View). IsKept parts z' m) (sym is) (subst (λ (t : TableId). IsKept parts t me) (sym table) kept)
+
 pub sound-kept : (z : TableId) (v : View) → 1 < v.parts → IsSound (seat_of z v) → IsSound (seat_of z (kept_part v))
 sound-kept z v more s = record {
   mine_width = s.mine_width;
@@ -107,6 +112,15 @@ sound-both z z' v w same few s t =
       parts = few;
     }
 
--- A seat of the same table with an equal view.
-pub sound-same : (z z' : TableId) (v v' : View) → z' ≡ z → v' ≡ v → IsSound (seat_of z v) → IsSound (seat_of z' v')
-sound-same z z' v v' table is s = subst (λ (u : View). IsSound (seat_of z' u)) (sym is) (subst (λ (t : TableId). IsSound (seat_of t v)) (sym table) s)
+-- What a mark leaves a seat with.
+pub kept-marked : (parts : ℕ) (z z' : TableId) (me me' : Me (Unit {0}) View) (i k x : ℕ) → i < words_for me.0.shape.bits → k < 2 ^ 64 → x < 2 ^ 64
+    → ((j : ℕ) → me.0.shape.bits ≤ 64 * i + j → bit_at x j ≡ 0) → ((j : ℕ) → me.0.shape.bits ≤ 64 * i + j → bit_at k j ≡ 0)
+    → IsKept parts z me → z' ≡ z → me' ≡ (marked me.0 i k x, me.1) → IsKept parts z' me'
+kept-marked parts z z' me me' i k x there fits word found mask kept table is = kept-same parts z z' (marked me.0 i k x, me.1) me'
+    (kept.0, kept.1, sound-marked z me.0 i k x there fits word found mask kept.2) table is
+
+-- What a join leaves the first of two seats with.
+pub kept-joined : (parts more : ℕ) (z z' y : TableId) (me me' other : Me (Unit {0}) View) → other.0.shape.bits ≡ me.0.shape.bits → me.0.parts + other.0.parts ≤ me.0.shape.parts
+    → IsKept parts z me → IsKept more y other → z' ≡ z → me' ≡ (settled (both_parts me.0 other.0), me.1) → IsKept (parts + more) z' me'
+kept-joined parts more z z' y me me' other same few kept taken table is = kept-same (parts + more) z z' (settled (both_parts me.0 other.0), me.1) me'
+    ((let a = kept.0 in let b = taken.0 in omega arith), kept.1, sound-both z y me.0 other.0 same few kept.2 taken.2) table is

@@ -7,8 +7,8 @@ use Rattle.std.proofs.lemmas.Nat.Bits.{bit_at_above, bit_at_and, bit_at_not, bit
 use Rattle.std.specs.Int.{bit_at, bit_not, w64}
 use Rattle.std.specs.Prelude.{bit_or}
 use mathlib.Core.Logic.{dite}
-use Rattle.mark_board.specs.Bits.{bit, gains, united, without}
-use Rattle.mark_board.specs.Board.{BoardState, IsMask}
+use Rattle.mark_board.specs.Bits.{IsInside, bit, gains, united, without}
+use Rattle.mark_board.specs.Board.{BoardState, IsMask, IsOf, IsSound, SeatState, word_count}
 
 -- The empty set has no bit.
 pub bit-none : (count w j : ℕ) → bit (replicate count 0) w j ≡ 0
@@ -75,6 +75,12 @@ same_bits (x ∷ xs) (y ∷ ys) width same =
     let p : x ≡ y = same_from_bits x y (same zero) in
     let q : xs ≡ ys = same_bits xs ys (omega arith) (λ w. same (suc w)) in
     λ k. p k ∷ q k
+
+-- What is known of a seat of this board.
+pub seat-of_board : (board : BoardState) (seat : SeatState) → IsOf board seat → IsSound seat
+    → (length seat.mine ≡ word_count board) × (length seat.seen ≡ word_count board) × (seat.parts ≤ board.parts) × IsInside board.bits seat.seen
+seat-of_board board seat is s = subst (λ (b : BoardState). (length seat.mine ≡ word_count b) × (length seat.seen ≡ word_count b) × (seat.parts ≤ b.parts) × IsInside b.bits seat.seen) is
+    (s.mine_width, s.seen_width, s.parts, s.inside)
 
 -- A mask of a board has no bit at or past the board's end.
 pub mask-inside : (board : BoardState) (word mask j : ℕ) → IsMask board word mask → board.bits ≤ 64 * word + j → bit_at mask j ≡ 0

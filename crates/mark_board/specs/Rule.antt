@@ -7,7 +7,7 @@ use Rattle.atomic_table.specs.Table.{Me, State, Step}
 use mathlib.Core.Option.{some}
 use lib.ListN.{get_elem?}
 use Rattle.mark_board.specs.Bits.{Apart, IsInside, Within, bit, gains, united, without}
-use Rattle.mark_board.specs.Board.{SeatState, words_for}
+use Rattle.mark_board.specs.Board.{IsSound, SeatState, words_for}
 use Rattle.mark_board.specs.declared.rule.Shape.{Shape}
 use Rattle.mark_board.specs.declared.rule.View.{View}
 
@@ -26,6 +26,10 @@ spent = view (record { bits = 0; parts = 0 }) 0 [] []
 -- The seat with this view.
 abbrev pub seat_of : TableId → View → SeatState
 seat_of table v = record { board = record { identity = table; bits = v.shape.bits; parts = v.shape.parts }; parts = v.parts; mine = v.mine; seen = v.seen }
+
+-- What a seat keeps: its number of parts is its view's, it holds no slot, and what it knows is sound.
+abbrev pub IsKept : ℕ → TableId → Me (Unit {0}) View → Type 0
+IsKept parts table me = (parts ≡ me.0.parts) × (me.1 ≡ []) × IsSound (seat_of table me.0)
 
 -- f of each view, added up.
 abbrev pub total : (View → ℕ) → List View → ℕ
@@ -63,11 +67,15 @@ Marks step me found after = ((j : ℕ) → bit me.0.seen step.word j ≤ bit_at 
     × ((j : ℕ) → me.0.shape.bits ≤ 64 * step.word + j → bit_at found j ≡ 0)
     × (after ≡ (marked me.0 step.word step.first found, me.1))
 
+-- The view without what it was joined from.
+abbrev pub settled : View → View
+settled v = view v.shape v.parts v.mine v.seen
+
 -- What the load after a join tells: the two had no bit in common, and have no more parts than there are.
 abbrev pub Settles : Step (Unit {0}) → Me (Unit {0}) View → ℕ → Me (Unit {0}) View → Type 0
 Settles step me found after = Apart me.0.left me.0.right
     × (me.0.parts ≤ me.0.shape.parts)
-    × (after ≡ (view me.0.shape me.0.parts me.0.mine me.0.seen, me.1))
+    × (after ≡ (settled me.0, me.1))
 
 -- What a split leaves with the seat, and what it gives to the new one.
 abbrev pub kept_part : View → View

@@ -15,15 +15,14 @@ pub struct MarkSeat {
 }
 
 impl Model for MarkSeat {
-    ghost use Rattle.std.specs.Prelude.{◌≡◌, []};
-    ghost use Rattle.mark_board.specs.Board.{IsSound, SeatState};
-    ghost use Rattle.mark_board.specs.Rule.{seat_of};
+    ghost use Rattle.mark_board.specs.Board.{SeatState};
+    ghost use Rattle.mark_board.specs.Rule.{IsKept, seat_of};
 
     ghost Value = { SeatState };
 
     ghost view = { λ s. seat_of s.seat.table_id s.seat.me.0 };
 
-    ghost invariant = { λ s. (s.parts ≡ s.seat.me.0.parts) × (s.seat.me.1 ≡ []) × IsSound (seat_of s.seat.table_id s.seat.me.0) };
+    ghost invariant = { λ s. IsKept s.parts s.seat.table_id s.seat.me };
 }
 
 impl MarkSeat {

@@ -1,9 +1,8 @@
-use Rattle.std.proofs.Common.{rules, ◌≡◌, ℕ, ap, sym, ◌∙◌, arith}
+use Rattle.std.proofs.Common.{rules, ◌≡◌, ℕ, arith}
 use Rattle.std.proofs.lemmas.Nat.Bits.{bit_at-lt}
 use Rattle.mark_board.specs.Laws.{bit-without, mask-inside}
-use Rattle.mark_board.specs.Rule.{marked}
 use Rattle.mark_board.proofs.Steps.{marks}
-use Rattle.mark_board.proofs.Views.{sound-marked, sound-same}
+use Rattle.mark_board.proofs.Views.{kept-marked}
 use Rattle.mark_board.proofs.board.Board.mark.Goals as goal
 
 pub fetch_or-found-requires : goal.fetch_or-found-requires
@@ -17,21 +16,14 @@ fetch_or-found-requires c = (
 )
 
 pub invariant_of-seat : goal.invariant_of-seat
-invariant_of-seat c =
-    let is = c.fetch_or-found.ensures.2.2 in
-    let v = c.seat.inside.seat.me.0 in
-    let z = c.seat.inside.seat.table_id in
-    let bits : v.shape.bits ≡ c.args.self.now.bits = search rules in (
-      c.seat.invariant.0 ∙ sym (ap (λ m. m.0.parts) is),
-      ap (λ m. m.1) is ∙ c.seat.invariant.1,
-      sound-same z c.fetch_or-found.new.seat.table_id (marked v c.args.word c.args.mask c.fetch_or-found.result) c.fetch_or-found.new.seat.me.0 c.fetch_or-found.ensures.0 (ap (λ m. m.0) is)
-          (sound-marked z v c.args.word c.args.mask c.fetch_or-found.result (search rules) (search rules) (search rules) c.fetch_or-found.ensures.2.1
-          (λ j past. mask-inside c.args.self.now c.args.word c.args.mask j c.requires.mask (omega arith))
-          c.seat.invariant.2),
-    )
+invariant_of-seat c = kept-marked c.seat.inside.parts _ _ c.seat.inside.seat.me _ c.args.word c.args.mask c.fetch_or-found.result (search rules) (search rules) (search rules)
+    c.fetch_or-found.ensures.2.1
+    (λ j past. mask-inside c.args.self.now c.args.word c.args.mask j c.requires.mask
+    (let e : c.seat.inside.seat.me.0.shape.bits ≡ c.args.self.now.bits = search rules in omega arith))
+    c.seat.invariant c.fetch_or-found.ensures.0 c.fetch_or-found.ensures.2.2
 
 pub returns-clause-sound : goal.returns-clause-sound
-returns-clause-sound c = let i = invariant_of-seat c in i.2
+returns-clause-sound c = (invariant_of-seat c).2
 
 pub returns-clause-fresh : goal.returns-clause-fresh
 returns-clause-fresh c j =
