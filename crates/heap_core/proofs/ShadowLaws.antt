@@ -1,8 +1,8 @@
 -- The bits of a shadow: words painted, and blocks of a table painted one after another.
-use Rattle.std.proofs.Common.{◌≡◌, ◌≢◌, ◌<◌, ◌≤◌, ◌+◌, ◌*◌, ◌-◌, ◌/◌, ◌%◌, ◌^◌, ◌==◌, inl, inr, nat_le, nat_lt, ◌&&◌, ◌||◌, min, max, ℕ, zero, suc, Bool, true, false, List, length, get_or, set, bit_and, bit_or, replicate, refl, sym, ap, ◌∙◌, subst, arith}
+use Rattle.std.proofs.Common.{◌≡◌, ◌<◌, ◌≤◌, ◌+◌, ◌*◌, ◌-◌, ◌/◌, ◌%◌, ◌^◌, ◌==◌, inl, inr, nat_le, nat_lt, ◌&&◌, ◌||◌, min, max, ℕ, zero, suc, Bool, true, false, List, length, get_or, set, bit_and, bit_or, replicate, refl, sym, ap, ◌∙◌, subst, arith}
 use Rattle.std.proofs.lemmas.Bool.{cases_lt}
 use Rattle.std.proofs.lemmas.Bool.Decides.{nat_tests}
-use Rattle.std.proofs.lemmas.List.{get_or-set_other, get_or-set_same, length-replicate}
+use Rattle.std.proofs.lemmas.List.{length-replicate}
 use Rattle.std.proofs.lemmas.List.FromFn.{get_or-map-range_with_len, length-map-range_with_len}
 use Rattle.std.proofs.lemmas.Nat.{mod_low, pow-add, pow_below, pow_pos, shr_high}
 use Rattle.std.proofs.lemmas.Nat.Bits.{bit_at-lt, bit_at-zero, bit_at_and, bit_at_mask_below, bit_at_mask_inside, bit_at_ones, bit_at_ones_above, bit_at_or}
@@ -13,6 +13,7 @@ use Rattle.heap_core.specs.Table.{IsTable, is_held, is_taken, kept_lengths, tabl
 use Rattle.heap_core.proofs.KeptLaws.{get_or-kept, get_or-not_kept, kept-le, lies_in-blocks_of}
 use Rattle.heap_core.proofs.PassLaws.{is_taken_none}
 use Rattle.heap_core.proofs.RunLaws.{is_taken_within}
+use Rattle.tag_memory.specs.Laws.{is_set_for-at, is_set_for-more, is_set_for-other, same_test}
 use Rattle.tag_memory.specs.Tags.{is_set, is_set_for}
 
 -- ---- words
@@ -37,9 +38,6 @@ ones_high low lt =
     let split : (2 ^ 64 - 1) * 2 ^ low ≡ (2 ^ low - 1) * 2 ^ 64 + (2 ^ 64 - 2 ^ low) = omega arith in
     rw split (mod_low (2 ^ low - 1) 64 (2 ^ 64 - 2 ^ low) (omega arith))
 
-same_bit : (a b : ℕ) → a ≡ b → (a == 1) ≡ (b == 1)
-same_bit a b e = ap (λ (x : ℕ). x == 1) e
-
 -- The bits from `low` to before `high`.
 pub is_set-run : (low high j : ℕ) → low < 64 → high ≤ 64 → j < 64
     → is_set (bit_and ((2 ^ 64 - 1) / 2 ^ (64 - high)) ((2 ^ 64 - 1) * 2 ^ low % 2 ^ 64)) j ≡ (nat_le low j && nat_lt j high)
@@ -49,10 +47,10 @@ is_set-run low high j low_lt high_le lt =
     rw (ones_low high high_le, ones_high low low_lt) (bit_at_and (2 ^ high - 1) (2 ^ 64 - 2 ^ low) j) in
     elim (cases_lt j high) [
       | inl below ↦ elim (cases_lt j low) [
-        | inl less ↦ same_bit (bit_at word j) 0 (omega (arith, both, bit_at_ones high j below, bit_at_mask_below low 64 j less)) ∙ grind (arith, nat_tests)
-        | inr from ↦ same_bit (bit_at word j) 1 (omega (arith, both, bit_at_ones high j below, bit_at_mask_inside low 64 j from lt)) ∙ grind (arith, nat_tests)
+        | inl less ↦ same_test (bit_at word j) 0 (omega (arith, both, bit_at_ones high j below, bit_at_mask_below low 64 j less)) ∙ grind (arith, nat_tests)
+        | inr from ↦ same_test (bit_at word j) 1 (omega (arith, both, bit_at_ones high j below, bit_at_mask_inside low 64 j from lt)) ∙ grind (arith, nat_tests)
       ]
-      | inr past ↦ same_bit (bit_at word j) 0 (omega (arith, both, bit_at_ones_above high j past)) ∙ grind (arith, nat_tests)
+      | inr past ↦ same_test (bit_at word j) 0 (omega (arith, both, bit_at_ones_above high j past)) ∙ grind (arith, nat_tests)
     ]
 
 either_bit : (a b : ℕ) → a < 2 → b < 2 → (max a b == 1) ≡ ((b == 1) || (a == 1))
@@ -67,7 +65,7 @@ either_bit (suc (suc a)) b ha hb = absurd (omega arith)
 -- The bits of a word with those of a mask.
 pub is_set-with : (word mask j : ℕ) → is_set (bit_or word mask) j ≡ (is_set mask j || is_set word j)
 is_set-with word mask j =
-    same_bit _ _ (bit_at_or word mask j) ∙ either_bit (bit_at word j) (bit_at mask j) (bit_at-lt word j) (bit_at-lt mask j)
+    same_test _ _ (bit_at_or word mask j) ∙ either_bit (bit_at word j) (bit_at mask j) (bit_at-lt word j) (bit_at-lt mask j)
 
 -- Bits of a word, as granules of the shadow.
 pub in_run : (first end w j low high : ℕ) → j < 64 → low ≡ first - 64 * w → high ≡ min (end - 64 * w) 64 → 64 * w < end → first < 64 * w + 64
@@ -87,24 +85,15 @@ pub painted_word : (words initial : List ℕ) (w x first end k : ℕ) → w < le
     → ((k : ℕ) → k / 64 < w → is_set_for words k ≡ ((nat_le first k && nat_lt k end) || is_set_for initial k))
     → ((k : ℕ) → w ≤ k / 64 → is_set_for words k ≡ is_set_for initial k)
     → k / 64 < w + 1 → is_set_for (set words w x) k ≡ ((nat_le first k && nat_lt k end) || is_set_for initial k)
-painted_word words initial w x first end k inside bits done rest lt =
-    elim (cases_lt (k / 64) w) [
-      | inl before ↦ (let other : k / 64 ≢ w = (λ e. absurd (omega arith)) in rw (get_or-set_other words w (k / 64) x 0 other) (done k before))
-      | inr from ↦
-          let same : k / 64 ≡ w = omega arith in
-          let here : 64 * w + k % 64 ≡ k = omega arith in
-          let old : is_set (get_or words w 0) (k % 64) ≡ is_set_for initial k = subst (λ (i : ℕ). is_set (get_or words i 0) (k % 64) ≡ is_set_for initial k) same (rest k (omega arith)) in
-          let new : is_set x (k % 64) ≡ ((nat_le first k && nat_lt k end) || is_set (get_or words w 0) (k % 64)) =
-          subst (λ (i : ℕ). is_set x (k % 64) ≡ ((nat_le first i && nat_lt i end) || is_set (get_or words w 0) (k % 64))) here (bits (k % 64) (omega arith)) in
-          let there : get_or (set words w x) (k / 64) 0 ≡ x = ap (λ i. get_or (set words w x) i 0) same ∙ get_or-set_same words w x 0 inside in
-          ap (λ (y : ℕ). is_set y (k % 64)) there ∙ (new ∙ ap (λ b. (nat_le first k && nat_lt k end) || b) old)
-    ]
+painted_word words initial w x first end k inside bits done rest lt = is_set_for-more (λ i. (nat_le first i && nat_lt i end) || is_set_for initial i) words w x k inside
+    (λ j below.
+    let old = sym (is_set_for-at words w j below) ∙ rest (64 * w + j) (omega arith) in
+    bits j below ∙ ap (λ b. (nat_le first (64 * w + j) && nat_lt (64 * w + j) end) || b) old)
+    done lt
 
 pub other_word : (words initial : List ℕ) (w x k : ℕ) → ((k : ℕ) → w ≤ k / 64 → is_set_for words k ≡ is_set_for initial k)
     → w + 1 ≤ k / 64 → is_set_for (set words w x) k ≡ is_set_for initial k
-other_word words initial w x k rest lt =
-    let other : k / 64 ≢ w = (λ e. absurd (omega arith)) in
-    rw (get_or-set_other words w (k / 64) x 0 other) (rest k (omega arith))
+other_word words initial w x k rest lt = is_set_for-other words w x k (λ e. absurd (omega arith)) ∙ rest k (omega arith)
 
 -- ---- a shadow as a list
 
@@ -204,7 +193,7 @@ IsPainted-zeros lengths words marks whole zeros =
       within = omega arith;
       whole = λ j lt. absurd (omega arith);
       done = λ k lt. absurd (omega arith);
-      rest = λ k le lt. rw (zeros, get_or-zero) (same_bit _ 0 (bit_at-zero (k % 64)));
+      rest = λ k le lt. rw (zeros, get_or-zero) (same_test _ 0 (bit_at-zero (k % 64)));
     }
 
 -- ---- all of it

@@ -7,20 +7,18 @@ use Rattle.std.specs.Int.{bit_at, bit_not}
 use Rattle.std.specs.Int.RustNames.{count_ones}
 use Rattle.std.specs.List.{count_by}
 use Rattle.std.proofs.lemmas.Bool.{eq-eqb, ne_eqb}
-use Rattle.std.proofs.lemmas.Nat.Bits.{bit_at_and, bit_at_not, bit_at-lt, bit_at_set_same, bit_at_set_other, bit_at_clear_same, bit_at_clear_other}
+use Rattle.std.proofs.lemmas.Nat.Bits.{bit_at_and, bit_at_not, bit_at-lt, bit_at_clear_same, bit_at_clear_other}
 use Rattle.std.proofs.lemmas.Simd.{bit_mask_l, mask_l-lt, ones-mask_l}
+use Rattle.tag_memory.specs.Laws.{is_set-other, is_set-same, same_test}
 use Rattle.tag_memory.specs.Tags.{is_set, number_of_bits}
 
 -- ---- one bit set or cleared
 
-same_test : (a b : ℕ) → a ≡ b → (a == 1) ≡ (b == 1)
-same_test a b e = ap (λ (x : ℕ). x == 1) e
-
 -- the word with bit j set
 pub is_set-or : (word j k : ℕ) → j < 64 → k < 64 → is_set (bit_or word (1 * 2 ^ j % 2 ^ 64)) k ≡ (if k == j then true else is_set word k)
 is_set-or word j k hj hk = dite (ℕ_discrete k j)
-    (λ here. rw (eq-eqb k j here) (rw here (same_test _ 1 (bit_at_set_same w64 word j hj))))
-    (λ other. rw (ne_eqb k j other) (same_test _ _ (bit_at_set_other w64 word j hj k other)))
+    (λ here. rw (eq-eqb k j here) (rw here (is_set-same w64 word j hj)))
+    (λ other. rw (ne_eqb k j other) (is_set-other w64 word j hj k other))
 
 -- the word with bit j cleared
 pub is_set-and_not : (word j k : ℕ) → j < 64 → k < 64 → is_set (bit_and word (bit_not w64 (1 * 2 ^ j % 2 ^ 64))) k ≡ (if k == j then false else is_set word k)

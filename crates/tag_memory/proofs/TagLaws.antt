@@ -12,6 +12,7 @@ use Rattle.std.proofs.lemmas.List.Sums.{sum_by-take-drop}
 use Rattle.std.proofs.lemmas.Nat.{div_below, mod_below}
 use Rattle.std.proofs.lemmas.Nat.Bits.{bit_at-zero, bit_at-lt, same_from_bits_below}
 use Rattle.tag_memory.specs.Cells.{Granule}
+use Rattle.tag_memory.specs.Laws.{is_set_for-other}
 use Rattle.tag_memory.specs.Tags.{granules_of, is_set, is_set_for, is_tagged, number_of_bits, tag_word, without_tags}
 use Rattle.tag_memory.proofs.BitLaws.{is_set-cleared, bit_at-number_of_bits, number_of_bits-lt, ones-number_of_bits}
 
@@ -69,7 +70,7 @@ is_set_for-set tags i word k tag within w =
     (λ other. rw (ne_eqb k i other) (dite (ℕ_discrete (k / 64) (i / 64))
     (λ same. let apart : k % 64 ≢ i % 64 = (λ e. other (omega arith)) in
     rw same (rw there (place ∙ rw (ne_eqb (k % 64) (i % 64) apart) refl)))
-    (λ ne. ap (λ (x : ℕ). is_set x (k % 64)) (get_or-set_other tags (i / 64) (k / 64) word 0 ne))))
+    (λ ne. is_set_for-other tags (i / 64) word k ne)))
 
 pub granules_of-set : (bits tags : List ℕ) (i b word : ℕ) (tag : Bool) → length bits ≡ 64 * length tags → i < length bits → ((j : ℕ) → j < 64 → is_set word j ≡ (if j == i % 64 then tag else is_set (get_or tags (i / 64) 0) j))
     → granules_of (set bits i b) (set tags (i / 64) word) ≡ set (granules_of bits tags) i (b, tag)

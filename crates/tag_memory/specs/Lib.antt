@@ -1,3 +1,4 @@
 pub mod Cells
+pub mod Laws
 pub mod Span
 pub mod Tags

@@ -1,0 +1,47 @@
+-- What the crates above need of bits in words: a bit that is set, and a row of words that is made word
+-- by word.
+use Rattle.std.proofs.Common.{◌≡◌, ◌≢◌, ℕ, ◌+◌, ◌*◌, ◌/◌, ◌%◌, ◌^◌, ◌==◌, ◌<◌, inl, inr, Bool, true, List, length, get_or, set, refl, ap, ◌∙◌, arith, bit_or}
+use Rattle.std.proofs.lemmas.Bool.{cases_lt}
+use Rattle.std.proofs.lemmas.List.{get_or-set_other, get_or-set_same}
+use Rattle.std.proofs.lemmas.Nat.Bits.{bit_at_set_other, bit_at_set_same}
+use Rattle.std.specs.Int.{Width}
+use mir.Val.{bits}
+use Rattle.tag_memory.specs.Tags.{is_set, is_set_for}
+
+-- What a bit is as a number, it is as a test.
+pub same_test : (a b : ℕ) → a ≡ b → (a == 1) ≡ (b == 1)
+same_test a b e = ap (λ (x : ℕ). x == 1) e
+
+-- Bit j of a word set, at any width.
+module _ (width : Width) (word j : ℕ) (below : j < bits width) where
+  pub is_set-same : is_set (bit_or word (1 * 2 ^ j % 2 ^ bits width)) j ≡ true
+  is_set-same = same_test _ 1 (bit_at_set_same width word j below)
+
+  pub is_set-other : (k : ℕ) → k ≢ j → is_set (bit_or word (1 * 2 ^ j % 2 ^ bits width)) k ≡ is_set word k
+  is_set-other k other = same_test _ _ (bit_at_set_other width word j below k other)
+
+-- Bit j of word w is that of granule 64 * w + j.
+pub is_set_for-at : (words : List ℕ) (w j : ℕ) → j < 64 → is_set_for words (64 * w + j) ≡ is_set (get_or words w 0) j
+is_set_for-at words w j below =
+    let there : (64 * w + j) / 64 ≡ w = omega arith in
+    let place : (64 * w + j) % 64 ≡ j = omega arith in
+    rw (there, place) refl
+
+-- A word that is written changes its own bits alone.
+pub is_set_for-other : (words : List ℕ) (w x i : ℕ) → i / 64 ≢ w → is_set_for (set words w x) i ≡ is_set_for words i
+is_set_for-other words w x i other = ap (λ (word : ℕ). is_set word (i % 64)) (get_or-set_other words w (i / 64) x 0 other)
+
+-- Where the words before w have the bits of a test, and x has its bits for word w, one word more has them.
+pub is_set_for-more : (test : ℕ → Bool) (words : List ℕ) (w x i : ℕ) → w < length words
+    → ((j : ℕ) → j < 64 → is_set x j ≡ test (64 * w + j))
+    → ((i : ℕ) → i / 64 < w → is_set_for words i ≡ test i)
+    → i / 64 < w + 1 → is_set_for (set words w x) i ≡ test i
+is_set_for-more test words w x i inside here done lt =
+    elim (cases_lt (i / 64) w) [
+      | inl before ↦ is_set_for-other words w x i (λ e. absurd (omega arith)) ∙ done i before
+      | inr from ↦
+          let same : i / 64 ≡ w = omega arith in
+          let there : get_or (set words w x) (i / 64) 0 ≡ x = ap (λ k. get_or (set words w x) k 0) same ∙ get_or-set_same words w x 0 inside in
+          let place : 64 * w + i % 64 ≡ i = omega arith in
+          ap (λ (word : ℕ). is_set word (i % 64)) there ∙ (here (i % 64) (omega arith) ∙ ap test place)
+    ]
