@@ -7,6 +7,7 @@ void *__libc_realloc(void *old, size_t size);
 char *getenv(const char *name);
 long atol(const char *digits);
 long write(int file, const void *bytes, size_t count);
+void _Exit(int status);
 
 static long left = -1;
 
@@ -25,4 +26,10 @@ void *realloc(void *old, size_t size) { return is_refused() ? 0 : __libc_realloc
 __attribute__((destructor)) static void tell(void) {
     static const char none[] = "no allocation was refused\n";
     if (left > 0) write(2, none, sizeof none - 1);
+}
+
+/* So ends a program that may start threads, without its destructors. */
+void _exit(int status) {
+    tell();
+    _Exit(status);
 }
