@@ -12,10 +12,8 @@ use std::time::{CpuClock, Duration};
 
 const MARKS: u32 = 10_000_000;
 
-const WORD_BITS: u32 = 64;
-
 fn main(rt: HostRuntime) -> io::Result<()> {
-    let Ok((board, seat)) = Board::new(rt.alloc(), WORD_BITS, 1) else {
+    let Ok((board, seat)) = Board::new(rt.alloc(), u64::BITS, 1) else {
         return println!(rt; "want of memory");
     };
     let start = rt.thread_cpu_time()?;
@@ -34,7 +32,7 @@ fn report(rt: &HostRuntime, name: &str, sum: u64, time: Duration) -> io::Result<
 
 // The k-th mask: one bit after the other.
 fn mask(k: u32) -> u64 {
-    1 << (k % WORD_BITS)
+    1 << (k % u64::BITS)
 }
 
 // The sum of what the marks answer.

@@ -1,5 +1,5 @@
 -- Rows of words: read at an index, written in turn.
-use Rattle.std.proofs.Common.{◌≡◌, ℕ, zero, suc, ◌+◌, ◌<◌, List, [], ◌∷◌, length, get_or, set, sym, refl, ap, ◌∙◌, subst, arith, get_or-set_same, get_or-set_other}
+use Rattle.std.proofs.Common.{◌≡◌, ℕ, zero, suc, ◌+◌, ◌<◌, List, [], ◌∷◌, length, get_or, set, sym, ◌∙◌, subst, arith, get_or-set_same, get_or-set_other}
 use Rattle.std.proofs.Math.Decide.{ℕ_discrete}
 use mathlib.Core.Logic.{dite}
 use mathlib.Core.Option.{some, some-injective, some-ne-none}
@@ -15,9 +15,3 @@ pub copied-more : (a b : List ℕ) (i x : ℕ) → length a ≡ length b → i <
 copied-more a b i x width inside at before k lt = dite (ℕ_discrete k i)
     (λ here. subst (λ (z : ℕ). get_or (set a i x) z 0 ≡ get_or b z 0) (sym here) (get_or-set_same a i x 0 inside ∙ sym (read_there b i x at)))
     (λ other. get_or-set_other a i k x 0 other ∙ before k (omega arith))
-
--- A word that is written as it was.
-pub set-itself : (words : List ℕ) (i : ℕ) → set words i (get_or words i 0) ≡ words
-set-itself [] i = refl
-set-itself (x ∷ xs) zero = refl
-set-itself (x ∷ xs) (suc i) = ap (λ (l : List ℕ). x ∷ l) (set-itself xs i)

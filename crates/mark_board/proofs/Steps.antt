@@ -1,9 +1,11 @@
 -- Each step of a board keeps its rule.
 use Rattle.std.proofs.Common.{◌≡◌, ◌≢◌, ℕ, ◌+◌, ◌-◌, ◌*◌, ◌^◌, ◌<◌, ◌≤◌, List, [], ◌∷◌, ◌++◌, length, replicate, get_or, set, sym, refl, ap, ◌∙◌, subst, ⊎_elim, arith}
-use Rattle.std.proofs.lemmas.List.{length-replicate}
+use Rattle.std.proofs.lemmas.List.{length-replicate, set-get_or}
+use Rattle.std.proofs.lemmas.List.Sums.{sum_by_push}
 use Rattle.std.proofs.Math.Decide.{ℕ_discrete}
 use Rattle.std.proofs.lemmas.Nat.Bits.{bit_at-lt, bit_at-zero, bit_at_or}
 use Rattle.std.specs.Int.{bit_at}
+use Rattle.std.specs.List.{sum_by}
 use Rattle.std.specs.Prelude.{bit_or}
 use Rattle.atomic_table.proofs.Lists.{at_set, at_snoc, set_else}
 use Rattle.atomic_table.specs.Seated.{TableId}
@@ -16,9 +18,8 @@ use Rattle.mark_board.specs.declared.rule.View.{View}
 use Rattle.mark_board.specs.Bits.{Apart, IsInside, Within, bit, gains, without}
 use Rattle.mark_board.specs.Board.{IsSound, words_for}
 use Rattle.mark_board.specs.Laws.{bit-gains_other, bit-gains_same, bit-none, bit-united, bit-without, gains-keep, length-gains, same_bits}
-use Rattle.mark_board.specs.Rule.{IsHonest, IsLawful, IsLawfulState, Marks, Settles, both_parts, cut_part, first_view, kept_part, marked, seat_of, settled, spent, total, view}
-use Rattle.mark_board.proofs.Rows.{set-itself}
-use Rattle.mark_board.proofs.Totals.{all_here, total-at, total-set, total-snoc}
+use Rattle.mark_board.specs.Rule.{IsHonest, IsLawful, IsLawfulState, Marks, Settles, both_parts, cut_part, first_view, kept_part, marked, seat_of, settled, spent, view}
+use Rattle.mark_board.proofs.Totals.{all_here, total-at, total-set}
 use Rattle.mark_board.proofs.Views.{inside-gains, none-within, own-marked, own-united}
 
 -- Each view, by its number.
@@ -125,7 +126,7 @@ module _ (ws : List ℕ) (i k : ℕ) (inside : i < length ws) (v : View) (mine_w
         width = length-gains ws i k ∙ r.width;
         inside = inside-gains shape.bits ws i k inside mask r.inside;
         parts = (let s = total-set (λ u. u.parts) views id v w at in let p = r.parts in omega arith);
-        first = λ a j. one_place a j (total (λ u. bit u.mine a j) views) (total (λ u. bit u.mine a j) (set views id w)) h.own h.set (total-set (λ u. bit u.mine a j) views id v w at) (r.first a j);
+        first = λ a j. one_place a j (sum_by (λ u. bit u.mine a j) views) (sum_by (λ u. bit u.mine a j) (set views id w)) h.own h.set (total-set (λ u. bit u.mine a j) views id v w at) (r.first a j);
         honest = each-set (IsHonest shape ws') views id w
             (record {
               own = own-marked v.mine v.seen i k x (omega arith) (omega arith) fits word h.own;
@@ -167,10 +168,10 @@ cuts shape id v more s r at =
     record {
       width = r.width;
       inside = r.inside;
-      parts = (let a = total-set (λ u. u.parts) s.views id v l at in let b = total-snoc (λ u. u.parts) (set s.views id l) w in let p = r.parts in omega arith);
+      parts = (let a = total-set (λ u. u.parts) s.views id v l at in let b = sum_by_push (λ u. u.parts) (set s.views id l) w in let p = r.parts in omega arith);
       first = λ i j.
           let a = total-set (λ u. bit u.mine i j) s.views id v l at in
-          let b = total-snoc (λ u. bit u.mine i j) (set s.views id l) w in
+          let b = sum_by_push (λ u. bit u.mine i j) (set s.views id l) w in
           let p = r.first i j in
           let z = bit-none n i j in
           omega arith;
@@ -244,7 +245,7 @@ settles shape slots id me some_part s r _ at _ =
       w,
       keeps,
       tt,
-      subst (λ (ws : List ℕ). IsLawful shape ws (set s.views id w)) (sym (set-itself s.words 0)) (record {
+      subst (λ (ws : List ℕ). IsLawful shape ws (set s.views id w)) (sym (set-get_or s.words 0 0)) (record {
         width = r.width;
         inside = r.inside;
         parts = (let a = total-set (λ u. u.parts) s.views id v w at in let p = r.parts in omega arith);

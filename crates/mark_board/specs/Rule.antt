@@ -1,6 +1,6 @@
 -- The rule of a board's table: a set of bits and a view for each seat, which every step keeps lawful.
 -- The words of the table are the set; what the table keeps for each seat is its view.
-use Rattle.std.specs.Prelude.{◌≡◌, ℕ, ◌+◌, ◌-◌, ◌*◌, ◌<◌, ◌≤◌, List, [], ◌∷◌, bit_or, length, replicate}
+use Rattle.std.specs.Prelude.{◌≡◌, ℕ, ◌+◌, ◌-◌, ◌*◌, ◌<◌, ◌≤◌, List, [], bit_or, length, replicate, sum_by}
 use Rattle.std.specs.Int.{bit_at}
 use Rattle.atomic_table.specs.Seated.{TableId}
 use Rattle.atomic_table.specs.Table.{Me, State, Step}
@@ -31,11 +31,6 @@ seat_of table v = record { board = record { identity = table; bits = v.shape.bit
 abbrev pub IsKept : ℕ → TableId → Me (Unit {0}) View → Type 0
 IsKept parts table me = (parts ≡ me.0.parts) × (me.1 ≡ []) × IsSound (seat_of table me.0)
 
--- f of each view, added up.
-abbrev pub total : (View → ℕ) → List View → ℕ
-total f [] = 0
-total f (v ∷ vs) = f v + total f vs
-
 -- What a seat set first it has seen, what it has seen is set, without a part it has set nothing first,
 -- with one it knows the board's shape, and the two that it was joined from had no bit in common.
 pub record IsHonest (shape : Shape) (words : List ℕ) (v : View) : Type 0 where
@@ -50,8 +45,8 @@ pub record IsHonest (shape : Shape) (words : List ℕ) (v : View) : Type 0 where
 pub record IsLawful (shape : Shape) (words : List ℕ) (views : List View) : Type 0 where
   pub width : length words ≡ words_for shape.bits
   pub inside : IsInside shape.bits words
-  pub parts : total (λ v. v.parts) views ≡ shape.parts
-  pub first : (w j : ℕ) → total (λ v. bit v.mine w j) views ≡ bit words w j
+  pub parts : sum_by (λ v. v.parts) views ≡ shape.parts
+  pub first : (w j : ℕ) → sum_by (λ v. bit v.mine w j) views ≡ bit words w j
   pub honest : (id : ℕ) (v : View) → get_elem? views id ≡ some v → IsHonest shape words v
 
 abbrev pub IsLawfulState : Shape → State (Unit {0}) View → Type 0

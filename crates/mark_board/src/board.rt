@@ -14,9 +14,6 @@ use atomic_table::{Closed, Table};
 use std::alloc::Global;
 use std::marker::Model;
 
-// Bits a word.
-const WORD_BITS: u32 = 64;
-
 // The most bits of a board.
 const MOST_BITS: u32 = 262_144;
 
@@ -82,7 +79,8 @@ impl Board {
         self.bits
     }
 
-    /// Sets the bits of the mask in one atomic step, and answers those that it set first.
+    /// Sets the bits of the mask in one word, in one atomic step, and answers those that it set first. Bit
+    /// `j` of the mask is bit `64 * word + j` of the board.
     pub fn mark(&self, seat: &mut MarkSeat, word: usize, mask: u64) -> u64
         requires board { IsOf self.now seat.old }
         requires word { word < word_count self.now }
@@ -104,7 +102,7 @@ impl Board {
         mask & !found
     }
 
-    /// The word as it is, in one atomic step. It has all that the seat had seen there.
+    /// One word as it is, in one atomic step. It has all that the seat had seen there.
     pub fn read(&self, seat: &mut MarkSeat, word: usize) -> u64
         requires board { IsOf self.now seat.old }
         requires word { word < word_count self.now }
@@ -190,7 +188,7 @@ impl Board {
 fn words_for(bits: u32) -> usize
     ensures { result ≡ spec.words_for bits }
 {
-    bits.div_ceil(WORD_BITS) as usize
+    bits.div_ceil(u64::BITS) as usize
 }
 
 // The words of a closed table, in a row of as many.
