@@ -4,7 +4,7 @@ use Rattle.std.proofs.KnownBytes.{Appends-nil}
 use Rattle.std.specs.Io.KnownBytes.{Appends}
 use Rattle.cap_codec.specs.declared.word.Word.{Word}
 use Rattle.clap.specs.Words.{Row, Text, first_of}
-use Rattle.heap_trace.specs.declared.fault.TraceFault.{TraceFault}
+use Rattle.trace_text.specs.declared.fault.TraceFault.{TraceFault}
 use Rattle.heap_trace.specs.declared.running.Outcome.{Outcome}
 use Rattle.heap_trace.specs.Image.{image_of}
 use Rattle.heap_trace.specs.Outcome.{IsOutcome}

@@ -9,8 +9,8 @@ use Rattle.cap_codec.specs.Bounds.{bounds_of}
 use Rattle.cap_codec.specs.Fields.{fields_of}
 use Rattle.cap_codec.specs.Mantissas.{exponent_of}
 use Rattle.heap_trace.specs.Display.{bit_text, hexadecimal_text, place_text}
-use Rattle.heap_trace.specs.declared.fault.TraceFault.{TraceFault}
-use Rattle.heap_trace.specs.declared.fault.TraceFault.TheVariants.{BadCommand, BadCount, BadData, BadHeap, BadNumber, BadRegister, Memory, NoHeap, TooLong}
+use Rattle.trace_text.specs.declared.fault.TraceFault.{TraceFault}
+use Rattle.trace_text.specs.declared.fault.TraceFault.TheVariants.{BadCommand, BadCount, BadData, BadHeap, BadNumber, BadRegister, Memory, NoHeap, TooLong}
 
 -- What a word with these fields allows, and its type.
 abbrev pub rights_text : Fields → List ℕ

@@ -10,8 +10,8 @@ use Rattle.heap_core.specs.Heap.{HeapState, IsInside, IsSound as IsSoundHeap}
 use Rattle.heap_core.specs.Quarantine.{freed_of, with_held}
 use Rattle.heap_core.specs.declared.block.Freed.TheVariants as TheFreed
 use Rattle.tag_memory.specs.Cells.{cell_of}
+use Rattle.trace_text.specs.declared.trace.Command.TheVariants.{Free}
 use Rattle.heap_trace.specs.Safety.{HoldsGuarded, IsGuarded, IsLiveOrHeld}
-use Rattle.heap_trace.specs.declared.trace.Command.TheVariants.{Free}
 use Rattle.heap_trace.specs.declared.reply.Reply.TheVariants.{Held}
 use Rattle.heap_trace.specs.Sound.{IsSound}
 use Rattle.heap_trace.specs.State.{State, register}

@@ -1,11 +1,11 @@
 -- Runs that go on by one step, their lines, and the outcome that they come to.
 use Rattle.std.proofs.Common.{◌≡◌, ℕ, suc, map, arith, List, [], ◌∷◌, ◌++◌, length, refl, sym, ap, subst, ◌∙◌, append_assoc}
 use Rattle.std.proofs.lemmas.List.{append-nil, map_push, length-map}
-use Rattle.heap_trace.specs.declared.trace.Command.{Command}
+use Rattle.trace_text.specs.declared.trace.Command.{Command}
+use Rattle.trace_text.specs.Reading.{Script}
 use Rattle.heap_trace.specs.declared.reply.Reply.{Reply}
 use Rattle.heap_trace.specs.declared.running.Outcome.{Outcome}
 use Rattle.heap_trace.specs.Outcome.{IsOutcome}
-use Rattle.heap_trace.specs.Reading.{Script}
 use Rattle.heap_trace.specs.Report.{end_text, line_text, lines_text}
 use Rattle.heap_trace.specs.Run.{IsSafeRun, Run, Told}
 use Rattle.heap_trace.specs.Safety.{IsReuseSafe, IsSafe}

@@ -1,10 +1,10 @@
 -- From each state commands have one run, and a trace has one outcome.
 use Rattle.std.proofs.Common.{◌≡◌, ◌∙◌, ℕ, List, [], ◌∷◌, Ok, refl, sym, subst}
+use Rattle.trace_text.specs.declared.trace.Command.{Command}
+use Rattle.trace_text.specs.Reading.{Script}
 use Rattle.heap_trace.specs.declared.running.Outcome.{Outcome}
-use Rattle.heap_trace.specs.declared.trace.Command.{Command}
 use Rattle.heap_trace.specs.declared.reply.Reply.{Reply}
 use Rattle.heap_trace.specs.Outcome.{Answers, IsOutcome}
-use Rattle.heap_trace.specs.Reading.{Script}
 use Rattle.heap_trace.specs.Report.{report_text}
 use Rattle.heap_trace.specs.Run.{Run}
 use Rattle.heap_trace.specs.State.{State, memory_of}

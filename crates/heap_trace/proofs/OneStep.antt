@@ -3,8 +3,8 @@ use Rattle.std.proofs.Common.{◌≡◌, ◌+◌, ◌∙◌, ℕ, Option, Some, 
 use Rattle.heap_core.specs.Blocks.{blocks_with}
 use Rattle.heap_core.specs.Place.{block_length}
 use Rattle.tag_memory.specs.Cells.{null_cell}
-use Rattle.heap_trace.specs.declared.trace.Command.{Command}
-use Rattle.heap_trace.specs.declared.trace.Command.TheVariants.{Malloc, Free, Copy, SetAddr, Narrow, AndPerm, StoreCap, LoadCap, Write, Show, Sweep}
+use Rattle.trace_text.specs.declared.trace.Command.{Command}
+use Rattle.trace_text.specs.declared.trace.Command.TheVariants.{Malloc, Free, Copy, SetAddr, Narrow, AndPerm, StoreCap, LoadCap, Write, Show, Sweep}
 use Rattle.heap_trace.specs.declared.reply.Reply.{Reply}
 use Rattle.heap_trace.specs.declared.reply.Reply.TheVariants.{Block, NoSpace}
 use Rattle.heap_trace.specs.declared.reply.Reply.TheVariants as reply

@@ -7,8 +7,8 @@ use Rattle.heap_core.specs.Blocks.{Span, bytes_of}
 use Rattle.heap_core.specs.Heap.{HeapState}
 use Rattle.sweep_pool.specs.Sweep.{tags_taken}
 use Rattle.tag_memory.specs.Cells.{Cell, cell_of}
-use Rattle.heap_trace.specs.declared.trace.Command.{Command}
-use Rattle.heap_trace.specs.declared.trace.Command.TheVariants.{Malloc, Free, Copy, SetAddr, Narrow, AndPerm, StoreCap, LoadCap, Write, Show, Sweep}
+use Rattle.trace_text.specs.declared.trace.Command.{Command}
+use Rattle.trace_text.specs.declared.trace.Command.TheVariants.{Malloc, Free, Copy, SetAddr, Narrow, AndPerm, StoreCap, LoadCap, Write, Show, Sweep}
 use Rattle.heap_trace.specs.declared.reply.Reply.{Reply}
 use Rattle.heap_trace.specs.declared.reply.Reply.TheVariants.{Done, Cleared, Swept}
 use Rattle.heap_trace.specs.declared.reply.Reply.TheVariants as reply

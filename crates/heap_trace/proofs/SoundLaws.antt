@@ -2,12 +2,11 @@
 use Rattle.std.proofs.Common.{◌≡◌, ◌∙◌, ℕ, ◌<◌, ◌≤◌, ◌+◌, ◌*◌, ◌%◌, ◌^◌, Bool, true, false, cond, eqb, List, length, get_or, set, refl, sym, ap, subst, arith}
 use Rattle.std.specs.Prelude.{◌==◌, All, Some, nat_le, replicate, slice_get}
 use Rattle.std.proofs.lemmas.Bool.Decides.{nat_tests}
-use Rattle.std.proofs.lemmas.Bool.{eq-eqb, true≢false}
+use Rattle.std.proofs.lemmas.Bool.{and_parts, eq-eqb, true≢false}
 use Rattle.std.proofs.lemmas.List.{get_or-set_other, length-replicate, length-set}
 use Rattle.std.proofs.lemmas.List.Elements.{All-get_or, All-replicate, All-set}
 use Rattle.std.proofs.lemmas.Option.{get_or_from_slice_get, slice_get_within}
 use Rattle.heap_core.specs.Heap.{HeapState, IsSound as IsSoundHeap, empty_heap}
-use Rattle.heap_trace.proofs.Digits.{and_true}
 use Rattle.tag_memory.specs.Cells.{Cell, Granule, new_registers, null_cell}
 use Rattle.heap_trace.specs.Safety.{HoldsGuarded, IsGuarded}
 use Rattle.heap_trace.specs.Sound.{IsSound}
@@ -27,7 +26,7 @@ pub record FitsAddresses (heap : HeapState) : Type 0 where
 
 pub FitsAddresses-heap : (heap : HeapState) → IsSoundHeap heap → FitsAddresses heap
 FitsAddresses-heap heap sound =
-    let both = and_true (heap.base % 4096 == 0) (nat_le (heap.base + 4096 * sound.pages) (2 ^ 64)) sound.place in
+    let both = and_parts (heap.base % 4096 == 0) (nat_le (heap.base + 4096 * sound.pages) (2 ^ 64)) sound.place in
     let whole : heap.base % 4096 ≡ 0 = grind (arith, nat_tests, both.0) in
     let end : heap.base + 4096 * sound.pages ≤ 2 ^ 64 = grind (arith, nat_tests, both.1) in
     record { aligned = omega (arith, whole); end = omega (arith, end, sound.bytes) }

@@ -2,14 +2,13 @@
 use Rattle.std.proofs.Common.{◌≡◌, ◌∙◌, ◌<◌, ◌≤◌, ◌+◌, ◌-◌, ◌*◌, ◌/◌, ◌&&◌, ℕ, Bool, true, false, cond, not, inl, inr, List, [], ◌∷◌, length, get_or, drop, refl, sym, ap, subst, arith}
 use Rattle.std.specs.Prelude.{◌⊎◌, count_by}
 use Rattle.std.specs.List.{Contains, enumerate_from}
-use Rattle.std.proofs.lemmas.Bool.{cases_lt, le-leb, lt-leb, not-true, true≢false}
+use Rattle.std.proofs.lemmas.Bool.{and_parts, cases_lt, le-leb, lt-leb, not-true, true≢false}
 use Rattle.std.proofs.lemmas.Bool.Decides.{nat_tests}
 use Rattle.std.proofs.lemmas.List.{drop-map, ext_get_or, get_or-map, get_or_past, length-map}
 use Rattle.std.proofs.lemmas.List.Elements.{All-map, All-weaker}
 use Rattle.std.proofs.lemmas.List.Folds.{list_any-from_Any, list_any_none}
 use Rattle.std.proofs.lemmas.List.FromFn.{get_or-enumerate_from, length-enumerate_from}
 use Rattle.std.proofs.lemmas.List.Sums.{sum_by-cons}
-use Rattle.heap_trace.proofs.Digits.{and_true}
 use Rattle.cap_codec.specs.declared.word.Word.{Word}
 use Rattle.heap_core.specs.Blocks.{Span, end_of, has_address, lies_in, start_of}
 use Rattle.heap_core.specs.Heap.{HeapState, IsInside, IsSound as IsSoundHeap}
@@ -160,7 +159,7 @@ revoked_in held w block there lie =
 pub IsGuarded-swept : (heap : HeapState) (c : Cell) → IsGuarded heap c → IsGuarded (without_held heap) (swept_cell heap.held c)
 IsGuarded-swept heap c guarded = record {
   within = λ e.
-      let both = and_true c.1 (not (is_revoked heap.held c.0)) e in
+      let both = and_parts c.1 (not (is_revoked heap.held c.0)) e in
       let x = guarded.within both.0 in
       elim x.1 [
         | inl live ↦ (x.0, inl live, x.2)

@@ -1,11 +1,12 @@
-pub mod Command
+-- the grammar's, for the crates above
+pub use Rattle.trace_text.specs.Command
+pub use Rattle.trace_text.specs.Grammar
+pub use Rattle.trace_text.specs.Heap
+pub use Rattle.trace_text.specs.Lines
+pub use Rattle.trace_text.specs.Reading
 pub mod Display
-pub mod Grammar
-pub mod Heap
 pub mod Image
-pub mod Lines
 pub mod Outcome
-pub mod Reading
 pub mod Report
 pub mod Run
 pub mod Safety

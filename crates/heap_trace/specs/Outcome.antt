@@ -5,7 +5,7 @@ use Rattle.heap_trace.specs.declared.running.Outcome.{Outcome as TheOutcome}
 use Rattle.heap_trace.specs.declared.running.RunFault.{RunFault}
 use Rattle.heap_trace.specs.declared.running.RunFault.TheVariants.{Memory, Trace}
 use Rattle.std.specs.Prelude.{ℕ}
-use Rattle.heap_trace.specs.Reading.{Script, trace_of}
+use Rattle.trace_text.specs.Reading.{Script, trace_of}
 use Rattle.heap_trace.specs.Report.{report_text}
 use Rattle.heap_trace.specs.Run.{IsSafeRun, Run}
 use Rattle.heap_trace.specs.State.{State, first_state, memory_of}

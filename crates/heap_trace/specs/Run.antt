@@ -1,6 +1,6 @@
 -- Runs of commands.
 use Rattle.std.specs.Prelude.{◌≡◌, ℕ, List, [], ◌∷◌, map}
-use Rattle.heap_trace.specs.declared.trace.Command.{Command}
+use Rattle.trace_text.specs.declared.trace.Command.{Command}
 use Rattle.heap_trace.specs.declared.reply.Reply.{Reply}
 use Rattle.heap_trace.specs.Report.{lines_text}
 use Rattle.heap_trace.specs.Safety.{IsReuseSafe, IsSafe}

@@ -16,8 +16,8 @@ use Rattle.heap_core.specs.Place.{IsFree, IsPlace, block_length}
 use Rattle.heap_core.specs.Quarantine.{with_held, without_held}
 use Rattle.sweep_pool.specs.Sweep.{swept_granules, swept_registers, tags_taken}
 use Rattle.tag_memory.specs.Cells.{Cell, Granule, null_cell}
-use Rattle.heap_trace.specs.declared.trace.Command.{Command}
-use Rattle.heap_trace.specs.declared.trace.Command.TheVariants.{Malloc, Free, Copy, SetAddr, Narrow, AndPerm, StoreCap, LoadCap, Write, Show, Sweep}
+use Rattle.trace_text.specs.declared.trace.Command.{Command}
+use Rattle.trace_text.specs.declared.trace.Command.TheVariants.{Malloc, Free, Copy, SetAddr, Narrow, AndPerm, StoreCap, LoadCap, Write, Show, Sweep}
 use Rattle.heap_trace.specs.declared.reply.Reply.{Reply}
 use Rattle.heap_trace.specs.declared.reply.Reply.TheVariants.{Block, NoSpace, Held, Done, Cleared, Swept}
 use Rattle.heap_trace.specs.declared.reply.Reply.TheVariants as reply

@@ -3,7 +3,7 @@
 ghost use Rattle.std.specs.Prelude.{◌≡◌, ◌↔◌, ◌<◌, ◌+◌, IfErr, IfOk, IsOk, None, OnErr, OnOk, Some, false, length, true};
 ghost use Rattle.heap_core.specs.Blocks.{bytes_of};
 ghost use Rattle.tag_memory.specs.Span as span;
-ghost use Rattle.heap_trace.specs.Command.{IsValid};
+ghost use Rattle.trace_text.specs.Command.{IsValid};
 ghost use Rattle.heap_trace.specs.Safety.{IsRevoked, IsSafe, IsUnused};
 ghost use Rattle.heap_trace.specs.State.{first_state, memory_of, register};
 ghost use Rattle.heap_trace.specs.Step.{Step, TakesNoMemory, access, first_failed, index_in};
@@ -16,7 +16,6 @@ use crate::capability::{
 };
 use crate::reply::{MachineFault, Reply, Trap};
 use crate::running::Outcome;
-use crate::trace::Command;
 use cap_codec::{Word, from_bytes};
 use heap_core::{Heap, HeapFault};
 use std::alloc::Global;
@@ -24,6 +23,7 @@ use std::marker::Model;
 use std::thread::Threads;
 use sweep_pool::{Cutting, Gate};
 use tag_memory::{GRANULE, Memory, MemoryFault, Registers};
+use trace_text::Command;
 
 /// One heap with its memory, and 32 registers.
 #[derive(Drop)]

@@ -7,9 +7,9 @@ ghost use Rattle.heap_trace.specs.State.{tags_of};
 use crate::display::{Hexadecimal, Place, bit};
 use crate::machine::Machine;
 use crate::reply::{Reply, Shown, Trap};
-use crate::trace::Command;
 use std::alloc::{AllocError, Global};
 use std::fmt;
+use trace_text::Command;
 
 fn name(command: Command) -> &'static str
     ensures { result.now ≡ name_of command }

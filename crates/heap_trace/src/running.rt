@@ -2,24 +2,22 @@
 
 ghost use Rattle.std.specs.Prelude.{◌≡◌, IfSome};
 ghost use Rattle.std.specs.List.{All};
-ghost use Rattle.heap_trace.specs.Command.{IsListed};
-ghost use Rattle.heap_trace.specs.Heap.{IsHeap};
+ghost use Rattle.trace_text.specs.Command.{IsListed};
+ghost use Rattle.trace_text.specs.Heap.{IsHeap};
+ghost use Rattle.trace_text.specs.Reading.{script_of};
 ghost use Rattle.heap_trace.specs.Outcome.{Answers, IsOutcome};
-ghost use Rattle.heap_trace.specs.Reading.{script_of};
 ghost use Rattle.heap_trace.specs.Report.{end_text};
 ghost use Rattle.heap_trace.specs.Run.{Told};
 ghost use Rattle.heap_trace.specs.Safety.{IsSafe};
 
-use crate::fault::TraceFault;
 use crate::machine::Machine;
 use crate::report::{push_end, push_line};
-use crate::text::parse;
-use crate::trace::{Command, Trace};
 use std::alloc::{AllocError, Global};
 use std::thread::Threads;
 use sweep_pool::{Cutting, Open};
 use tag_memory::{Memory, Registers};
 use thiserror::Error;
+use trace_text::{Command, Trace, TraceFault, parse};
 
 /// What a run leaves.
 #[derive(Drop)]

@@ -1,7 +1,7 @@
 //! Freeing and sweeping: blocks in quarantine, and the tags of the words that point there.
 
 ghost use Rattle.std.specs.Prelude.{◌≡◌, ◌<◌, ◌&&◌, ℕ, IfErr, IfOk, IsOk, OnErr, length, not, slice_index_or};
-ghost use Rattle.heap_trace.specs.Command.{IsValid};
+ghost use Rattle.trace_text.specs.Command.{IsValid};
 ghost use Rattle.heap_trace.specs.Step.{Step};
 ghost use Rattle.tag_memory.specs.Cells.{null_cell};
 ghost use Rattle.tag_memory.specs.Tags.{is_set};
@@ -9,12 +9,12 @@ ghost use Rattle.tag_memory.specs.Tags.{is_set};
 use crate::capability::bounds_of_word;
 use crate::machine::Machine;
 use crate::reply::{MachineFault, Reply, Trap};
-use crate::trace::Command;
 use cap_codec::Bounds;
 use heap_core::Freed;
 use std::alloc::Global;
 use sweep_pool::{sweep_memory, swept_registers};
 use tag_memory::{REGISTERS, Registers, bit};
+use trace_text::Command;
 
 // Takes the tags of the registers whose bits are 1 in the mask. Register 0 stays as it is.
 fn clear_registers(registers: &mut Registers, mask: u32)

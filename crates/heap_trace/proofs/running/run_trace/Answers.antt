@@ -1,5 +1,5 @@
 use Rattle.std.proofs.Common.{rules}
-use Rattle.heap_trace.specs.Reading.{script_of}
+use Rattle.trace_text.specs.Reading.{script_of}
 use Rattle.heap_trace.proofs.LongerRuns.{IsOutcome-told}
 use Rattle.heap_trace.proofs.running.run_trace.Goals as goal
 

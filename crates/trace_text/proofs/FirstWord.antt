@@ -1,0 +1,100 @@
+-- The first word of a line stands from its first byte that is no blank up to the next blank.
+use Rattle.std.proofs.Common.{◌≡◌, ℕ, zero, suc, ◌<◌, ◌≤◌, Bool, true, false, not, cond, List, [], ◌∷◌, Option, Some, None, length, take, drop, get_or, filter, unwrap_or, refl, sym, ap, subst, ◌∙◌, length-drop, add-zero, arith}
+use Rattle.std.specs.List.{slice_split, onto_first, position, position_or_len}
+use Rattle.std.specs.Prelude.{nat_lt}
+use Rattle.std.proofs.Math.ListN.{drop_of_length-le}
+use Rattle.std.proofs.lemmas.Bool.{not-true}
+use Rattle.std.proofs.lemmas.Bool.Decides.{nat_tests}
+use Rattle.std.proofs.lemmas.List.{get_or-drop}
+use Rattle.std.proofs.lemmas.List.Quantifiers.{position-Some}
+use Rattle.std.proofs.lemmas.List.Sums.{fails_before_first}
+use Rattle.trace_text.specs.Lines.{is_blank, is_nonempty, words_of}
+
+-- ---- where a test passes first
+
+none_passes : (a n : ℕ) → cond (nat_lt a n) (Some a) None ≡ None → n ≤ a
+none_passes a n e = grind (arith, nat_tests, e)
+
+pub position-None : (p : ℕ → Bool) (xs : List ℕ) (k : ℕ) → position p xs ≡ None → k < length xs → p (get_or xs k 0) ≡ false
+position-None p xs k e lt =
+    let le : length xs ≤ position_or_len p xs = none_passes (position_or_len p xs) (length xs) e in
+    fails_before_first p xs k 0 (omega arith)
+
+-- an index up to which the test fails, and at which it passes unless the list ends there
+pub record Ends (p : ℕ → Bool) (xs : List ℕ) (i : ℕ) : Type 0 where
+  pub within : i ≤ length xs
+  pub before : (k : ℕ) → k < i → p (get_or xs k 0) ≡ false
+  pub here : i < length xs → p (get_or xs i 0) ≡ true
+
+pub ends : (p : ℕ → Bool) (xs : List ℕ) (found : Option ℕ) → found ≡ position p xs → Ends p xs (unwrap_or found (length xs))
+ends p xs (Some i) e =
+    let first = position-Some p xs i 0 (sym e) in
+    record { within = omega arith; before = first.2; here = λ _. first.1 }
+ends p xs None e = record { within = omega arith; before = λ k lt. position-None p xs k (sym e) lt; here = λ lt. absurd (omega arith) }
+
+-- ---- blanks before the word
+
+pub words_of-blanks : (bs : List ℕ) (i : ℕ) → i ≤ length bs → ((k : ℕ) → k < i → is_blank (get_or bs k 0) ≡ true) → words_of bs ≡ words_of (drop i bs)
+words_of-blanks bs zero le blank = refl
+words_of-blanks [] (suc i) le blank = absurd (omega arith)
+words_of-blanks (b ∷ bs) (suc i) le blank =
+    let first : is_blank b ≡ true = blank 0 (omega arith) in
+    ap (λ t. filter is_nonempty (cond t ([] ∷ slice_split is_blank bs) (onto_first b (slice_split is_blank bs)))) first
+    ∙ words_of-blanks bs i (omega arith) (λ k h. blank (suc k) (omega arith))
+
+-- ---- the word
+
+-- the pieces after one that a blank, or the end of the line, ends
+abbrev pieces_after : List ℕ → List (List ℕ)
+pieces_after [] = []
+pieces_after (b ∷ bs) = slice_split is_blank bs
+
+first_piece : (bs : List ℕ) (i : ℕ) → Ends is_blank bs i → slice_split is_blank bs ≡ take i bs ∷ pieces_after (drop i bs)
+first_piece [] zero h = refl
+first_piece [] (suc i) h = absurd (omega (arith, h.within))
+first_piece (b ∷ bs) zero h =
+    ap (λ t. cond t ([] ∷ slice_split is_blank bs) (onto_first b (slice_split is_blank bs))) (h.here (omega arith))
+first_piece (b ∷ bs) (suc i) h =
+    let rest : Ends is_blank bs i = record { within = omega (arith, h.within); before = λ k lt. h.before (suc k) (omega arith); here = λ lt. h.here (omega arith) } in
+    ap (λ t. cond t ([] ∷ slice_split is_blank bs) (onto_first b (slice_split is_blank bs))) (h.before 0 (omega arith))
+    ∙ ap (onto_first b) (first_piece bs i rest)
+
+words_after : (bs : List ℕ) (i : ℕ) → Ends is_blank bs i → words_of (drop i bs) ≡ filter is_nonempty (pieces_after (drop i bs))
+words_after [] zero h = refl
+words_after [] (suc i) h = refl
+words_after (b ∷ bs) zero h =
+    ap (λ t. filter is_nonempty (cond t ([] ∷ slice_split is_blank bs) (onto_first b (slice_split is_blank bs)))) (h.here (omega arith))
+words_after (b ∷ bs) (suc i) h =
+    words_after bs i (record { within = omega (arith, h.within); before = λ k lt. h.before (suc k) (omega arith); here = λ lt. h.here (omega arith) })
+
+pub words_of-word : (bs : List ℕ) (i : ℕ) → 0 < i → 0 < length bs → Ends is_blank bs i → words_of bs ≡ take i bs ∷ words_of (drop i bs)
+words_of-word bs zero some any h = absurd (omega arith)
+words_of-word [] (suc i) some any h = absurd (omega arith)
+words_of-word (b ∷ bs) (suc i) some any h =
+    ap (filter is_nonempty) (first_piece (b ∷ bs) (suc i) h) ∙ ap (λ rest. take (suc i) (b ∷ bs) ∷ rest) (sym (words_after (b ∷ bs) (suc i) h))
+
+-- ---- the line
+
+not_false : (t : Bool) → not t ≡ false → t ≡ true
+not_false true e = refl
+not_false false e = absurd cc
+
+some_before_blank : (bs : List ℕ) (i : ℕ) → is_blank (get_or bs 0 0) ≡ false → 0 < length bs → Ends is_blank bs i → 0 < i
+some_before_blank bs zero e some h = let t = h.here some in absurd cc
+some_before_blank bs (suc i) e some h = omega arith
+
+pub words_of-first : (line rest : List ℕ) (start end : ℕ) (found : Option ℕ) → position (λ b. not (is_blank b)) line ≡ Some start → rest ≡ drop start line
+    → found ≡ position is_blank rest → end ≡ unwrap_or found (length rest) → words_of line ≡ take end rest ∷ words_of (drop end rest)
+words_of-first line rest start end found first is_rest at is_end =
+    let begins = position-Some (λ b. not (is_blank b)) line start 0 first in
+    let blanks : words_of line ≡ words_of (drop start line) = words_of-blanks line start (omega arith) (λ k lt. not_false (is_blank (get_or line k 0)) (begins.2 k lt)) in
+    let same : get_or rest 0 0 ≡ get_or line start 0 = ap (λ bs. get_or bs 0 0) is_rest ∙ rw add-zero at (get_or-drop start line 0 0) in
+    let word : is_blank (get_or rest 0 0) ≡ false = ap is_blank same ∙ not-true (is_blank (get_or line start 0)) begins.1 in
+    let some : 0 < length rest = omega (arith, ap length is_rest, length-drop start line) in
+    let stops : Ends is_blank rest end = subst (Ends is_blank rest) (sym is_end) (ends is_blank rest found at) in
+    blanks ∙ ap words_of (sym is_rest) ∙ words_of-word rest end (some_before_blank rest end word some stops) some stops
+
+pub words_of-none : (line : List ℕ) → position (λ b. not (is_blank b)) line ≡ None → words_of line ≡ []
+words_of-none line none =
+    words_of-blanks line (length line) (omega arith) (λ k lt. not_false (is_blank (get_or line k 0)) (position-None (λ b. not (is_blank b)) line k none lt))
+    ∙ ap words_of (drop_of_length-le line (omega arith))

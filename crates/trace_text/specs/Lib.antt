@@ -1,0 +1,5 @@
+pub mod Command
+pub mod Grammar
+pub mod Heap
+pub mod Lines
+pub mod Reading

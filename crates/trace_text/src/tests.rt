@@ -1,0 +1,3 @@
+//! Texts with the traces and the faults that the trace language gives them.
+
+mod texts;
