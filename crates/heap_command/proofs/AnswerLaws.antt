@@ -1,9 +1,13 @@
 -- What the words ask for, and what that answers.
-use Rattle.std.proofs.Common.{◌≡◌, ◌≢◌, ◌∙◌, ℕ, ap, ap₂, sym, subst, List, ◌++◌, Option, Some, Result, Ok, Err, IfOk, IfErr, codes, refl, arith}
+use Rattle.std.proofs.Common.{◌≡◌, ◌≢◌, ◌∙◌, ℕ, ap, ap₂, sym, subst, List, ◌++◌, Option, Result, Ok, Err, IfOk, IfErr, refl, arith}
 use Rattle.std.proofs.KnownBytes.{Appends-nil}
 use Rattle.std.specs.Io.KnownBytes.{Appends}
 use Rattle.cap_codec.specs.declared.word.Word.{Word}
-use Rattle.clap.specs.Words.{Row, Text, first_of}
+use Rattle.command_line.specs.declared.words.Options.{Options}
+use Rattle.command_line.specs.declared.words.Refusal.{Refusal}
+use Rattle.command_line.specs.declared.words.Refusal.TheVariants.{Memory, Words}
+use Rattle.command_line.specs.Laws.{NamesWord-run, NamesWord-unique}
+use Rattle.command_line.specs.Words.{NamesNothing, NamesRun, NamesWord, Text}
 use Rattle.trace_text.specs.declared.fault.TraceFault.{TraceFault}
 use Rattle.heap_trace.specs.declared.running.Outcome.{Outcome}
 use Rattle.heap_trace.specs.Image.{image_of}
@@ -12,33 +16,12 @@ use Rattle.heap_trace.specs.Reading.{Script, trace_of}
 use Rattle.heap_trace.specs.Report.{report_text}
 use Rattle.heap_trace.specs.State.{memory_of}
 use Rattle.heap_command.specs.declared.program.Answer.{Answer}
-use Rattle.heap_command.specs.declared.words.Options.{Options}
-use Rattle.heap_command.specs.declared.words.Refusal.{Refusal}
-use Rattle.heap_command.specs.declared.words.Refusal.TheVariants.{Memory, Words}
 use Rattle.heap_command.specs.Answer.{Answers, BeginsAnswer, IsAnswer, IsRunAnswer, image_shown, lacks_memory, most_read, names_fault, refusal_line, refusal_status, refuses, reports, shows_run, shows_word, status_of, text_of}
 use Rattle.heap_command.specs.Device.{AppendsBeginning, ReadsUpTo}
 use Rattle.heap_command.specs.Text.{fault_text, memory_line, word_line}
-use Rattle.heap_command.specs.Words.{AskForNothing, IsTextOf, Names, NamesNothing, NamesRun, NamesWord}
+use Rattle.heap_command.specs.Words.{AskForNothing, IsTextOf}
 
 -- ---- words
-
--- The words name one subcommand, with one list of entries.
-pub Names-unique : (words : List Text) (m n : Text) (a b : List Row) → Names words m a → Names words n b → (m ≡ n) × (a ≡ b)
-Names-unique words m n a b p q =
-    let both : Some (m, a) ≡ Some (n, b) = sym p.subcommand ∙ q.subcommand in
-    let pairs : (m, a) ≡ (n, b) = cc in
-    (ap (λ (x : Text × List Row). x.0) pairs, ap (λ (x : Text × List Row). x.1) pairs)
-
--- The words name one text.
-NamesWord-unique : (words : List Text) (a b : Text) → NamesWord words a → NamesWord words b → a ≡ b
-NamesWord-unique words a b p q =
-    let rows : p.rows ≡ q.rows = (Names-unique words _ _ _ _ p.names q.names).1 in
-    let texts : Some a ≡ Some b = sym p.value ∙ (ap (first_of (codes "hex")) rows ∙ q.value) in
-    cc
-
--- Words that name `word` don't name `run`.
-NamesWord-run : (words : List Text) (hex : Text) → NamesWord words hex → (options : Options) → NamesRun words options → ⊥
-NamesWord-run words hex p options q = let same : codes "word" ≡ codes "run" = (Names-unique words _ _ _ _ p.names q.names).0 in absurd cc
 
 -- Where the named text is no word's, the words ask for nothing.
 AskForNothing-text : (words : List Text) (hex : Text) → NamesWord words hex → ((w : Word) → IsTextOf hex w → ⊥) → AskForNothing words

@@ -2,7 +2,10 @@
 use Rattle.std.specs.Prelude.{◌≡◌, ℕ, List, [], ◌++◌, Option, Result, Ok, Err, map, if◌then◌else◌}
 use Rattle.std.specs.Io.KnownBytes.{Appends}
 use Rattle.cap_codec.specs.declared.word.Word.{Word}
-use Rattle.clap.specs.Words.{Text}
+use Rattle.command_line.specs.declared.words.Options.{Options}
+use Rattle.command_line.specs.declared.words.Refusal.{Refusal}
+use Rattle.command_line.specs.declared.words.Refusal.TheVariants.{Memory, Words}
+use Rattle.command_line.specs.Words.{NamesRun, Text}
 use Rattle.trace_text.specs.declared.fault.TraceFault.{TraceFault}
 use Rattle.heap_trace.specs.declared.reply.Reply.{Reply}
 use Rattle.heap_trace.specs.Reading.{Script, trace_of}
@@ -11,12 +14,9 @@ use Rattle.heap_trace.specs.Run.{Run}
 use Rattle.heap_trace.specs.Image.{image_of}
 use Rattle.heap_trace.specs.State.{State, first_state, memory_of}
 use Rattle.heap_command.specs.declared.program.Answer.{Answer}
-use Rattle.heap_command.specs.declared.words.Options.{Options}
-use Rattle.heap_command.specs.declared.words.Refusal.{Refusal}
-use Rattle.heap_command.specs.declared.words.Refusal.TheVariants.{Memory, Words}
 use Rattle.heap_command.specs.Device.{AppendsBeginning, ReadsUpTo}
 use Rattle.heap_command.specs.Text.{fault_text, memory_line, usage_line, word_line}
-use Rattle.heap_command.specs.Words.{AskForNothing, AsksForLineOf, NamesRun}
+use Rattle.heap_command.specs.Words.{AskForNothing, AsksForLineOf}
 
 -- The status of a refusal, and its line.
 abbrev pub refusal_status : Refusal → ℕ

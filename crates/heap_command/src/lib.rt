@@ -6,8 +6,7 @@ mod program;
 #[cfg(test)]
 mod tests;
 mod text;
-mod words;
 
 pub use crate::devices::{Failed, FromRead, FromWrite, Sink, Source};
 pub use crate::program::{refuse, tool};
-pub use crate::words::{Options, Refusal};
+pub use command_line::{Options, Refusal};

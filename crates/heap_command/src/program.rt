@@ -3,18 +3,18 @@
 ghost use Rattle.std.specs.Prelude.{◌≡◌, ◌≢◌, ◌↔◌, ◌||◌, ◌++◌, IfErr, IfOk, Ok, false, length, string_bytes, true};
 ghost use Rattle.std.specs.Io.KnownBytes.{Appends};
 ghost use Rattle.cap_codec.specs.declared.word.Word.{Word};
-ghost use Rattle.clap.specs.Walk.{texts};
+ghost use Rattle.command_line.specs.declared.words.Options.{Options as TheOptions};
+ghost use Rattle.command_line.specs.Words.{NamesRun, texts};
 ghost use Rattle.heap_trace.specs.Image.{image_of};
-ghost use Rattle.heap_command.specs.declared.words.Options.{Options as TheOptions};
 ghost use Rattle.heap_command.specs.Answer.{Answers, BeginsAnswer, IsRunAnswer, image_shown, refusal_line, refusal_status, status_of, text_of};
 ghost use Rattle.heap_command.specs.Device.{AppendsBeginning};
 ghost use Rattle.heap_command.specs.Text.{fault_text, word_line};
-ghost use Rattle.heap_command.specs.Words.{IsTextOf, NamesRun};
+ghost use Rattle.heap_command.specs.Words.{IsTextOf};
 
 use crate::devices::{Failed, ReadFault, Sink, Source, read_text, send};
 use crate::text::{fault_line, line_of};
-use crate::words::{Asked, Options, Refusal, asked_by};
 use cap_codec::from_bytes;
+use command_line::{Asked, Options, Refusal, asked_by};
 use heap_trace::{Outcome, RunFault, TraceFault, image_text, run};
 use hex::FromHex;
 use std::alloc::{AllocError, Global};

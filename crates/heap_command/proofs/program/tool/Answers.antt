@@ -1,7 +1,6 @@
 use Rattle.std.proofs.Common.{ap, rules, Err}
-use Rattle.clap.specs.Walk.{texts}
+use Rattle.command_line.specs.Words.{NamesRun, NamesWord, texts}
 use Rattle.heap_command.specs.Answer.{IsAnswer, lacks_memory, refusal_line, refusal_status, status_of, text_of}
-use Rattle.heap_command.specs.Words.{NamesRun, NamesWord}
 use Rattle.heap_command.proofs.AnswerLaws.{Answers-told, BeginsAnswer-told, BeginsAnswer-unwritten, IsAnswer-refusal, IsAnswer-run, IsAnswer-word}
 use Rattle.heap_command.proofs.program.tool.Given.{Over}
 use Rattle.heap_command.proofs.program.tool.Goals as goal

@@ -1,7 +1,7 @@
 use Rattle.std.proofs.Common.{codes, ◌∙◌}
 use Rattle.clap.specs.Words.{found_of}
 use Rattle.clap.proofs.WalkLemmas.{one_text-rows}
-use Rattle.heap_command.proofs.words.options_of.Goals as goal
+use Rattle.command_line.proofs.words.options_of.Goals as goal
 
 pub returns : goal.returns
 returns c =

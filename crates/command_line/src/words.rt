@@ -4,7 +4,7 @@ ghost use Rattle.std.specs.Prelude.{◌≡◌, ◌↔◌, IfErr, IfOk, OnOk, fal
 ghost use Rattle.clap.specs.Walk.{texts};
 ghost use Rattle.clap.specs.Words.{app_of, found_of, kind_of, rows_of, rule_of, subcommand_rows_of};
 ghost use Rattle.clap.specs.declared.builder.command.Command.TheViews.{out-Command as fields_of};
-ghost use Rattle.heap_command.specs.Words.{AreTaken, AsksFor, HasOptions, NamesNothing, hex_rule, image_rule, run_app, subcommand_named, tool_app, word_app};
+ghost use Rattle.command_line.specs.Words.{AreTaken, AsksFor, HasOptions, NamesNothing, hex_rule, image_rule, run_app, subcommand_named, tool_app, word_app};
 
 use clap::error::ErrorKind;
 use clap::{Arg, ArgAction, ArgMatches, Command, Error};

@@ -5,8 +5,8 @@ use Rattle.clap.specs.declared.parser.matches.ArgMatches.{ArgMatches}
 use Rattle.clap.specs.Kinds.{Kinds}
 use Rattle.clap.specs.declared.error.Error.{Error}
 use Rattle.clap.specs.declared.error.kind.ErrorKind.TheVariants.{OutOfMemory}
-use Rattle.heap_command.specs.Words.{AreTaken, subcommand_named, tool_app}
-use Rattle.heap_command.proofs.words.parsed.Goals as goal
+use Rattle.command_line.specs.Words.{AreTaken, subcommand_named, tool_app}
+use Rattle.command_line.proofs.words.parsed.Goals as goal
 
 no_fault : {T : Type 0} (kinds : Kinds) (r : Result T Error) → FailsBy kinds r → OnOk r (kinds ≡ [])
 no_fault kinds (Ok x) h = h

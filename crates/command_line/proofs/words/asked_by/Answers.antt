@@ -4,9 +4,9 @@ use Rattle.clap.specs.Matches.{subcommand_name_of}
 use Rattle.clap.proofs.WalkLemmas.{first_value-rows}
 use Rattle.clap.specs.Walk.{texts}
 use Rattle.clap.specs.declared.parser.matches.ArgMatches.{ArgMatches}
-use Rattle.heap_command.specs.Words.{AreTaken, Names, subcommand_named}
-use Rattle.heap_command.proofs.AnswerLaws.{Names-unique}
-use Rattle.heap_command.proofs.words.asked_by.Goals as goal
+use Rattle.command_line.specs.Words.{AreTaken, Names, subcommand_named}
+use Rattle.command_line.specs.Laws.{Names-unique}
+use Rattle.command_line.proofs.words.asked_by.Goals as goal
 
 both : {B N R : Type 0} (f : B → N) (g : B → R) (n : N) (r : R) (o : Option B) → option_map f o ≡ Some n → option_map (λ (p : N × R). p.1) (option_map {U = N × R} (λ b. (f b, g b)) o) ≡ Some r
     → option_map {U = N × R} (λ b. (f b, g b)) o ≡ Some (n, r)

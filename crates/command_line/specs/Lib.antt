@@ -1,0 +1,3 @@
+pub mod Laws
+pub mod Name
+pub mod Words

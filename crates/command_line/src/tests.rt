@@ -1,0 +1,3 @@
+//! The words of processes of the tests' own.
+
+mod process;
