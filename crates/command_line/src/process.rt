@@ -5,11 +5,10 @@ ghost use Rattle.std.specs.Io.{WritesAtMost};
 ghost use Rattle.command_line.specs.Name.{GivesName};
 
 use crate::words::Refusal;
-use std::env;
 use std::env::FillError;
-use std::io;
 use std::io::ErrorKind;
 use std::rt::Env;
+use std::{env, io};
 
 const NAME: &[u8] = b"heap_tool";
 

@@ -54,8 +54,15 @@ fn a_name_that_is_no_text_is_no_wrong_word(rt: HostRuntime) -> Result<(), Fail> 
             words: &[name, b"word", HEX.as_bytes()],
         };
         let arguments = arguments(&process)?;
-        let words: Vec<&str> = arguments.iter().map(|word| word.as_str()).collect(rt.alloc())?;
-        assert_eq!(rt; words.as_slice(), ["heap_tool", "word", HEX].as_slice(), "started as {name:?}");
+        let words: Vec<&str> = arguments
+            .iter()
+            .map(|word| word.as_str())
+            .collect(rt.alloc())?;
+        assert_eq!(rt;
+            words.as_slice(),
+            ["heap_tool", "word", HEX].as_slice(),
+            "started as {name:?}"
+        );
         match asked_by(rt.alloc(), &words)? {
             Asked::Word(hex) => assert_eq!(rt; hex, HEX),
             Asked::Run(options) => panic!(rt; "a run with {options:?}"),
@@ -90,7 +97,10 @@ fn without_arguments_the_name_is_the_only_word(rt: HostRuntime) -> Result<(), Fa
         words: &[],
     };
     let arguments = arguments(&process)?;
-    let words: Vec<&str> = arguments.iter().map(|word| word.as_str()).collect(rt.alloc())?;
+    let words: Vec<&str> = arguments
+        .iter()
+        .map(|word| word.as_str())
+        .collect(rt.alloc())?;
     assert_eq!(rt; words.as_slice(), ["heap_tool"].as_slice());
     match asked_by(rt.alloc(), &words) {
         Ok(_) => panic!(rt; "something is asked for"),
