@@ -2,12 +2,11 @@
 use Rattle.std.proofs.Common.{◌≡◌, ◌∙◌, ◌<◌, ◌≤◌, ◌+◌, ◌&&◌, ℕ, Bool, true, false, cond, not, inl, inr, List, length, get_or, set, length-set, refl, sym, ap, subst, arith}
 use Rattle.std.proofs.lemmas.Bool.{cases_eq, eq-eqb, ne_eqb}
 use Rattle.std.proofs.lemmas.List.{ext_get_or, get_or-map, get_or-set_other, get_or-set_same, length-map}
-use Rattle.sweep_pool.specs.Sweep.{is_hit, is_revoked, swept_cell, swept_registers}
+use Rattle.sweep_pool.specs.Sweep.{is_revoked, swept_cell, swept_registers, takes_tag}
 use Rattle.tag_memory.specs.Cells.{Cell, null_cell, register_in, with_register}
 use Rattle.tag_memory.specs.Tags.{is_set}
-use Rattle.heap_core.specs.Heap.{HeapState, IsSound as IsSoundHeap}
-use Rattle.heap_core.specs.Quarantine.{IsShadow}
-use Rattle.heap_trace.proofs.SweptState.{and_not, is_hit-shadow}
+use Rattle.heap_core.specs.Blocks.{Span}
+use Rattle.heap_trace.proofs.SweptState.{and_not}
 
 -- A cell without its tag, where the test passes.
 abbrev pub without_tag_if : Bool → Cell → Cell
@@ -76,25 +75,25 @@ AreCleared-kept old new mask r cleared is = record {
 }
 
 -- Registers cleared by the mask of a sweep are the registers swept, where register 0 is null.
-pub registers-swept : (heap : HeapState) (old new : List Cell) (shadow : List Bool) (mask : ℕ) → IsSoundHeap heap → IsShadow heap shadow
-    → length old ≡ 32 → get_or old 0 null_cell ≡ null_cell → ((r : ℕ) → r < 32 → is_set mask r ≡ is_hit shadow heap.base (register_in old r))
+pub registers-swept : (held : List Span) (old new : List Cell) (mask : ℕ)
+    → length old ≡ 32 → get_or old 0 null_cell ≡ null_cell → ((r : ℕ) → r < 32 → is_set mask r ≡ takes_tag held (register_in old r))
     → length new ≡ 32 → get_or new 0 null_cell ≡ get_or old 0 null_cell
     → ((r : ℕ) → 0 < r → r < 32 → get_or new r null_cell ≡ without_tag_if (is_set mask r) (get_or old r null_cell))
-    → new ≡ swept_registers heap.held old
-registers-swept heap old new shadow mask sound is count null bits long zero cells =
-    ext_get_or null_cell new (swept_registers heap.held old) (long ∙ sym (length-map old (swept_cell heap.held) ∙ count))
+    → new ≡ swept_registers held old
+registers-swept held old new mask count null bits long zero cells =
+    ext_get_or null_cell new (swept_registers held old) (long ∙ sym (length-map old (swept_cell held) ∙ count))
     (λ r lt.
     let within : r < length old = omega (arith, lt, long, count) in
-    let wanted = sym (get_or-map (swept_cell heap.held) old r null_cell null_cell within) in
+    let wanted = sym (get_or-map (swept_cell held) old r null_cell null_cell within) in
     elim (cases_eq r 0) [
       | inl first ↦
-          subst (λ (i : ℕ). get_or new i null_cell ≡ swept_cell heap.held (get_or old i null_cell)) (sym first)
-          (zero ∙ (null ∙ ap (swept_cell heap.held) (sym null))) ∙ wanted
+          subst (λ (i : ℕ). get_or new i null_cell ≡ swept_cell held (get_or old i null_cell)) (sym first)
+          (zero ∙ (null ∙ ap (swept_cell held) (sym null))) ∙ wanted
       | inr later ↦
           let c = get_or old r null_cell in
           let read : register_in old r ≡ get_or old r null_cell = ap (λ b. cond b null_cell (get_or old r null_cell)) (ne_eqb r 0 later) in
-          let hit : is_set mask r ≡ (c.1 && is_revoked heap.held c.0) =
-          bits r (omega (arith, within, count)) ∙ (ap (is_hit shadow heap.base) read ∙ is_hit-shadow heap shadow c sound is) in
-          let t : (c.1 && not (is_set mask r)) ≡ (c.1 && not (is_revoked heap.held c.0)) = ap (λ b. c.1 && not b) hit ∙ and_not c.1 (is_revoked heap.held c.0) in
+          let hit : is_set mask r ≡ (c.1 && is_revoked held c.0) =
+          bits r (omega (arith, within, count)) ∙ ap (takes_tag held) read in
+          let t : (c.1 && not (is_set mask r)) ≡ (c.1 && not (is_revoked held c.0)) = ap (λ b. c.1 && not b) hit ∙ and_not c.1 (is_revoked held c.0) in
           cells r (omega arith) (omega (arith, within, count)) ∙ ((λ i. (c.0, t i)) ∙ wanted)
     ])

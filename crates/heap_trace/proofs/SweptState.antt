@@ -1,54 +1,25 @@
 -- The state after a sweep: each tagged word whose base lies in a held block has lost its tag.
-use Rattle.std.proofs.Common.{◌≡◌, ◌∙◌, ◌<◌, ◌≤◌, ◌+◌, ◌-◌, ◌*◌, ◌/◌, ◌&&◌, ℕ, Bool, true, false, cond, not, inl, inr, List, [], ◌∷◌, length, get_or, drop, refl, sym, ap, subst, arith}
-use Rattle.std.specs.Prelude.{◌⊎◌, count_by}
+use Rattle.std.proofs.Common.{◌≡◌, ◌∙◌, ◌<◌, ◌≤◌, ◌+◌, ◌-◌, ◌*◌, ◌/◌, ◌&&◌, ℕ, Bool, true, false, cond, not, inl, inr, All, List, [], ◌∷◌, length, get_or, drop, refl, sym, ap, subst, arith}
+use Rattle.std.specs.Prelude.{count_by}
 use Rattle.std.specs.List.{Contains, enumerate_from}
-use Rattle.std.proofs.lemmas.Bool.{and_parts, cases_lt, le-leb, lt-leb, not-true, true≢false}
+use Rattle.std.proofs.lemmas.Bool.{and_parts, not-true, true≢false}
 use Rattle.std.proofs.lemmas.Bool.Decides.{nat_tests}
-use Rattle.std.proofs.lemmas.List.{drop-map, ext_get_or, get_or-map, get_or_past, length-map}
-use Rattle.std.proofs.lemmas.List.Elements.{All-map, All-weaker}
-use Rattle.std.proofs.lemmas.List.Folds.{list_any-from_Any, list_any_none}
+use Rattle.std.proofs.lemmas.List.{drop-map, ext_get_or, get_or-map, length-map}
+use Rattle.std.proofs.lemmas.List.Elements.{All-head, All-map, All-weaker}
+use Rattle.std.proofs.lemmas.List.Folds.{list_any-from_Any}
 use Rattle.std.proofs.lemmas.List.FromFn.{get_or-enumerate_from, length-enumerate_from}
 use Rattle.std.proofs.lemmas.List.Sums.{sum_by-cons}
 use Rattle.cap_codec.specs.declared.word.Word.{Word}
-use Rattle.heap_core.specs.Blocks.{Span, end_of, has_address, lies_in, start_of}
+use Rattle.heap_core.specs.Blocks.{Span, bytes_of, end_of, has_address, length_of, start_of}
 use Rattle.heap_core.specs.Heap.{HeapState, IsInside, IsSound as IsSoundHeap}
-use Rattle.heap_core.specs.Quarantine.{IsShadow, without_held}
-use Rattle.sweep_pool.specs.Sweep.{AreMasks, base_of, is_hit, is_painted, is_revoked, swept_cell, swept_granule, swept_granules, swept_registers, tags_taken}
-use Rattle.tag_memory.specs.Cells.{Cell, Granule, cell_of, null_cell}
+use Rattle.heap_core.specs.Quarantine.{without_held}
+use Rattle.sweep_pool.specs.Sweep.{TakeTags, base_of, is_revoked, swept_cell, swept_granule, swept_granules, swept_registers, tags_taken}
+use Rattle.tag_memory.specs.Cells.{Cell, Granule, MemoryState, cell_of, null_cell}
 use Rattle.tag_memory.specs.Tags.{is_set_for, without_tags}
 use Rattle.heap_trace.specs.Safety.{HoldsGuarded, IsGuarded, LieIn}
 use Rattle.heap_trace.specs.Sound.{IsSound}
 use Rattle.heap_trace.specs.State.{State, tags_of}
 use Rattle.heap_trace.specs.Step.{bounds_in, swept}
-
--- ---- the shadow
-
-has_address_outside : (heap : HeapState) (a : ℕ) (block : Span) → IsInside heap block → (a < heap.base) ⊎ (heap.base + heap.size ≤ a) → has_address a block ≡ false
-has_address_outside heap a block inside (inl below) = (let from = inside.from in grind (arith, nat_tests))
-has_address_outside heap a block inside (inr above) = (let end = inside.end in grind (arith, nat_tests))
-
--- No address outside the heap lies in a held block.
-lies_outside : (heap : HeapState) (a : ℕ) → IsSoundHeap heap → (a < heap.base) ⊎ (heap.base + heap.size ≤ a) → lies_in heap.held a ≡ false
-lies_outside heap a sound outside =
-    list_any_none (has_address a) heap.held
-    (All-weaker (IsInside heap) (λ block. has_address a block ≡ false) (λ block inside. has_address_outside heap a block inside outside) heap.held sound.held_inside)
-
--- So an address lies in a held block exactly where the shadow of the heap is painted there.
-is_painted-shadow : (heap : HeapState) (shadow : List Bool) (a : ℕ) → IsSoundHeap heap → IsShadow heap shadow → is_painted shadow heap.base a ≡ lies_in heap.held a
-is_painted-shadow heap shadow a sound is =
-    elim (cases_lt a heap.base) [
-      | inl below ↦ rw (lt-leb heap.base a below, lies_outside heap a sound (inl below)) refl
-      | inr from ↦ elim (cases_lt a (heap.base + heap.size)) [
-        | inl before ↦ rw (le-leb heap.base a from) (is.painted a from before)
-        | inr above ↦
-            let past : get_or shadow ((a - heap.base) / 16) false ≡ false = get_or_past shadow ((a - heap.base) / 16) false (omega (arith, is.granules)) in
-            rw (le-leb heap.base a from, past, lies_outside heap a sound (inr above)) refl
-      ]
-    ]
-
-pub is_hit-shadow : (heap : HeapState) (shadow : List Bool) (c : Cell) → IsSoundHeap heap → IsShadow heap shadow
-    → is_hit shadow heap.base c ≡ (c.1 && is_revoked heap.held c.0)
-is_hit-shadow heap shadow c sound is = ap (λ b. c.1 && b) (is_painted-shadow heap shadow (base_of c.0) sound is)
 
 -- ---- memory
 
@@ -71,19 +42,18 @@ unfolding without_tags
 length-without_tags masks granules = length-map _ _ ∙ length-enumerate_from 0 granules
 
 -- Memory without the tags of the masks is the memory swept.
-pub without_tags-swept : (heap : HeapState) (cells : List Granule) (shadow : List Bool) (masks : List ℕ) → IsSoundHeap heap → IsShadow heap shadow
-    → AreMasks (record { base = heap.base; cells = cells }) shadow masks → without_tags masks cells ≡ swept_granules heap.held cells
-without_tags-swept heap cells shadow masks sound is are =
-    ext_get_or (0, false) (without_tags masks cells) (swept_granules heap.held cells)
-    (length-without_tags masks cells ∙ sym (length-map cells (swept_granule heap.held)))
+pub without_tags-swept : (held : List Span) (m : MemoryState) (masks : List ℕ) → TakeTags m held masks → without_tags masks m.cells ≡ swept_granules held m.cells
+without_tags-swept held m masks take =
+    let cells = m.cells in
+    ext_get_or (0, false) (without_tags masks cells) (swept_granules held cells)
+    (length-without_tags masks cells ∙ sym (length-map cells (swept_granule held)))
     (λ i lt.
     let inside : i < length cells = omega (arith, lt, length-without_tags masks cells) in
     let granule = get_or cells i (0, false) in
-    let hit = are.bits i inside ∙ is_hit-shadow heap shadow (record { bits = granule.0 }, granule.1) sound is in
-    let tag : (granule.1 && not (is_set_for masks i)) ≡ (granule.1 && not (is_revoked heap.held (record { bits = granule.0 }))) =
-    ap (λ b. granule.1 && not b) hit ∙ and_not granule.1 (is_revoked heap.held (record { bits = granule.0 })) in
+    let tag : (granule.1 && not (is_set_for masks i)) ≡ (granule.1 && not (is_revoked held (record { bits = granule.0 }))) =
+    ap (λ b. granule.1 && not b) (take.bits i inside) ∙ and_not granule.1 (is_revoked held (record { bits = granule.0 })) in
     get_or-without_tags masks cells i inside
-    ∙ ((λ k. (granule.0, tag k)) ∙ sym (get_or-map (swept_granule heap.held) cells i (0, false) (0, false) inside)))
+    ∙ ((λ k. (granule.0, tag k)) ∙ sym (get_or-map (swept_granule held) cells i (0, false) (0, false) inside)))
 
 -- ---- tags
 
@@ -182,3 +152,36 @@ IsSound-swept s heap sound same sound_heap =
         cells = All-map (HoldsGuarded heap) (swept_granule s.heap.held) s.cells (All-weaker (HoldsGuarded s.heap) (λ granule. HoldsGuarded heap (swept_granule s.heap.held granule)) (λ granule. guarded (cell_of granule)) s.cells sound.safe.cells);
       };
     }
+
+-- ---- where nothing is held
+
+no_spans : (heap : HeapState) (blocks : List Span) → All (IsInside heap) blocks → bytes_of blocks ≡ 0 → blocks ≡ []
+no_spans heap [] inside none = refl
+no_spans heap (b ∷ blocks) inside none =
+    let some = (All-head (IsInside heap) b blocks inside).some in
+    absurd (omega (arith, some, none, sum_by-cons length_of b blocks))
+
+-- Every block has a byte at least, so where held blocks have none there is none.
+pub no_blocks : (heap : HeapState) → IsSoundHeap heap → bytes_of heap.held ≡ 0 → heap.held ≡ []
+no_blocks heap sound none = no_spans heap heap.held sound.held_inside none
+
+and_true : (t : Bool) → (t && true) ≡ t
+and_true true = refl
+and_true false = refl
+
+swept_granules-none : (granules : List Granule) → swept_granules [] granules ≡ granules
+swept_granules-none [] = refl
+swept_granules-none (g ∷ granules) = λ i. (g.0, and_true g.1 i) ∷ swept_granules-none granules i
+
+swept_registers-none : (registers : List Cell) → swept_registers [] registers ≡ registers
+swept_registers-none [] = refl
+swept_registers-none (c ∷ registers) = λ i. (c.0, and_true c.1 i) ∷ swept_registers-none registers i
+
+-- A sweep then leaves the state as it is, and takes no tag.
+pub swept-none : (s : State) → s.heap.held ≡ [] → swept s ≡ s
+swept-none s none =
+    subst (λ (held : List Span). record s { heap = record s.heap { held = [] }; cells = swept_granules held s.cells; registers = swept_registers held s.registers } ≡ s) (sym none)
+    (λ i. record s { heap = record s.heap { held = sym none i }; cells = swept_granules-none s.cells i; registers = swept_registers-none s.registers i })
+
+pub tags_taken-none : (s : State) → s.heap.held ≡ [] → tags_taken s.heap.held s.cells s.registers ≡ 0
+tags_taken-none s none = omega (arith, tags_of-swept s, ap tags_of (swept-none s none))

@@ -48,8 +48,8 @@ impl Model for Machine {
 }
 
 impl Machine {
-    /// A machine whose heap has so many pages of 4,096 bytes from `base` on. `cutting` says how sweeps
-    /// are to be cut for workers; one thread makes them today. The size is judged before the base.
+    /// A machine whose heap has so many pages of 4,096 bytes from `base` on. Its sweeps are cut into tasks
+    /// of `cutting`'s pages, and made by no more than its workers. The size is judged before the base.
     pub fn new(
         alloc: Global,
         base: u64,
@@ -79,13 +79,13 @@ impl Machine {
         })
     }
 
-    /// Does one command.
+    /// Does one command. `gate` is told of each task of a sweep, which has none where nothing is held.
     pub fn step<R: Threads + Sync, G: Gate + Sync>(
         &mut self,
-        _rt: &R,
+        rt: &R,
         alloc: Global,
         command: Command,
-        _gate: &G,
+        gate: &G,
     ) -> Result<Reply, MachineFault>
         requires { IsValid command }
         ensures step { IfOk result (λ reply. Step self.old command reply self.new) }
@@ -98,12 +98,18 @@ impl Machine {
     {
         // The invariant holds before and after: both states are safe.
         let _ = &self.heap;
-        let result = self.serve(alloc, command);
+        let result = self.serve(rt, alloc, command, gate);
         let _ = &self.heap;
         result
     }
 
-    fn serve(&mut self, alloc: Global, command: Command) -> Result<Reply, MachineFault>
+    fn serve<R: Threads + Sync, G: Gate + Sync>(
+        &mut self,
+        rt: &R,
+        alloc: Global,
+        command: Command,
+        gate: &G,
+    ) -> Result<Reply, MachineFault>
         requires { IsValid command }
         ensures step { IfOk result (λ reply. Step self.old command reply self.new) }
         ensures err { OnErr result (self.new ≡ self.old) }
@@ -121,7 +127,7 @@ impl Machine {
             Command::LoadCap { rd, ra } => Ok(self.load_cap(rd, ra)),
             Command::Write { ra, bytes } => Ok(self.write(ra, bytes)),
             Command::Show { rs } => Ok(self.show(rs)),
-            Command::Sweep => self.sweep(alloc),
+            Command::Sweep => self.sweep(rt, alloc, gate),
         }
     }
 

@@ -1,1 +1,6 @@
+pub mod CountLaws
+pub mod GatherLaws
+pub mod MarkLaws
 pub mod MaskLaws
+pub mod TaskLaws
+pub mod WholeLaws

@@ -5,6 +5,8 @@ use Rattle.cap_codec.specs.Bounds.{bounds_of}
 use Rattle.cap_codec.specs.Fields.{fields_of}
 use Rattle.cap_codec.specs.declared.word.Word.{Word}
 use Rattle.heap_core.specs.Blocks.{Span, lies_in}
+use Rattle.heap_core.specs.Heap.{HeapState, IsSound}
+use Rattle.heap_core.specs.Quarantine.{IsShadow}
 use Rattle.tag_memory.specs.Cells.{Cell, Granule, MemoryState, cell_of}
 use Rattle.tag_memory.specs.Tags.{is_set_for}
 
@@ -17,6 +19,10 @@ base_of w = (bounds_of (fields_of w)).base
 -- The word is revoked: its base lies in one of the held blocks.
 abbrev pub is_revoked : List Span → Word → Bool
 is_revoked held w = lies_in held (base_of w)
+
+-- The sweep takes the tag of a word: it is tagged, and revoked.
+abbrev pub takes_tag : List Span → Cell → Bool
+takes_tag held c = c.1 && is_revoked held c.0
 
 -- A register after the sweep.
 abbrev pub swept_cell : List Span → Cell → Cell
@@ -36,7 +42,7 @@ swept_granules held granules = map (swept_granule held) granules
 -- How many tags a sweep takes. That of register 0, which always reads as null, never counts.
 abbrev pub tags_taken : List Span → List Granule → List Cell → ℕ
 tags_taken held granules registers =
-    count_by (λ g. g.1 && is_revoked held (cell_of g).0) granules + count_by (λ c. c.1 && is_revoked held c.0) (drop 1 registers)
+    count_by (λ g. takes_tag held (cell_of g)) granules + count_by (takes_tag held) (drop 1 registers)
 
 -- ---- how it is found out
 
@@ -52,7 +58,35 @@ is_hit shadow base c = c.1 && is_painted shadow base (base_of c.0)
 abbrev pub is_hit_at : MemoryState → List Bool → ℕ → Bool
 is_hit_at m shadow i = is_hit shadow m.base (cell_of (slice_index_or m.cells i (0, false)))
 
--- The masks of a memory: a word for 64 granules, with a 1 for each that is hit.
-pub record AreMasks (m : MemoryState) (shadow : List Bool) (masks : List ℕ) : Type 0 where
-  pub count : 64 * length masks ≡ length m.cells
-  pub bits : (i : ℕ) → i < length m.cells → is_set_for masks i ≡ is_hit_at m shadow i
+-- Masks of so many granules, a word for 64 of them: a bit is 1 exactly where its granule passes the test.
+pub record AreBits (test : ℕ → Bool) (granules : ℕ) (masks : List ℕ) : Type 0 where
+  pub count : 64 * length masks ≡ granules
+  pub bits : (i : ℕ) → i < granules → is_set_for masks i ≡ test i
+
+-- The masks of a memory: a 1 for each granule that is hit.
+abbrev pub AreMasks : MemoryState → List Bool → List ℕ → Type 0
+AreMasks m shadow masks = AreBits (is_hit_at m shadow) (length m.cells) masks
+
+-- The masks of the pages `from` to `end - 1`, of 256 granules each: a 1 for each granule that is hit.
+abbrev pub ArePageMasks : MemoryState → List Bool → ℕ → ℕ → List ℕ → Type 0
+ArePageMasks m shadow from end masks = AreBits (λ i. is_hit_at m shadow (256 * from + i)) (256 * (end - from)) masks
+
+-- ---- what that comes to, where the shadow is a heap's
+
+-- A heap, and its shadow, that lie where a memory begins.
+pub record IsShadowOf (heap : HeapState) (base : ℕ) (shadow : List Bool) : Type 0 where
+  pub start : heap.base ≡ base
+  pub sound : IsSound heap
+  pub painted : IsShadow heap shadow
+
+-- The sweep takes the tag of granule i of the memory.
+abbrev pub takes_tag_at : MemoryState → List Span → ℕ → Bool
+takes_tag_at m held i = takes_tag held (cell_of (slice_index_or m.cells i (0, false)))
+
+-- The masks of a memory: a 1 for each granule whose tag the sweep takes.
+abbrev pub TakeTags : MemoryState → List Span → List ℕ → Type 0
+TakeTags m held masks = AreBits (takes_tag_at m held) (length m.cells) masks
+
+-- The masks of the pages `from` to `end - 1`: a 1 for each granule whose tag the sweep takes.
+abbrev pub TakePageTags : MemoryState → List Span → ℕ → ℕ → List ℕ → Type 0
+TakePageTags m held from end masks = AreBits (λ i. takes_tag_at m held (256 * from + i)) (256 * (end - from)) masks

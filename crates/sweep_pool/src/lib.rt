@@ -1,12 +1,22 @@
 //! Which tags a sweep takes, and how it is cut into tasks for workers.
 #![tactic(auto)]
 
+mod alone;
+mod claims;
 mod cutting;
 mod gate;
+mod gathering;
+mod pool;
 mod sweep;
+mod task;
 #[cfg(test)]
 mod tests;
+mod workers;
 
+pub use crate::claims::sweep_next;
 pub use crate::cutting::{CutFault, Cutting};
 pub use crate::gate::{Gate, Open};
-pub use crate::sweep::{SweepFault, sweep_memory, swept_registers};
+pub use crate::gathering::{GatherFault, gather};
+pub use crate::pool::sweep_masks;
+pub use crate::sweep::{SweepFault, swept_registers};
+pub use crate::task::{Swept, sweep_task};

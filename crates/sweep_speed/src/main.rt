@@ -1,14 +1,16 @@
-//! Work for a stopwatch: a memory of 1,024 pages whose granules are all tagged is swept by the shadow
-//! of a heap of which every second block is held. How many tags the masks take goes to standard
-//! output, and the time of the fastest sweep to standard error.
+//! Work for a stopwatch, in two halves. A memory of 1,024 pages whose granules are all tagged is swept
+//! by the shadow of a heap of which every second block is held, by one worker and by four. Then a
+//! memory of as many pages without a tag is swept by one worker, with 16 pages a task and with one. How
+//! many tags the masks take goes to standard output, and the fastest of each to standard error.
 #![tactic(auto)]
 
 use cap_codec::{Word, with_bounds};
 use heap_core::{Heap, HeapFault, Shadow};
 use std::alloc::Global;
 use std::io;
-use std::time::{CpuClock, Duration};
-use sweep_pool::sweep_memory;
+use std::thread::Threads;
+use std::time::{Clock, Duration, Instant};
+use sweep_pool::{Cutting, Open, sweep_masks};
 use tag_memory::{Memory, MemoryFault};
 
 const BASE: u64 = 0x4000_0000;
@@ -20,27 +22,85 @@ const BYTES: u64 = 4_194_304;
 
 const BLOCK_BYTES: u64 = 256;
 
-const SWEEPS: u32 = 10;
+// How often a memory is swept, by so many workers with so many pages a task.
+#[derive(Clone, Copy)]
+struct Plan {
+    sweeps: u32,
+    workers: u32,
+    pages: u32,
+}
+
+// The time of the fastest sweep, and how many tags the masks of all sweeps take.
+#[derive(Clone, Copy)]
+struct Sweeps {
+    least: Duration,
+    taken: u32,
+}
 
 fn main(rt: HostRuntime) -> io::Result<()> {
-    let Ok(memory) = full_memory(rt.alloc()) else {
-        return println!(rt; "want of memory");
-    };
     let Ok(shadow) = half_held_shadow(rt.alloc()) else {
         return println!(rt; "want of memory");
     };
-    let mut taken = 0u32;
-    let mut least = Duration::MAX;
-    for _ in 0..SWEEPS {
-        let start = rt.thread_cpu_time()?;
-        let Ok(masks) = sweep_memory(rt.alloc(), &memory, &shadow) else {
-            return println!(rt; "want of memory");
+    let Ok(full) = full_memory(rt.alloc()) else {
+        return println!(rt; "want of memory");
+    };
+    for workers in [1, 4] {
+        let plan = Plan {
+            sweeps: 10,
+            workers,
+            pages: 16,
         };
-        least = least.min(rt.thread_cpu_time()?.saturating_sub(start));
+        let Some(swept) = timed(&rt, rt.alloc(), &full, &shadow, plan) else {
+            return println!(rt; "no sweep");
+        };
+        println!(rt; "all tagged: {} tags taken", swept.taken)?;
+        eprintln!(rt; "all tagged, {workers} workers: {} ns a sweep", swept.least.as_nanos())?;
+    }
+    let Ok(untagged) = Memory::new(rt.alloc(), BASE, PAGES) else {
+        return println!(rt; "want of memory");
+    };
+    for pages in [16, 1] {
+        let plan = Plan {
+            sweeps: 1000,
+            workers: 1,
+            pages,
+        };
+        let Some(swept) = timed(&rt, rt.alloc(), &untagged, &shadow, plan) else {
+            return println!(rt; "no sweep");
+        };
+        println!(rt; "untagged: {} tags taken", swept.taken)?;
+        eprintln!(rt; "untagged, {pages} pages a task: {} ns a sweep", swept.least.as_nanos())?;
+    }
+    Ok(())
+}
+
+// Sweeps a memory by this plan; `None` where that can't be done or timed.
+fn timed<R: Threads + Sync + Clock>(
+    rt: &R,
+    alloc: Global,
+    memory: &Memory,
+    shadow: &Shadow,
+    plan: Plan,
+) -> Option<Sweeps> {
+    let Ok(cutting) = Cutting::new(plan.workers, plan.pages) else {
+        return None;
+    };
+    let mut least = Duration::MAX;
+    let mut taken = 0u32;
+    for _ in 0..plan.sweeps {
+        let Ok(start) = Instant::now(rt) else {
+            return None;
+        };
+        let Ok(masks) = sweep_masks(rt, alloc, memory, shadow, &cutting, &Open) else {
+            return None;
+        };
+        let Ok(time) = start.elapsed(rt) else {
+            return None;
+        };
+        least = least.min(time);
         taken = taken.wrapping_add(ones(&masks));
     }
-    println!(rt; "{SWEEPS} sweeps of {PAGES} pages, {taken} tags taken")?;
-    eprintln!(rt; "a sweep: {} microseconds", least.as_micros())
+    Some(Sweeps { least, taken })
 }
 
 // A memory with a capability in each granule.

@@ -1,6 +1,6 @@
 //! Freeing and sweeping: blocks in quarantine, and the tags of the words that point there.
 
-ghost use Rattle.std.specs.Prelude.{◌≡◌, ◌<◌, ◌&&◌, ℕ, IfErr, IfOk, IsOk, OnErr, length, not, slice_index_or};
+ghost use Rattle.std.specs.Prelude.{◌≡◌, ◌<◌, ◌≤◌, ◌&&◌, ℕ, IfErr, IfOk, IsOk, OnErr, length, not, slice_index_or};
 ghost use Rattle.trace_text.specs.Command.{IsValid};
 ghost use Rattle.heap_trace.specs.Step.{Step};
 ghost use Rattle.tag_memory.specs.Cells.{null_cell};
@@ -12,9 +12,23 @@ use crate::reply::{MachineFault, Reply, Trap};
 use cap_codec::Bounds;
 use heap_core::Freed;
 use std::alloc::Global;
-use sweep_pool::{sweep_memory, swept_registers};
+use std::thread::Threads;
+use sweep_pool::{Cutting, Gate, sweep_masks, swept_registers};
 use tag_memory::{REGISTERS, Registers, bit};
 use trace_text::Command;
+
+// To decode the words of so many granules takes about as long as to start a thread.
+const GRANULES_A_START: usize = 3000;
+
+// How a pass over so many tagged granules is cut: no worker more than is worth its start.
+fn cutting_for(cutting: Cutting, tagged: usize) -> Cutting
+    ensures pages { result.pages_per_task ≡ cutting.pages_per_task }
+    ensures workers { result.workers ≤ cutting.workers }
+{
+    let worthwhile = tagged / GRANULES_A_START + 1;
+    let workers = worthwhile.min(cutting.workers() as usize) as u32;
+    Cutting::new(workers, cutting.pages_per_task()).unwrap()
+}
 
 // Takes the tags of the registers whose bits are 1 in the mask. Register 0 stays as it is.
 fn clear_registers(registers: &mut Registers, mask: u32)
@@ -59,8 +73,33 @@ impl Machine {
     }
 
     // Every tagged word whose base lies in a held block loses its tag; then the held blocks are free.
-    // Whatever takes memory comes first.
-    pub(super) fn sweep(&mut self, alloc: Global) -> Result<Reply, MachineFault>
+    // Where none is held there is nothing to look for.
+    pub(super) fn sweep<R: Threads + Sync, G: Gate + Sync>(
+        &mut self,
+        rt: &R,
+        alloc: Global,
+        gate: &G,
+    ) -> Result<Reply, MachineFault>
+        ensures step { IfOk result (λ reply. Step self.old Command.Sweep reply self.new) }
+        ensures err { OnErr result (self.new ≡ self.old) }
+        ensures memory { IfErr result (λ fault. fault ≡ MachineFault.Memory) }
+    {
+        if self.heap.held_bytes() == 0 {
+            return Ok(Reply::Swept {
+                cleared: 0,
+                released: 0,
+            });
+        }
+        self.pass_over(rt, alloc, gate)
+    }
+
+    // A pass over all memory and registers. Whatever takes memory comes first.
+    fn pass_over<R: Threads + Sync, G: Gate + Sync>(
+        &mut self,
+        rt: &R,
+        alloc: Global,
+        gate: &G,
+    ) -> Result<Reply, MachineFault>
         ensures step { IfOk result (λ reply. Step self.old Command.Sweep reply self.new) }
         ensures err { OnErr result (self.new ≡ self.old) }
         ensures memory { IfErr result (λ fault. fault ≡ MachineFault.Memory) }
@@ -71,11 +110,13 @@ impl Machine {
         let Ok(shadow) = self.heap.shadow(alloc) else {
             return Err(MachineFault::Memory);
         };
-        let Ok(masks) = sweep_memory(alloc, &self.memory, &shadow) else {
+        let tagged = self.memory.tagged();
+        let cutting = cutting_for(self.cutting, tagged);
+        let Ok(masks) = sweep_masks(rt, alloc, &self.memory, &shadow, &cutting, gate) else {
             return Err(MachineFault::Memory);
         };
         let mask = swept_registers(&self.registers, &shadow, self.memory.base());
-        let before = self.memory.tagged() + self.registers.tagged();
+        let before = tagged + self.registers.tagged();
         self.memory.clear_tags(&masks);
         clear_registers(&mut self.registers, mask);
         let after = self.memory.tagged() + self.registers.tagged();

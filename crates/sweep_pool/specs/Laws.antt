@@ -1,0 +1,77 @@
+-- What callers of this crate need of tasks, and of masks by a heap's shadow.
+use Rattle.std.proofs.Common.{◌≡◌, ◌∙◌, ◌<◌, ◌≤◌, ◌+◌, ◌-◌, ◌*◌, ◌/◌, ◌&&◌, ℕ, Bool, false, inl, inr, List, length, get_or, refl, sym, ap, arith}
+use Rattle.std.specs.Prelude.{◌⊎◌}
+use Rattle.std.proofs.Math.Decide.{dec_lt}
+use Rattle.std.proofs.lemmas.Bool.{cases_lt, le-leb, lt-leb}
+use Rattle.std.proofs.lemmas.Bool.Decides.{nat_tests}
+use Rattle.std.proofs.lemmas.List.{get_or_past}
+use Rattle.std.proofs.lemmas.List.Elements.{All-weaker}
+use Rattle.std.proofs.lemmas.List.Folds.{list_any_none}
+use Rattle.std.proofs.lemmas.Nat.{mul-le}
+use mathlib.Core.Logic.{dite}
+use Rattle.heap_core.specs.Blocks.{Span, has_address, lies_in}
+use Rattle.heap_core.specs.Heap.{HeapState, IsInside, IsSound}
+use Rattle.heap_core.specs.Quarantine.{IsShadow}
+use Rattle.sweep_pool.specs.Sweep.{AreBits, AreMasks, ArePageMasks, IsShadowOf, TakePageTags, TakeTags, base_of, is_hit, is_painted, takes_tag}
+use Rattle.sweep_pool.specs.Tasks.{Cut, IsTask, IsTaskCount}
+use Rattle.tag_memory.specs.Cells.{Cell, MemoryState, cell_of}
+
+-- ---- tasks
+
+-- A number below that of the tasks is one of a task, and no other is.
+pub IsTask-below : (c : Cut) (pages n k : ℕ) → IsTaskCount c pages n → k < n → IsTask c pages k
+IsTask-below c pages n k count below = dite (dec_lt (k * c.pages_per_task) pages)
+    (λ is. is)
+    (λ past. let few = count.least k (omega arith) in absurd (omega arith))
+
+pub below_of-IsTask : (c : Cut) (pages n k : ℕ) → IsTaskCount c pages n → IsTask c pages k → k < n
+below_of-IsTask c pages n k count is = dite (dec_lt k n)
+    (λ below. below)
+    (λ past. let whole = count.enough in let more = mul-le n c.pages_per_task k c.pages_per_task (omega arith) (omega arith) in absurd (omega arith))
+
+-- ---- the shadow of a heap
+
+has_address-outside : (heap : HeapState) (a : ℕ) (block : Span) → IsInside heap block → (a < heap.base) ⊎ (heap.base + heap.size ≤ a) → has_address a block ≡ false
+has_address-outside heap a block inside (inl below) = (let from = inside.from in grind (arith, nat_tests))
+has_address-outside heap a block inside (inr above) = (let end = inside.end in grind (arith, nat_tests))
+
+-- No address outside the heap lies in a held block.
+lies_in-outside : (heap : HeapState) (a : ℕ) → IsSound heap → (a < heap.base) ⊎ (heap.base + heap.size ≤ a) → lies_in heap.held a ≡ false
+lies_in-outside heap a sound outside =
+    list_any_none (has_address a) heap.held
+    (All-weaker (IsInside heap) (λ block. has_address a block ≡ false) (λ block inside. has_address-outside heap a block inside outside) heap.held sound.held_inside)
+
+-- So an address lies in a held block exactly where the shadow of the heap is painted there.
+pub is_painted-held : (heap : HeapState) (shadow : List Bool) (a : ℕ) → IsSound heap → IsShadow heap shadow → is_painted shadow heap.base a ≡ lies_in heap.held a
+is_painted-held heap shadow a sound is =
+    elim (cases_lt a heap.base) [
+      | inl below ↦ rw (lt-leb heap.base a below, lies_in-outside heap a sound (inl below)) refl
+      | inr from ↦ elim (cases_lt a (heap.base + heap.size)) [
+        | inl before ↦ rw (le-leb heap.base a from) (is.painted a from before)
+        | inr above ↦
+            let past : get_or shadow ((a - heap.base) / 16) false ≡ false = get_or_past shadow ((a - heap.base) / 16) false (omega (arith, is.granules)) in
+            rw (le-leb heap.base a from, past, lies_in-outside heap a sound (inr above)) refl
+      ]
+    ]
+
+-- What is hit is what the sweep takes.
+pub is_hit-takes_tag : (heap : HeapState) (base : ℕ) (shadow : List Bool) (c : Cell) → IsShadowOf heap base shadow → is_hit shadow base c ≡ takes_tag heap.held c
+is_hit-takes_tag heap base shadow c of =
+    ap (λ (b : ℕ). is_hit shadow b c) (sym of.start) ∙ ap (λ (b : Bool). c.1 && b) (is_painted-held heap shadow (base_of c.0) of.sound of.painted)
+
+-- Tests that agree have the same masks.
+AreBits-same : (f g : ℕ → Bool) (granules : ℕ) (masks : List ℕ) → ((i : ℕ) → f i ≡ g i) → AreBits f granules masks → AreBits g granules masks
+AreBits-same f g granules masks same are = record { count = are.count; bits = λ i lt. are.bits i lt ∙ same i }
+
+-- The masks of so many pages are four words for each.
+pub AreBits-words : (test : ℕ → Bool) (pages : ℕ) (masks : List ℕ) → AreBits test (256 * pages) masks → length masks ≡ 4 * pages
+AreBits-words test pages masks are = let n = are.count in omega arith
+
+-- So masks by the shadow are those of the tags that the sweep takes.
+pub TakeTags-masks : (heap : HeapState) (m : MemoryState) (shadow : List Bool) (masks : List ℕ) → IsShadowOf heap m.base shadow → AreMasks m shadow masks → TakeTags m heap.held masks
+TakeTags-masks heap m shadow masks of =
+    AreBits-same _ _ _ masks (λ i. is_hit-takes_tag heap m.base shadow (cell_of (get_or m.cells i (0, false))) of)
+
+pub TakePageTags-masks : (heap : HeapState) (m : MemoryState) (shadow : List Bool) (from end : ℕ) (masks : List ℕ) → IsShadowOf heap m.base shadow → ArePageMasks m shadow from end masks → TakePageTags m heap.held from end masks
+TakePageTags-masks heap m shadow from end masks of =
+    AreBits-same _ _ _ masks (λ i. is_hit-takes_tag heap m.base shadow (cell_of (get_or m.cells (256 * from + i) (0, false))) of)

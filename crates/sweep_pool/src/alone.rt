@@ -1,0 +1,53 @@
+//! A sweep of a whole memory by the calling thread alone.
+
+ghost use Rattle.std.specs.Prelude.{◌≡◌, ◌<◌, ◌≤◌, ◌+◌, ◌*◌, ◌/◌, ℕ, IfErr, IfOk, length};
+ghost use Rattle.sweep_pool.specs.Sweep.{AreMasks, is_hit_at};
+ghost use Rattle.tag_memory.specs.Tags.{is_set_for};
+
+use crate::cutting::Cutting;
+use crate::gate::Gate;
+use crate::sweep::{SweepFault, word_mask};
+use crate::task::words_of;
+use heap_core::Shadow;
+use std::alloc::Global;
+use tag_memory::{Memory, PAGE_WORDS};
+
+// Makes the masks of the words `from` to `end - 1` of the tags, where those before are made.
+fn fill_more(memory: &Memory, shadow: &Shadow, from: usize, end: usize, masks: &mut Vec<u64>)
+    requires order { from ≤ end }
+    requires within { end ≤ length masks.old.items }
+    requires whole { 64 * length masks.old.items ≤ length memory.now.cells }
+    requires before { (i : ℕ) → i / 64 < from → is_set_for masks.old.items i ≡ is_hit_at memory.now shadow.now i }
+    ensures count { length masks.new.items ≡ length masks.old.items }
+    ensures done { (i : ℕ) → i / 64 < end → is_set_for masks.new.items i ≡ is_hit_at memory.now shadow.now i }
+{
+    let _pages = memory.pages();
+    for w in from..end {
+        masks[w] = word_mask(memory, shadow, w);
+    }
+}
+
+/// The masks of a whole memory, task by task. One worker claims every task, so it needs no board, and
+/// no list of its own for each.
+pub(crate) fn sweep_alone<G: Gate>(
+    alloc: Global,
+    memory: &Memory,
+    shadow: &Shadow,
+    cutting: &Cutting,
+    gate: &G,
+) -> Result<Vec<u64>, SweepFault>
+    ensures ok { IfOk result (λ masks. AreMasks memory.now shadow.now masks.items) }
+    ensures err { IfErr result (λ fault. fault ≡ SweepFault.Memory) }
+{
+    let pages = memory.pages();
+    let Ok(mut masks) = vec![in alloc; 0; PAGE_WORDS * pages as usize] else {
+        return Err(SweepFault::Memory);
+    };
+    for task in 0..cutting.tasks(pages) {
+        let first = PAGE_WORDS * task as usize * cutting.pages_per_task() as usize;
+        let count = words_of(cutting, pages, task);
+        fill_more(memory, shadow, first, first + count, &mut masks);
+        gate.pass(task);
+    }
+    Ok(masks)
+}
