@@ -1,0 +1,113 @@
+-- The numbers of `run`: where clap takes the words, each has its entry, and what clap reads of it is the number
+-- that it writes, in its limits.
+use Rattle.std.proofs.Common.{◌≡◌, ◌∙◌, ◌<◌, ◌≤◌, ◌==◌, ◌^◌, inl, inr, ℕ, Bool, cond, codes, true, false, refl, sym, ap, subst, true≢false, arith, List, [], ◌∷◌, drop, Option, Some, None, Result, Ok, Err}
+use Rattle.std.proofs.lemmas.Int.{ints}
+use Rattle.std.specs.Prelude.{IsSome, pos, unwrap_or}
+use Rattle.std.specs.Str.Parse.{ExplainsUnsignedError, HasUnsignedDigitsIfOk, ParsesUnsigned, digits_value, starts_with_minus, without_leading_plus}
+use Rattle.clap.specs.declared.parser.matches.Found.{Found}
+use Rattle.clap.proofs.WalkLemmas.{one_text-rows}
+use Rattle.clap.proofs.ValueTestLemmas.{accepts-Accepts}
+use Rattle.clap.specs.Matches.{ReadsOne}
+use Rattle.clap.specs.Simple.{Shape, built, filled}
+use Rattle.clap.specs.Words.{Row, Rule, Text, fault_of, one_text, rows_of, subcommand_of, without_minus}
+use Rattle.clap.specs.declared.builder.value_parser.ValueParser.TheVariants.{Signed}
+use Rattle.command_line.specs.Words.{AreTaken, GivesNumber, HasNumber, cut_rule, subcommand_named, tool_app, workers_rule}
+use Rattle.command_line.proofs.ValueLaws.{Contains, Each, IsEntered, IsGiven, IsOnly, IsOption, entered_at, given_at}
+
+-- ---- the entries
+
+abbrev HasRule : Rule → Shape → Type 0
+HasRule rule s = s.name ≡ codes "run" → Each (IsOnly rule) s.rules × Contains rule s.rules
+
+another : {X : Type 0} → false ≡ true → X
+another e = absurd (true≢false (sym e))
+
+-- Of the three subcommands, `run`, `word` and `help`, the first has both options, and each once.
+has_workers : Each (HasRule (filled workers_rule)) (built tool_app).subs
+has_workers = (λ e. ((another, (λ e. refl, (another, (another, tt)))), inr (inl refl)), (λ e. absurd cc, (λ e. absurd cc, tt)))
+
+has_cut : Each (HasRule (filled cut_rule)) (built tool_app).subs
+has_cut = (λ e. ((another, (another, (λ e. refl, (another, tt)))), inr (inr (inl refl))), (λ e. absurd cc, (λ e. absurd cc, tt)))
+
+is_workers : IsOption (filled workers_rule)
+is_workers = record { set = refl; one = refl; own = refl; default = codes "1"; defaults = refl }
+
+is_cut : IsOption (filled cut_rule)
+is_cut = record { set = refl; one = refl; own = refl; default = codes "16"; defaults = refl }
+
+given : (rule : Rule) (words : List Text) (rows : List Row) → IsOption rule → Each (HasRule rule) (built tool_app).subs → fault_of tool_app words ≡ []
+    → subcommand_of tool_app words ≡ Some (codes "run", rows) → IsGiven rule rows
+given rule words rows is each taken sub =
+    let level = entered_at tool_app words (codes "run") rows (HasRule rule) taken sub each in
+    let rules = level.holds level.named in
+    subst (IsGiven rule) level.rows_are (given_at rule level.shape is rules.0 rules.1 level.words level.fault)
+
+pub GivesNumber-workers : (words : List Text) (rows : List Row) → AreTaken words → subcommand_named words ≡ Some (codes "run", rows) → GivesNumber (codes "workers") 1 64 rows
+unfolding AreTaken subcommand_named
+GivesNumber-workers words rows taken sub =
+    let entry = given (filled workers_rule) words rows is_workers has_workers taken sub in
+    record { text = entry.text; entry = entry.entry; read = entry.read; within = accepts-Accepts false (Signed (pos 1) (pos 64)) entry.text entry.passes }
+
+pub GivesNumber-cut : (words : List Text) (rows : List Row) → AreTaken words → subcommand_named words ≡ Some (codes "run", rows) → GivesNumber (codes "cut") 1 256 rows
+unfolding AreTaken subcommand_named
+GivesNumber-cut words rows taken sub =
+    let entry = given (filled cut_rule) words rows is_cut has_cut taken sub in
+    record { text = entry.text; entry = entry.entry; read = entry.read; within = accepts-Accepts false (Signed (pos 1) (pos 256)) entry.text entry.passes }
+
+-- ---- the numbers
+
+without_minus-cond : (text : Text) → without_minus text ≡ cond (starts_with_minus text) (drop 1 text) text
+without_minus-cond [] = refl
+without_minus-cond (x ∷ xs) = go (x == 45)
+  where
+    go : (b : Bool) → unwrap_or (cond b (Some xs) None) (x ∷ xs) ≡ cond b xs (x ∷ xs)
+    go true = refl
+    go false = refl
+
+-- What is read of such an entry is its number.
+HasNumber-read : {E : Type 0} (G : Text → Result ℕ E → Type 0) → ((text : Text) (x : Result ℕ E) → G text x → ParsesUnsigned 32 10 text x) → (id : Text) (most : ℕ) (rows : List Row) (gives : GivesNumber id 1 most rows) (r : Option ℕ)
+    → ReadsOne G (without_minus gives.text) r → most < 2 ^ 32
+    → (n : ℕ) × (r ≡ Some n) × HasNumber id 1 most rows n
+HasNumber-read G only id most rows gives r read fits =
+    go (starts_with_minus gives.text) refl r (subst (λ (t : Text). ReadsOne G t r) (without_minus-cond gives.text) read)
+  where
+    go : (b : Bool) → starts_with_minus gives.text ≡ b → (o : Option ℕ) → ReadsOne G (cond (starts_with_minus gives.text) (drop 1 gives.text) gives.text) o
+        → (n : ℕ) × (o ≡ Some n) × HasNumber id 1 most rows n
+    go true minus o h =
+        let low = rw minus at gives.within.2 in
+        absurd (omega (arith, ints))
+    go false minus (Some v) h =
+        let numeral = gives.within.0 in
+        let low = rw minus at gives.within.2 in
+        let high = rw minus at gives.within.3 in
+        let parsed = only gives.text (Ok v) (rw minus at h) in (
+          v,
+          refl,
+          record {
+            text = gives.text;
+            entry = gives.entry;
+            numeral = gives.within.0;
+            value = rw minus (ap pos (sym parsed.1));
+            least_or_more = rw parsed.1 (omega (arith, ints));
+            most_or_less = rw parsed.1 (omega (arith, ints));
+          },
+        )
+    go false minus None h =
+        let numeral = rw minus at gives.within.0 in
+        let high = rw minus at gives.within.3 in
+        absurd (only gives.text (Err h.0) (rw minus at h.1) (numeral, omega (arith, ints)))
+
+-- So `get_one` has a number, and it is the entry's.
+pub HasNumber-get_one : (f : Found) (id : Text) (most : ℕ) (r : Option ℕ) → GivesNumber id 1 most (rows_of f)
+    → ((text : Text) → one_text f id ≡ Some text → ReadsOne (λ text x. ParsesUnsigned 32 10 text x × ExplainsUnsignedError 10 text x × HasUnsignedDigitsIfOk text x) text r) → most < 2 ^ 32
+    → IsSome r × ((n : ℕ) → r ≡ Some n → HasNumber id 1 most (rows_of f) n)
+HasNumber-get_one f id most r gives read fits =
+    let number = HasNumber-read (λ text x. ParsesUnsigned 32 10 text x × ExplainsUnsignedError 10 text x × HasUnsignedDigitsIfOk text x) (λ text x g. g.0) id most (rows_of f) gives r (read (without_minus gives.text) (one_text-rows f id ∙ gives.read)) fits in (
+      subst IsSome (sym number.1) refl,
+      λ n is.
+          let same : n ≡ number.0 = some_same n number.0 (sym is ∙ number.1) in
+          subst (HasNumber id 1 most (rows_of f)) (sym same) number.2,
+    )
+  where
+    some_same : (m n : ℕ) → Some m ≡ Some n → m ≡ n
+    some_same m n e = cc
