@@ -95,6 +95,11 @@ abbrev pub AsksFor : List Text → Asked → Type 0
 AsksFor words (Run options) = NamesRun words options
 AsksFor words (Word hex) = NamesWord words hex.now
 
+-- And they ask for nothing else.
+abbrev pub AsksOnlyFor : List Text → Asked → Type 0
+AsksOnlyFor words (Run options) = (other : Options) → NamesRun words other → other ≡ options
+AsksOnlyFor words (Word hex) = (other : Text) → NamesWord words other → other ≡ hex.now
+
 -- The words name no subcommand, or `word` without a text.
 pub record NamesNothing (words : List Text) : Type 0 where
   pub run : (options : Options) → NamesRun words options → ⊥

@@ -4,7 +4,7 @@ ghost use Rattle.std.specs.Prelude.{◌≡◌, ◌↔◌, IfErr, IfOk, OnOk, cod
 ghost use Rattle.clap.specs.Walk.{texts};
 ghost use Rattle.clap.specs.Words.{app_of, found_of, kind_of, rows_of, rule_of, subcommand_rows_of};
 ghost use Rattle.clap.specs.declared.builder.command.Command.TheViews.{out-Command as fields_of};
-ghost use Rattle.command_line.specs.Words.{AreTaken, AsksFor, GivesNumber, HasOptions, NamesNothing, cut_rule, hex_rule, image_rule, run_app, subcommand_named, tool_app, word_app, workers_rule};
+ghost use Rattle.command_line.specs.Words.{AreTaken, AsksFor, AsksOnlyFor, GivesNumber, HasOptions, NamesNothing, cut_rule, hex_rule, image_rule, run_app, subcommand_named, tool_app, word_app, workers_rule};
 
 use clap::error::ErrorKind;
 use clap::{Arg, ArgAction, ArgMatches, Command, Error};
@@ -42,6 +42,7 @@ pub enum Refusal {
 /// Reads the words of a command line, of which the first is the program's name.
 pub fn asked_by<'a>(alloc: Global, words: &'a [&'a str]) -> Result<Asked<'a>, Refusal>
     ensures ok { IfOk result (AsksFor (texts words.entry.now)) }
+    ensures only { IfOk result (AsksOnlyFor (texts words.entry.now)) }
     ensures refused { result ≡ Err Refusal.Words → NamesNothing (texts words.entry.now) }
 {
     let matches = match parsed(alloc, words) {

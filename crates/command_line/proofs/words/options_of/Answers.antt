@@ -1,7 +1,7 @@
 use Rattle.std.proofs.Common.{codes, arith, ◌∙◌}
 use Rattle.clap.specs.Words.{found_of}
 use Rattle.clap.proofs.WalkLemmas.{one_text-rows}
-use Rattle.command_line.proofs.NumberLaws.{HasNumber-get_one}
+use Rattle.command_line.specs.NumberLaws.{HasNumber-get_one}
 use Rattle.command_line.proofs.words.options_of.Goals as goal
 
 pub unwrap-requires : goal.unwrap-requires

@@ -1,18 +1,23 @@
 -- The numbers of `run`: where clap takes the words, each has its entry, and what clap reads of it is the number
 -- that it writes, in its limits.
-use Rattle.std.proofs.Common.{◌≡◌, ◌∙◌, ◌<◌, ◌≤◌, ◌==◌, ◌^◌, inl, inr, ℕ, Bool, cond, codes, true, false, refl, sym, ap, subst, true≢false, arith, List, [], ◌∷◌, drop, Option, Some, None, Result, Ok, Err}
+use Rattle.std.proofs.Common.{◌≡◌, ◌∙◌, ◌<◌, ◌==◌, ◌^◌, ◌||◌, ◌⊎◌, inl, inr, ℕ, Bool, cond, codes, true, false, refl, sym, ap, subst, true≢false, arith, List, [], ◌∷◌, drop, length, Option, Some, None, Result, Ok, Err}
 use Rattle.std.proofs.lemmas.Int.{ints}
 use Rattle.std.specs.Prelude.{IsSome, pos, unwrap_or}
-use Rattle.std.specs.Str.Parse.{ExplainsUnsignedError, HasUnsignedDigitsIfOk, ParsesUnsigned, digits_value, starts_with_minus, without_leading_plus}
+use Rattle.std.specs.Str.Parse.{ExplainsUnsignedError, HasUnsignedDigitsIfOk, ParsesUnsigned, starts_with_minus}
 use Rattle.clap.specs.declared.parser.matches.Found.{Found}
 use Rattle.clap.proofs.WalkLemmas.{one_text-rows}
 use Rattle.clap.proofs.ValueTestLemmas.{accepts-Accepts}
 use Rattle.clap.specs.Matches.{ReadsOne}
+use Rattle.std.specs.Str.{bytes_eq}
+use Rattle.std.proofs.lemmas.Slice.Eq.{bytes_eq-Decides}
+use Rattle.clap.specs.Facts.{unwrap_or_range}
+use Rattle.clap.specs.Kinds.{range_kinds}
+use Rattle.clap.specs.Walk.{most_values, values_or_missing}
 use Rattle.clap.specs.Simple.{Shape, built, filled}
-use Rattle.clap.specs.Words.{Row, Rule, Text, fault_of, one_text, rows_of, subcommand_of, without_minus}
+use Rattle.clap.specs.Words.{Row, Rule, Text, fault_of, one_of, one_text, rows_of, subcommand_of, without_minus}
 use Rattle.clap.specs.declared.builder.value_parser.ValueParser.TheVariants.{Signed}
-use Rattle.command_line.specs.Words.{AreTaken, GivesNumber, HasNumber, cut_rule, subcommand_named, tool_app, workers_rule}
-use Rattle.command_line.proofs.ValueLaws.{Contains, Each, IsEntered, IsGiven, IsOnly, IsOption, entered_at, given_at}
+use Rattle.command_line.specs.Words.{AreTaken, GivesNumber, HasNumber, cut_rule, image_rule, subcommand_named, tool_app, workers_rule}
+use Rattle.command_line.specs.ValueLaws.{Contains, Each, IsGiven, IsOnly, IsOption, entered_at, given_at, no_text, some_value}
 
 -- ---- the entries
 
@@ -22,6 +27,9 @@ HasRule rule s = s.name ≡ codes "run" → Each (IsOnly rule) s.rules × Contai
 another : {X : Type 0} → false ≡ true → X
 another e = absurd (true≢false (sym e))
 
+has_image : Each (HasRule (filled image_rule)) (built tool_app).subs
+has_image = (λ e. ((λ e. refl, (another, (another, (another, tt)))), inl refl), (λ e. absurd cc, (λ e. absurd cc, tt)))
+
 -- Of the three subcommands, `run`, `word` and `help`, the first has both options, and each once.
 has_workers : Each (HasRule (filled workers_rule)) (built tool_app).subs
 has_workers = (λ e. ((another, (λ e. refl, (another, (another, tt)))), inr (inl refl)), (λ e. absurd cc, (λ e. absurd cc, tt)))
@@ -29,11 +37,24 @@ has_workers = (λ e. ((another, (λ e. refl, (another, (another, tt)))), inr (in
 has_cut : Each (HasRule (filled cut_rule)) (built tool_app).subs
 has_cut = (λ e. ((another, (another, (λ e. refl, (another, tt)))), inr (inr (inl refl))), (λ e. absurd cc, (λ e. absurd cc, tt)))
 
+some_given : (rule : Rule) → (unwrap_or_range rule.range).start_inclusive ≡ 1 → (values : List Text)
+    → range_kinds (unwrap_or_range rule.range).start_inclusive (most_values rule) (length values) ≡ [] → values_or_missing rule values ≡ [] → ⊥
+some_given rule one [] range none = some_value (unwrap_or_range rule.range).start_inclusive (most_values rule) one range
+some_given rule one (v ∷ vs) range none = no_text v vs none
+
 is_workers : IsOption (filled workers_rule)
-is_workers = record { set = refl; one = refl; own = refl; default = codes "1"; defaults = refl }
+is_workers = record { uses = λ id how values rows. refl; checks = λ again values rows. refl; some = some_given (filled workers_rule) refl; own = refl; default = codes "1"; defaults = refl }
 
 is_cut : IsOption (filled cut_rule)
-is_cut = record { set = refl; one = refl; own = refl; default = codes "16"; defaults = refl }
+is_cut = record { uses = λ id how values rows. refl; checks = λ again values rows. refl; some = some_given (filled cut_rule) refl; own = refl; default = codes "16"; defaults = refl }
+
+-- A flag that is given stands for the value `true`.
+is_image : IsOption (filled image_rule)
+is_image = record { uses = λ id how values rows. refl; checks = λ again values rows. refl; some = some_stands; own = refl; default = codes "false"; defaults = refl }
+  where
+    some_stands : (values : List Text) → range_kinds 0 0 (length values) ≡ [] → values_or_missing (filled image_rule) values ≡ [] → ⊥
+    some_stands [] range none = no_text _ _ none
+    some_stands (v ∷ vs) range none = no_text v vs none
 
 given : (rule : Rule) (words : List Text) (rows : List Row) → IsOption rule → Each (HasRule rule) (built tool_app).subs → fault_of tool_app words ≡ []
     → subcommand_of tool_app words ≡ Some (codes "run", rows) → IsGiven rule rows
@@ -53,6 +74,20 @@ unfolding AreTaken subcommand_named
 GivesNumber-cut words rows taken sub =
     let entry = given (filled cut_rule) words rows is_cut has_cut taken sub in
     record { text = entry.text; entry = entry.entry; read = entry.read; within = accepts-Accepts false (Signed (pos 1) (pos 256)) entry.text entry.passes }
+
+-- The entry of the flag says `true` or `false`.
+pub image_given : (words : List Text) (rows : List Row) → AreTaken words → subcommand_named words ≡ Some (codes "run", rows)
+    → (one_of (codes "image") rows ≡ Some (codes "true")) ⊎ (one_of (codes "image") rows ≡ Some (codes "false"))
+unfolding AreTaken subcommand_named
+image_given words rows taken sub =
+    let entry = given (filled image_rule) words rows is_image has_image taken sub in
+    go entry.text entry.read (bytes_eq entry.text (codes "true")) refl (bytes_eq entry.text (codes "false")) refl entry.passes
+  where
+    go : (text : Text) → one_of (codes "image") rows ≡ Some text → (t : Bool) → bytes_eq text (codes "true") ≡ t → (f : Bool) → bytes_eq text (codes "false") ≡ f → (t || f) ≡ true
+        → (one_of (codes "image") rows ≡ Some (codes "true")) ⊎ (one_of (codes "image") rows ≡ Some (codes "false"))
+    go text read true is f other e = inl (read ∙ ap (λ x. Some x) ((bytes_eq-Decides text (codes "true")).0 is))
+    go text read false is true other e = inr (read ∙ ap (λ x. Some x) ((bytes_eq-Decides text (codes "false")).0 other))
+    go text read false is false other e = absurd (true≢false (sym e))
 
 -- ---- the numbers
 

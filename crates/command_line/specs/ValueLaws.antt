@@ -2,19 +2,19 @@
 -- is there, and begins with a value that passed the option's parser.
 use Rattle.std.proofs.Common.{◌≡◌, ◌∙◌, ◌+◌, ◌&&◌, ◌||◌, min, ◌⊎◌, inl, inr, ℕ, Bool, cond, true, false, zero, suc, refl, sym, ap, subst, true≢false, arith, List, [], ◌∷◌, ◌++◌, length, drop, Option, Some, None}
 use Rattle.std.proofs.lemmas.Bool.{ne_eqb}
-use Rattle.std.specs.Prelude.{⊤, IfSome, encode_utf8, option_and_then, is_some, option_map, slice_get}
-use Rattle.std.specs.List.{find, fold, list_any}
+use Rattle.std.specs.Prelude.{⊤, IfSome, encode_utf8, is_some, option_map, slice_get}
+use Rattle.std.specs.List.{find, fold}
 use Rattle.std.specs.Option.{option_map_or}
 use Rattle.std.specs.Str.{bytes_eq, chars}
 use Rattle.clap.specs.Lexer.{long_of, short_of}
 use Rattle.clap.specs.Facts.{parser_of_value, unwrap_or_range}
 use Rattle.clap.specs.Faults.{action_fault, bundle_fault, bundle_step_fault, default_fault, defaults_fault, entered_fault, fault_of, flag_word_fault, flags_fault, given_default_fault, level_fault, long_fault, option_fault, other_fault, positional_fault, react_fault, set_fault, settle_fault, short_fault, step_fault, stray_fault, turn_fault, use_fault, values_fault, walk_fault, word_fault}
-use Rattle.clap.specs.Kinds.{Kinds, or_else, range_kinds, request_kinds, value_kinds}
+use Rattle.clap.specs.Kinds.{Kinds, or_else, range_kinds, request_kinds}
 use Rattle.clap.specs.Values.{read_as, refused_kind}
 use Rattle.clap.specs.Matches.{count_text}
 use Rattle.clap.specs.Simple.{App, Shape, argument_words, built, entered, label_of, names_of, rows_at, subcommand_of}
 use Rattle.clap.specs.ValueTests.{accepts}
-use Rattle.clap.specs.Walk.{Held, Names, Outcome, Row, Rule, Step, Text, Waiting, Walk, action_of, after_flag, after_step, answers_to, arg_by_id, arg_by_index, arg_by_long, arg_by_short, at_row, attached_value, bundle_met, bundle_step, count_of, flag_met, long_or_other, short_or_plain, subcommand_or_other, counted, default_rows, done, first_of, has_row, idle, is_empty, is_pending, long_met, more_values, most_values, new_count, next, nothing_held, one_of, option, option_met, option_word, plain, plain_word, positional, positional_held, reacted, reading_by, refused, rows_after, settled, settled_rows, short_met, subcommand, subcommand_met, takes_several, takes_values, to_positional, trailing, used, used_as, used_by_id, value, values_or_missing, waits, walk, walk_from, walked, walked_from, with_count, with_default, with_values, without, word_met}
+use Rattle.clap.specs.Walk.{Held, Names, Outcome, Row, Rule, Step, Text, Waiting, Walk, action_of, after_flag, after_step, answers_to, arg_by_id, arg_by_index, arg_by_long, arg_by_short, at_row, attached_value, bundle_met, bundle_step, count_of, flag_met, long_or_other, short_or_plain, subcommand_or_other, default_rows, done, first_of, has_row, idle, is_empty, is_pending, long_met, more_values, most_values, new_count, next, nothing_held, one_of, option, option_met, option_word, plain, plain_word, positional, reacted, reading_by, refused, rows_after, settled, settled_rows, short_met, subcommand, subcommand_met, takes_several, takes_values, to_positional, trailing, used, used_as, used_by_id, value, values_or_missing, waits, walk, walk_from, walked, walked_from, with_count, with_default, with_values, without, word_met}
 use Rattle.clap.specs.declared.builder.action.ArgAction.{ArgAction}
 use Rattle.clap.specs.declared.builder.action.ArgAction.TheVariants as action
 use Rattle.clap.specs.declared.builder.value_parser.Reading.{Reading}
@@ -45,7 +45,7 @@ IfSome-find P test (x ∷ xs) h = go (test x) (IfSome-find P test xs h.1)
     go true k = h.0
     go false k = k
 
-no_text : (v : Text) (vs : List Text) → v ∷ vs ≡ [] → ⊥
+pub no_text : (v : Text) (vs : List Text) → v ∷ vs ≡ [] → ⊥
 no_text v vs e = absurd cc
 
 some_text : (v : Text) (vs : List Text) → is_empty (v ∷ vs) ≡ false
@@ -60,7 +60,7 @@ neither : (x y : Kinds) → or_else x y ≡ [] → (x ≡ []) × (y ≡ [])
 neither [] y e = (refl, e)
 neither (k ∷ ks) y e = absurd (no_kind k ks e)
 
-some_value : (least most : ℕ) → least ≡ 1 → range_kinds least most 0 ≡ [] → ⊥
+pub some_value : (least most : ℕ) → least ≡ 1 → range_kinds least most 0 ≡ [] → ⊥
 some_value least most one e =
     let fault : range_kinds 1 most 0 ≡ [] = subst (λ n. range_kinds n most 0 ≡ []) one e in
     no_kind _ _ fault
@@ -162,23 +162,21 @@ module _ (a : Rule) where
       go true e = refl
       go false e = absurd (no_kind _ _ e)
 
-  -- the option's own use
-  BeginsWell-use : (again : Bool) (values : List Text) (rows : List Row) → action_of a ≡ action.Set → (unwrap_or_range a.range).start_inclusive ≡ 1
-      → use_fault again a values rows ≡ [] → BeginsWell (values_or_missing a values)
-  BeginsWell-use again [] rows set one fault =
-      absurd (some_value (unwrap_or_range a.range).start_inclusive (most_values a) one (neither _ _ fault).0)
-  BeginsWell-use again (v ∷ vs) rows set one fault =
-      let same = (neither _ _ fault).1 in
-      let as_set : set_fault again a (v ∷ vs) rows ≡ [] = subst (λ x. action_fault x again a (v ∷ vs) rows ≡ []) set same in
-      BeginsWell-from (v ∷ vs) (neither _ _ as_set).1 (no_text v vs)
-
-  -- It takes one value by each use, the last use counts, and it has a default.
+  -- A use of the option takes the place of those before it, and has a value or gets the one that stands for
+  -- none; where it isn't used, it has a default.
   pub record IsOption : Type 0 where
-    pub set : action_of a ≡ action.Set
-    pub one : (unwrap_or_range a.range).start_inclusive ≡ 1
+    pub uses : (id : Text) (how : Reading) (values : List Text) (rows : List Row) → used_as (action_of a) id how values rows ≡ with_values id how CommandLine values (without id rows)
+    pub checks : (again : Bool) (values : List Text) (rows : List Row) → action_fault (action_of a) again a values rows ≡ set_fault again a values rows
+    pub some : (values : List Text) → range_kinds (unwrap_or_range a.range).start_inclusive (most_values a) (length values) ≡ [] → values_or_missing a values ≡ [] → ⊥
     pub own : bytes_eq a.id a.id ≡ true
     pub default : Text
     pub defaults : a.defaults ≡ default ∷ []
+
+  -- the option's own use
+  BeginsWell-use : (is : IsOption) (again : Bool) (values : List Text) (rows : List Row) → use_fault again a values rows ≡ [] → BeginsWell (values_or_missing a values)
+  BeginsWell-use is again values rows fault =
+      let as_set : set_fault again a (values_or_missing a values) rows ≡ [] = sym (is.checks again (values_or_missing a values) rows) ∙ (neither _ _ fault).1 in
+      BeginsWell-from (values_or_missing a values) (neither _ _ as_set).1 (is.some values (neither _ _ fault).0)
 
   module _ (is : IsOption) (s : Shape) (only : Each IsOnly s.rules) where
     abbrev c : List Rule
@@ -193,10 +191,10 @@ module _ (a : Rule) where
         own : b ≡ a → AreGood (used b values rows)
         own e =
             let fault_a : use_fault again a values rows ≡ [] = subst (λ x. use_fault again x values rows ≡ []) e fault in
-            let well = BeginsWell-use again values rows is.set is.one fault_a in
-            let by_set : AreGood (used_as action.Set a.id (reading_by a) (values_or_missing a values) rows) =
+            let well = BeginsWell-use is again values rows fault_a in
+            let by_set : AreGood (with_values a.id (reading_by a) CommandLine (values_or_missing a values) (without a.id rows)) =
             AreGood-values a.id (reading_by a) CommandLine _ (λ _. (refl, well)) (without a.id rows) (AreGood-without a.id rows h) in
-            let by_a : AreGood (used a values rows) = subst (λ x. AreGood (used_as x a.id (reading_by a) (values_or_missing a values) rows)) (sym is.set) by_set in
+            let by_a : AreGood (used a values rows) = subst AreGood (sym (is.uses a.id (reading_by a) (values_or_missing a values) rows)) by_set in
             subst (λ x. AreGood (used x values rows)) (sym e) by_a
 
         go : (t : Bool) → bytes_eq b.id a.id ≡ t → AreGood (used b values rows)
