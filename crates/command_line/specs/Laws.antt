@@ -5,7 +5,7 @@ use Rattle.std.specs.Str.Parse.{signed_digits_value}
 use Rattle.clap.specs.Words.{Row, Text, first_of}
 use Rattle.command_line.specs.NumberLaws.{image_given}
 use Rattle.command_line.specs.declared.words.Options.{Options}
-use Rattle.command_line.specs.Words.{HasNumber, HasOptions, Names, NamesRun, NamesWord}
+use Rattle.command_line.specs.Words.{AreWithinLimits, HasNumber, HasOptions, Names, NamesRun, NamesWord}
 
 -- The words name one subcommand, with one list of entries.
 pub Names-unique : (words : List Text) (m n : Text) (a b : List Row) → Names words m a → Names words n b → (m ≡ n) × (a ≡ b)
@@ -45,3 +45,12 @@ NamesRun-unique words a b p q =
     let workers = HasNumber-unique _ _ _ _ _ _ p.set.workers own.workers in
     let pages = HasNumber-unique _ _ _ _ _ _ p.set.pages_per_task own.pages_per_task in
     λ i. record { image = image i; workers = workers i; pages_per_task = pages i }
+
+-- The numbers that they name lie in their limits.
+pub NamesRun-limits : (words : List Text) (options : Options) → NamesRun words options → AreWithinLimits options
+NamesRun-limits words options p = record {
+  worker_or_more = p.set.workers.least_or_more;
+  workers_or_less = p.set.workers.most_or_less;
+  page_or_more = p.set.pages_per_task.least_or_more;
+  pages_or_less = p.set.pages_per_task.most_or_less;
+}

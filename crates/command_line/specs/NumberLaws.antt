@@ -1,5 +1,5 @@
--- The numbers of `run`: where clap takes the words, each has its entry, and what clap reads of it is the number
--- that it writes, in its limits.
+-- The options of `run`: where clap takes the words, each has its entry. That of a number is a decimal number in
+-- its limits, and what clap reads of it is this number; that of the flag is `true` or `false`.
 use Rattle.std.proofs.Common.{◌≡◌, ◌∙◌, ◌<◌, ◌==◌, ◌^◌, ◌||◌, ◌⊎◌, inl, inr, ℕ, Bool, cond, codes, true, false, refl, sym, ap, subst, true≢false, arith, List, [], ◌∷◌, drop, length, Option, Some, None, Result, Ok, Err}
 use Rattle.std.proofs.lemmas.Int.{ints}
 use Rattle.std.specs.Prelude.{IsSome, pos, unwrap_or}
@@ -24,19 +24,21 @@ use Rattle.command_line.specs.ValueLaws.{Contains, Each, IsGiven, IsOnly, IsOpti
 abbrev HasRule : Rule → Shape → Type 0
 HasRule rule s = s.name ≡ codes "run" → Each (IsOnly rule) s.rules × Contains rule s.rules
 
+-- Another rule has another id.
 another : {X : Type 0} → false ≡ true → X
 another e = absurd (true≢false (sym e))
 
+-- Of the three subcommands, `run`, `word` and `help`, the first has the three options, and each once.
 has_image : Each (HasRule (filled image_rule)) (built tool_app).subs
 has_image = (λ e. ((λ e. refl, (another, (another, (another, tt)))), inl refl), (λ e. absurd cc, (λ e. absurd cc, tt)))
 
--- Of the three subcommands, `run`, `word` and `help`, the first has both options, and each once.
 has_workers : Each (HasRule (filled workers_rule)) (built tool_app).subs
 has_workers = (λ e. ((another, (λ e. refl, (another, (another, tt)))), inr (inl refl)), (λ e. absurd cc, (λ e. absurd cc, tt)))
 
 has_cut : Each (HasRule (filled cut_rule)) (built tool_app).subs
 has_cut = (λ e. ((another, (another, (λ e. refl, (another, tt)))), inr (inr (inl refl))), (λ e. absurd cc, (λ e. absurd cc, tt)))
 
+-- A use of an option that takes one value has one.
 some_given : (rule : Rule) → (unwrap_or_range rule.range).start_inclusive ≡ 1 → (values : List Text)
     → range_kinds (unwrap_or_range rule.range).start_inclusive (most_values rule) (length values) ≡ [] → values_or_missing rule values ≡ [] → ⊥
 some_given rule one [] range none = some_value (unwrap_or_range rule.range).start_inclusive (most_values rule) one range
@@ -100,9 +102,9 @@ without_minus-cond (x ∷ xs) = go (x == 45)
     go false = refl
 
 -- What is read of such an entry is its number.
-HasNumber-read : {E : Type 0} (G : Text → Result ℕ E → Type 0) → ((text : Text) (x : Result ℕ E) → G text x → ParsesUnsigned 32 10 text x) → (id : Text) (most : ℕ) (rows : List Row) (gives : GivesNumber id 1 most rows) (r : Option ℕ)
-    → ReadsOne G (without_minus gives.text) r → most < 2 ^ 32
-    → (n : ℕ) × (r ≡ Some n) × HasNumber id 1 most rows n
+HasNumber-read : {E : Type 0} (G : Text → Result ℕ E → Type 0) → ((text : Text) (x : Result ℕ E) → G text x → ParsesUnsigned 32 10 text x)
+    → (id : Text) (most : ℕ) (rows : List Row) (gives : GivesNumber id 1 most rows) (r : Option ℕ)
+    → ReadsOne G (without_minus gives.text) r → most < 2 ^ 32 → (n : ℕ) × (r ≡ Some n) × HasNumber id 1 most rows n
 HasNumber-read G only id most rows gives r read fits =
     go (starts_with_minus gives.text) refl r (subst (λ (t : Text). ReadsOne G t r) (without_minus-cond gives.text) read)
   where

@@ -1,5 +1,5 @@
--- An option with one value and a default, at a level of a command where clap's model finds no fault: its entry
--- is there, and begins with a value that passed the option's parser.
+-- An option with a default, at a level of a command where clap's model finds no fault: its entry is there, and
+-- begins with a value that passed the option's parser.
 use Rattle.std.proofs.Common.{◌≡◌, ◌∙◌, ◌+◌, ◌&&◌, ◌||◌, min, ◌⊎◌, inl, inr, ℕ, Bool, cond, true, false, zero, suc, refl, sym, ap, subst, true≢false, arith, List, [], ◌∷◌, ◌++◌, length, drop, Option, Some, None}
 use Rattle.std.proofs.lemmas.Bool.{ne_eqb}
 use Rattle.std.specs.Prelude.{⊤, IfSome, encode_utf8, is_some, option_map, slice_get}
@@ -25,6 +25,7 @@ use Rattle.clap.specs.declared.parser.matches.ValueSource.TheVariants.{CommandLi
 
 -- ---- lists
 
+-- `Each` and `Contains` go through the list, so that they compute for rules that are written out.
 abbrev pub Each : {X : Type 0} → (X → Type 0) → List X → Type 0
 Each P [] = ⊤
 Each P (x ∷ xs) = P x × Each P xs
@@ -109,13 +110,16 @@ has_row-new id how values (r ∷ rs) own = go (bytes_eq r.id id) refl (has_row-n
 -- ---- one option
 
 module _ (a : Rule) where
+  -- The first value passed the option's parser.
   abbrev BeginsWell : List Text → Type 0
   BeginsWell [] = ⊥
   BeginsWell (v ∷ vs) = accepts a.ignore_case (parser_of_value a.parser) v ≡ true
 
+  -- A rule with the option's id is the option's.
   abbrev pub IsOnly : Rule → Type 0
   IsOnly b = bytes_eq b.id a.id ≡ true → b ≡ a
 
+  -- A row with the option's id is read as the option says, and begins well.
   abbrev IsGood : Row → Type 0
   IsGood r = bytes_eq r.id a.id ≡ true → (r.reading ≡ reading_by a) × BeginsWell r.values
 
@@ -201,7 +205,7 @@ module _ (a : Rule) where
         go true e = own (same e)
         go false e = AreGood-other (action_of b) b.id (reading_by b) _ rows e h
 
-    -- ---- what is held
+    -- ---- what is held between two words
 
     abbrev IsKept : Held → Type 0
     IsKept h = AreGood h.rows

@@ -62,7 +62,8 @@ pub record HasNumber (id : Text) (least most : ℕ) (rows : List Row) (n : ℕ) 
   pub least_or_more : least ≤ n
   pub most_or_less : n ≤ most
 
--- The entry with this id has such a text, and is read as clap reads a number without a sign.
+-- The entry with this id has a text that clap's range of these limits lets through, and clap's typed readers
+-- get it without a minus.
 pub record GivesNumber (id : Text) (least most : ℕ) (rows : List Row) : Type 0 where
   pub text : Text
   pub entry : first_of id rows ≡ Some text
@@ -77,6 +78,13 @@ pub record HasOptions (rows : List Row) (options : Options) : Type 0 where
   pub unnamed : one_of (codes "image") rows ≡ None → options.image ≡ false
   pub workers : HasNumber (codes "workers") 1 64 rows options.workers
   pub pages_per_task : HasNumber (codes "cut") 1 256 rows options.pages_per_task
+
+-- The numbers of the options, in their limits.
+pub record AreWithinLimits (options : Options) : Type 0 where
+  pub worker_or_more : 1 ≤ options.workers
+  pub workers_or_less : options.workers ≤ 64
+  pub page_or_more : 1 ≤ options.pages_per_task
+  pub pages_or_less : options.pages_per_task ≤ 256
 
 -- The words name the subcommand `run`, with these options.
 pub record NamesRun (words : List Text) (options : Options) : Type 0 where
