@@ -1,9 +1,11 @@
 -- What the crates above need of the words: they name one subcommand and one text.
-use Rattle.std.specs.Prelude.{◌≡◌, List, Some, codes}
-use Rattle.std.proofs.Common.{◌∙◌, ap, sym}
+use Rattle.std.specs.Prelude.{◌≡◌, ℕ, List, Some, codes, pos}
+use Rattle.std.proofs.Common.{◌∙◌, ap, inl, inr, subst, sym}
+use Rattle.std.specs.Str.Parse.{signed_digits_value}
 use Rattle.clap.specs.Words.{Row, Text, first_of}
+use Rattle.command_line.specs.NumberLaws.{image_given}
 use Rattle.command_line.specs.declared.words.Options.{Options}
-use Rattle.command_line.specs.Words.{Names, NamesRun, NamesWord}
+use Rattle.command_line.specs.Words.{AreWithinLimits, HasNumber, HasOptions, Names, NamesRun, NamesWord}
 
 -- The words name one subcommand, with one list of entries.
 pub Names-unique : (words : List Text) (m n : Text) (a b : List Row) → Names words m a → Names words n b → (m ≡ n) × (a ≡ b)
@@ -22,3 +24,33 @@ NamesWord-unique words a b p q =
 -- Words that name `word` don't name `run`.
 pub NamesWord-run : (words : List Text) (hex : Text) → NamesWord words hex → (options : Options) → NamesRun words options → ⊥
 NamesWord-run words hex p options q = let same : codes "word" ≡ codes "run" = (Names-unique words _ _ _ _ p.names q.names).0 in absurd cc
+
+-- An entry has one number.
+pub HasNumber-unique : (id : Text) (least most : ℕ) (rows : List Row) (m n : ℕ) → HasNumber id least most rows m → HasNumber id least most rows n → m ≡ n
+HasNumber-unique id least most rows m n p q =
+    let texts : Some p.text ≡ Some q.text = sym p.entry ∙ q.entry in
+    let same : p.text ≡ q.text = cc in
+    let numbers : pos m ≡ pos n = sym p.value ∙ (ap (λ text. signed_digits_value 10 text) same ∙ q.value) in
+    cc
+
+-- The words name one list of options.
+pub NamesRun-unique : (words : List Text) (a b : Options) → NamesRun words a → NamesRun words b → a ≡ b
+NamesRun-unique words a b p q =
+    let rows : p.rows ≡ q.rows = (Names-unique words _ _ _ _ p.names q.names).1 in
+    let own : HasOptions p.rows b = subst (λ r. HasOptions r b) (sym rows) q.set in
+    let image : a.image ≡ b.image = elim (image_given words p.rows p.names.taken p.names.subcommand) [
+      | inl e ↦ p.set.image e ∙ sym (own.image e)
+      | inr e ↦ p.set.no_image e ∙ sym (own.no_image e)
+    ] in
+    let workers = HasNumber-unique _ _ _ _ _ _ p.set.workers own.workers in
+    let pages = HasNumber-unique _ _ _ _ _ _ p.set.pages_per_task own.pages_per_task in
+    λ i. record { image = image i; workers = workers i; pages_per_task = pages i }
+
+-- The numbers that they name lie in their limits.
+pub NamesRun-limits : (words : List Text) (options : Options) → NamesRun words options → AreWithinLimits options
+NamesRun-limits words options p = record {
+  worker_or_more = p.set.workers.least_or_more;
+  workers_or_less = p.set.workers.most_or_less;
+  page_or_more = p.set.pages_per_task.least_or_more;
+  pages_or_less = p.set.pages_per_task.most_or_less;
+}

@@ -1,3 +1,5 @@
 pub mod Laws
 pub mod Name
+pub mod NumberLaws
+pub mod ValueLaws
 pub mod Words

@@ -1,10 +1,10 @@
 //! What the command line asks for.
 
-ghost use Rattle.std.specs.Prelude.{◌≡◌, ◌↔◌, IfErr, IfOk, OnOk, false};
+ghost use Rattle.std.specs.Prelude.{◌≡◌, ◌↔◌, IfErr, IfOk, OnOk, codes, false};
 ghost use Rattle.clap.specs.Walk.{texts};
 ghost use Rattle.clap.specs.Words.{app_of, found_of, kind_of, rows_of, rule_of, subcommand_rows_of};
 ghost use Rattle.clap.specs.declared.builder.command.Command.TheViews.{out-Command as fields_of};
-ghost use Rattle.command_line.specs.Words.{AreTaken, AsksFor, HasOptions, NamesNothing, hex_rule, image_rule, run_app, subcommand_named, tool_app, word_app};
+ghost use Rattle.command_line.specs.Words.{AreTaken, AsksFor, AsksOnlyFor, GivesNumber, HasOptions, NamesNothing, cut_rule, hex_rule, image_rule, run_app, subcommand_named, tool_app, word_app, workers_rule};
 
 use clap::error::ErrorKind;
 use clap::{Arg, ArgAction, ArgMatches, Command, Error};
@@ -24,6 +24,10 @@ pub enum Asked<'a> {
 pub struct Options {
     /// Whether the image is written after the report.
     pub image: bool,
+    /// How many workers a sweep has at most, from 1 to 64.
+    pub workers: u32,
+    /// How many pages one task of a sweep has at most, from 1 to 256.
+    pub pages_per_task: u32,
 }
 
 /// Why nothing is asked for.
@@ -38,6 +42,7 @@ pub enum Refusal {
 /// Reads the words of a command line, of which the first is the program's name.
 pub fn asked_by<'a>(alloc: Global, words: &'a [&'a str]) -> Result<Asked<'a>, Refusal>
     ensures ok { IfOk result (AsksFor (texts words.entry.now)) }
+    ensures only { IfOk result (AsksOnlyFor (texts words.entry.now)) }
     ensures refused { result ≡ Err Refusal.Words → NamesNothing (texts words.entry.now) }
 {
     let matches = match parsed(alloc, words) {
@@ -59,12 +64,16 @@ pub fn asked_by<'a>(alloc: Global, words: &'a [&'a str]) -> Result<Asked<'a>, Re
     Ok(Asked::Word(hex))
 }
 
-// The options of `run`.
+// The options of `run`, whose matches have both numbers.
 fn options_of(matches: &ArgMatches<'_>) -> Options
+    requires workers { GivesNumber (codes "workers") 1 64 (rows_of (found_of matches.now)) }
+    requires cut { GivesNumber (codes "cut") 1 256 (rows_of (found_of matches.now)) }
     ensures { HasOptions (rows_of (found_of matches.now)) result }
 {
     Options {
         image: matches.get_flag("image"),
+        workers: matches.get_one::<u32>("workers").unwrap(),
+        pages_per_task: matches.get_one::<u32>("cut").unwrap(),
     }
 }
 
@@ -103,7 +112,10 @@ fn run_command<'a>(alloc: Global) -> Result<Command<'a>, AllocError>
     ensures app { IfOk result (λ command. app_of command ≡ run_app) }
     ensures local { IfOk result (λ command. (fields_of command).has_globals ≡ false) }
 {
-    Command::new(alloc, "run").arg(image_arg(alloc))
+    Command::new(alloc, "run")
+        .arg(image_arg(alloc))?
+        .arg(workers_arg(alloc))?
+        .arg(cut_arg(alloc))
 }
 
 fn image_arg<'a>(alloc: Global) -> Arg<'a>
@@ -113,6 +125,26 @@ fn image_arg<'a>(alloc: Global) -> Arg<'a>
     Arg::new(alloc, "image")
         .long("image")
         .action(ArgAction::SetTrue)
+}
+
+fn workers_arg<'a>(alloc: Global) -> Arg<'a>
+    ensures rule { rule_of result ≡ workers_rule }
+    ensures local { result.global ≡ false }
+{
+    Arg::new(alloc, "workers")
+        .long("workers")
+        .value_parser(clap::value_parser!(u32).range(1..=64))
+        .default_value("1")
+}
+
+fn cut_arg<'a>(alloc: Global) -> Arg<'a>
+    ensures rule { rule_of result ≡ cut_rule }
+    ensures local { result.global ≡ false }
+{
+    Arg::new(alloc, "cut")
+        .long("cut")
+        .value_parser(clap::value_parser!(u32).range(1..=256))
+        .default_value("16")
 }
 
 fn word_command<'a>(alloc: Global) -> Result<Command<'a>, AllocError>

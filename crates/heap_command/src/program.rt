@@ -4,7 +4,7 @@ ghost use Rattle.std.specs.Prelude.{◌≡◌, ◌≢◌, ◌↔◌, ◌||◌, �
 ghost use Rattle.std.specs.Io.KnownBytes.{Appends};
 ghost use Rattle.cap_codec.specs.declared.word.Word.{Word};
 ghost use Rattle.command_line.specs.declared.words.Options.{Options as TheOptions};
-ghost use Rattle.command_line.specs.Words.{NamesRun, texts};
+ghost use Rattle.command_line.specs.Words.{AreWithinLimits, NamesRun, texts};
 ghost use Rattle.heap_trace.specs.Image.{image_of};
 ghost use Rattle.heap_command.specs.Answer.{Answers, BeginsAnswer, IsRunAnswer, image_shown, refusal_line, refusal_status, status_of, text_of};
 ghost use Rattle.heap_command.specs.Device.{AppendsBeginning};
@@ -132,10 +132,11 @@ fn run_answer<R: Threads + Sync>(
     text: &[u8],
     options: Options,
 ) -> Result<Answer, Refusal>
+    requires limits { AreWithinLimits options }
     ensures ok { IfOk result (λ answer. IsRunAnswer text.now options answer.status answer.text.items) }
     ensures err { IfErr result (λ refusal. refusal ≡ Refusal.Memory) }
 {
-    match run(rt, alloc, text, cutting()) {
+    match run(rt, alloc, text, cutting_of(options)) {
         Ok(outcome) => outcome_answer(alloc, outcome, options),
         Err(RunFault::Memory) => Err(Refusal::Memory),
         Err(RunFault::Trace(fault)) => fault_answer(alloc, &fault),
@@ -160,11 +161,12 @@ fn outcome_answer(alloc: Global, outcome: Outcome, options: Options) -> Result<A
     Ok(Answer { status: 0, text })
 }
 
-// One worker, with 16 pages a task.
-fn cutting() -> Cutting
-    ensures { result ≡ record { workers = 1; pages_per_task = 16 } }
+// How the options cut the sweeps.
+fn cutting_of(options: Options) -> Cutting
+    requires { AreWithinLimits options }
+    ensures { result ≡ record { workers = options.workers; pages_per_task = options.pages_per_task } }
 {
-    Cutting::new(1, 16).unwrap()
+    Cutting::new(options.workers, options.pages_per_task).unwrap()
 }
 
 // The line of the fault of a text that is no trace.

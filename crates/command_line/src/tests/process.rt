@@ -1,7 +1,7 @@
 //! What a process is asked, by whatever name it was started.
 
 use crate::process::arguments;
-use crate::words::{Asked, Options, Refusal, asked_by};
+use crate::words::{Asked, Refusal, asked_by};
 use std::alloc::Global;
 use std::env::FillError;
 use std::rt::Env;
@@ -105,21 +105,6 @@ fn without_arguments_the_name_is_the_only_word(rt: HostRuntime) -> Result<(), Fa
     match asked_by(rt.alloc(), &words) {
         Ok(_) => panic!(rt; "something is asked for"),
         Err(refusal) => assert_eq!(rt; refusal, Refusal::Words),
-    }
-    Ok(())
-}
-
-#[test]
-fn a_run_is_asked_for_with_its_options(rt: HostRuntime) -> Result<(), Fail> {
-    let rows: [(&[&str], bool); 2] = [
-        (&["heap_tool", "run"], false),
-        (&["heap_tool", "run", "--image"], true),
-    ];
-    for (words, image) in rows {
-        match asked_by(rt.alloc(), words)? {
-            Asked::Run(options) => assert_eq!(rt; options, Options { image }),
-            Asked::Word(hex) => panic!(rt; "the word {hex}"),
-        }
     }
     Ok(())
 }

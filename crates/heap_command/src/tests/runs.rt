@@ -114,6 +114,69 @@ fn an_image_comes_after_the_report(rt: HostRuntime) {
     assert_eq!(rt; text.as_slice(), "fault bad-heap 1\n".as_bytes());
 }
 
+// A block whose addresses come back after the sweep, on seven pages.
+const SWEPT: &str = "heap 0x40000000 7
+malloc c1 32
+copy c2 c1
+free c1
+malloc c3 32
+sweep
+malloc c4 32
+";
+
+const SWEPT_REPORT: &str = "2 malloc block 0x40000000 0x40000020
+3 copy ok
+4 free held 32
+5 malloc block 0x40000020 0x40000040
+6 sweep cleared 2 released 32
+7 malloc block 0x40000000 0x40000020
+end live 64 held 0 free 28608 tags 2
+";
+
+// The image is empty.
+#[test]
+fn each_cutting_gives_one_answer(rt: HostRuntime) {
+    for workers in ["1", "2", "64"] {
+        for pages in ["1", "3", "256"] {
+            let words = [
+                "heap_tool",
+                "run",
+                "--workers",
+                workers,
+                "--cut",
+                pages,
+                "--image",
+            ];
+            let (status, text) = answer_for(&rt, rt.alloc(), &words, SWEPT.as_bytes(), 1000);
+            assert_eq!(rt; status, 0);
+            assert_eq!(rt; text.as_slice(), SWEPT_REPORT.as_bytes());
+        }
+    }
+}
+
+#[test]
+fn numbers_may_come_in_any_order(rt: HostRuntime) {
+    let all: [&[&str]; 4] = [
+        &["heap_tool", "run", "--workers", "64", "--cut", "1"],
+        &["heap_tool", "run", "--cut=1", "--workers=64"],
+        &[
+            "heap_tool",
+            "run",
+            "--image",
+            "--cut",
+            "256",
+            "--workers",
+            "3",
+        ],
+        &["heap_tool", "run", "--workers", "2"],
+    ];
+    for words in all {
+        let (status, text) = answer_for(&rt, rt.alloc(), words, SWEPT.as_bytes(), 1000);
+        assert_eq!(rt; status, 0);
+        assert_eq!(rt; text.as_slice(), SWEPT_REPORT.as_bytes());
+    }
+}
+
 #[test]
 fn faulty_texts_are_not_run(rt: HostRuntime) {
     let rows = [

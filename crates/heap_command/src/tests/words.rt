@@ -64,7 +64,7 @@ fn words_are_shown(rt: HostRuntime) {
 
 #[test]
 fn other_words_are_refused(rt: HostRuntime) {
-    let all: [&[&str]; 27] = [
+    let all: [&[&str]; 25] = [
         &[],
         &["heap_tool"],
         &["heap_tool", "00000000000000000000000000000000"],
@@ -72,8 +72,6 @@ fn other_words_are_refused(rt: HostRuntime) {
         &["heap_tool", "run", "trace"],
         &["heap_tool", "run", "--image", "--image"],
         &["heap_tool", "run", "--image=true"],
-        &["heap_tool", "run", "--workers", "1"],
-        &["heap_tool", "run", "--cut", "16"],
         &["heap_tool", "run", "run"],
         &["heap_tool", "run", "--help"],
         &["heap_tool", "--frob"],
@@ -97,6 +95,41 @@ fn other_words_are_refused(rt: HostRuntime) {
             "--frob",
             "00000000000000000000000000000000",
         ],
+    ];
+    for words in all {
+        let (status, text) = answer(&rt, rt.alloc(), words, 1000, 1000);
+        assert_eq!(rt; status, 2);
+        assert_eq!(rt; text.as_slice(), USAGE.as_bytes());
+    }
+}
+
+#[test]
+fn other_numbers_are_refused(rt: HostRuntime) {
+    let rows = [
+        ("--workers", "0"),
+        ("--workers", "65"),
+        ("--workers", "x"),
+        ("--workers", "-1"),
+        ("--workers", ""),
+        ("--cut", "0"),
+        ("--cut", "257"),
+        ("--cut", "x"),
+        ("--cut", "-1"),
+        ("--cut", ""),
+    ];
+    for (option, value) in rows {
+        let words = ["heap_tool", "run", option, value];
+        let (status, text) = answer(&rt, rt.alloc(), &words, 1000, 1000);
+        assert_eq!(rt; status, 2);
+        assert_eq!(rt; text.as_slice(), USAGE.as_bytes());
+    }
+    let all: [&[&str]; 6] = [
+        &["heap_tool", "run", "--workers"],
+        &["heap_tool", "run", "--cut"],
+        &["heap_tool", "run", "--workers", "--cut"],
+        &["heap_tool", "run", "--workers", "2", "--workers", "2"],
+        &["heap_tool", "run", "--cut", "2", "--cut", "2"],
+        &["heap_tool", "--workers", "2", "run"],
     ];
     for words in all {
         let (status, text) = answer(&rt, rt.alloc(), words, 1000, 1000);

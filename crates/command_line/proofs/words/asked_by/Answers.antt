@@ -4,8 +4,9 @@ use Rattle.clap.specs.Matches.{subcommand_name_of}
 use Rattle.clap.proofs.WalkLemmas.{first_value-rows}
 use Rattle.clap.specs.Walk.{texts}
 use Rattle.clap.specs.declared.parser.matches.ArgMatches.{ArgMatches}
-use Rattle.command_line.specs.Words.{AreTaken, Names, subcommand_named}
-use Rattle.command_line.specs.Laws.{Names-unique}
+use Rattle.command_line.specs.Words.{AreTaken, Names, NamesRun, NamesWord, subcommand_named}
+use Rattle.command_line.specs.Laws.{NamesRun-unique, NamesWord-unique, Names-unique}
+use Rattle.command_line.specs.NumberLaws.{GivesNumber-cut, GivesNumber-workers}
 use Rattle.command_line.proofs.words.asked_by.Goals as goal
 
 both : {B N R : Type 0} (f : B → N) (g : B → R) (n : N) (r : R) (o : Option B) → option_map f o ≡ Some n → option_map (λ (p : N × R). p.1) (option_map {U = N × R} (λ b. (f b, g b)) o) ≡ Some r
@@ -44,3 +45,33 @@ returns-clause-ok c =
       names = names_this (texts c.args.words.now) c.in-Ok.matches (codes "word") inner c.in-Ok.ensures.taken c.in-Ok.ensures.matches (search rules) c.in-Some.ensures.rows;
       value = search (rules, first_value-rows);
     }
+
+pub returns-clause-only : goal.returns-clause-only
+returns-clause-only c = λ other named.
+    let inner = rows_of (found_of c.in-Some.inner.now) in
+    let own : NamesWord (texts c.args.words.now) c.in-Some-get_str.hex.now = record {
+      rows = inner;
+      names = names_this (texts c.args.words.now) c.in-Ok.matches (codes "word") inner c.in-Ok.ensures.taken c.in-Ok.ensures.matches (search rules) c.in-Some.ensures.rows;
+      value = search (rules, first_value-rows);
+    } in
+    NamesWord-unique (texts c.args.words.now) other c.in-Some-get_str.hex.now named own
+
+pub returns-then-eq-clause-only : goal.returns-then-eq-clause-only
+returns-then-eq-clause-only c = λ other named.
+    let inner = rows_of (found_of c.in-Some.inner.now) in
+    let own : NamesRun (texts c.args.words.now) c.options_of.result = record {
+      rows = inner;
+      names = names_this (texts c.args.words.now) c.in-Ok.matches (codes "run") inner c.in-Ok.ensures.taken c.in-Ok.ensures.matches (search rules) c.in-Some.ensures.rows;
+      set = c.options_of.ensures;
+    } in
+    NamesRun-unique (texts c.args.words.now) other c.options_of.result named own
+
+pub options_of-requires-clause-workers : goal.options_of-requires-clause-workers
+options_of-requires-clause-workers c =
+    let names = names_this (texts c.args.words.now) c.in-Ok.matches (codes "run") (rows_of (found_of c.in-Some.inner.now)) c.in-Ok.ensures.taken c.in-Ok.ensures.matches (search rules) c.in-Some.ensures.rows in
+    GivesNumber-workers (texts c.args.words.now) _ c.in-Ok.ensures.taken names.subcommand
+
+pub options_of-requires-clause-cut : goal.options_of-requires-clause-cut
+options_of-requires-clause-cut c =
+    let names = names_this (texts c.args.words.now) c.in-Ok.matches (codes "run") (rows_of (found_of c.in-Some.inner.now)) c.in-Ok.ensures.taken c.in-Ok.ensures.matches (search rules) c.in-Some.ensures.rows in
+    GivesNumber-cut (texts c.args.words.now) _ c.in-Ok.ensures.taken names.subcommand

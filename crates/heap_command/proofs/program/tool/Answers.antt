@@ -1,5 +1,6 @@
 use Rattle.std.proofs.Common.{ap, rules, Err}
 use Rattle.command_line.specs.Words.{NamesRun, NamesWord, texts}
+use Rattle.command_line.specs.Laws.{NamesRun-limits}
 use Rattle.heap_command.specs.Answer.{IsAnswer, lacks_memory, refusal_line, refusal_status, status_of, text_of}
 use Rattle.heap_command.proofs.AnswerLaws.{Answers-told, BeginsAnswer-told, BeginsAnswer-unwritten, IsAnswer-refusal, IsAnswer-run, IsAnswer-word}
 use Rattle.heap_command.proofs.program.tool.Given.{Over}
@@ -19,6 +20,9 @@ pub returns-in-Ok-Word-clause-part : goal.returns-in-Ok-Word-clause-part
 returns-in-Ok-Word-clause-part g c = λ e. BeginsAnswer-told _ _ _ _ _ _ _ (word_is g c) (c.tell.ensures.part e)
 
 -- ---- the run of a trace
+
+pub run_answer-requires-clause-limits : goal.run_answer-requires-clause-limits
+run_answer-requires-clause-limits g c = λ lifetimes outlives. NamesRun-limits (texts c.args.words.now) c.in-Ok-Run.options (search rules)
 
 run_is : (g : Over) (c : goal.After-drop-text g) → IsAnswer (texts c.args.words.now) (g.I.Source.remaining c.args.reader.now) (g.I.Source.remaining c.read_text.new.reader) (status_of c.run_answer.result) (text_of c.run_answer.result)
 run_is g c =
