@@ -24,9 +24,9 @@ pub enum Asked<'a> {
 pub struct Options {
     /// Whether the image is written after the report.
     pub image: bool,
-    /// How many workers a sweep has at most, from 1 to 64.
+    /// How many workers sweep, from 1 to 64.
     pub workers: u32,
-    /// How many pages one task of a sweep has at most, from 1 to 256.
+    /// How many pages each task of a sweep has, from 1 to 256.
     pub pages_per_task: u32,
 }
 
