@@ -4,3 +4,4 @@ mod image;
 mod machine;
 mod runs;
 mod sweeps;
+mod workers;

@@ -17,15 +17,16 @@ use sweep_pool::{Cutting, Gate, sweep_masks, swept_registers};
 use tag_memory::{REGISTERS, Registers, bit};
 use trace_text::Command;
 
-// To decode the words of so many granules takes about as long as to start a thread.
-const GRANULES_A_START: usize = 3000;
+// To decode the words of so many granules takes longer than a worker more costs: the start of its thread,
+// and its tries of the tasks that others have claimed.
+const GRANULES_A_WORKER: usize = 16_000;
 
-// How a pass over so many tagged granules is cut: no worker more than is worth its start.
+// How a pass over so many tagged granules is cut: a worker is started only where its work is worth it.
 fn cutting_for(cutting: Cutting, tagged: usize) -> Cutting
     ensures pages { result.pages_per_task ≡ cutting.pages_per_task }
     ensures workers { result.workers ≤ cutting.workers }
 {
-    let worthwhile = tagged / GRANULES_A_START + 1;
+    let worthwhile = tagged / GRANULES_A_WORKER + 1;
     let workers = worthwhile.min(cutting.workers() as usize) as u32;
     Cutting::new(workers, cutting.pages_per_task()).unwrap()
 }
