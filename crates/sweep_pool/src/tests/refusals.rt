@@ -1,0 +1,99 @@
+//! Sweeps of which an allocation or a thread is refused. Each `refused_allocation` is run with each of its
+//! allocations refused in turn, and so the `refused_thread` with each of its threads.
+
+use super::pool::{WANTED, tagged_memory};
+use super::{BASE, held_shadow};
+use crate::{Cutting, Open, SweepFault, Swept, sweep_masks, sweep_next, sweep_task};
+use heap_core::Shadow;
+use mark_board::Board;
+use std::alloc::Global;
+use std::test::Fail;
+use tag_memory::Memory;
+
+// The memory of seven pages and the shadow, unless an allocation was refused.
+fn swept_things(alloc: Global) -> Option<(Memory, Shadow)> {
+    let memory = tagged_memory(alloc).ok()?;
+    let shadow = held_shadow(alloc).ok()?;
+    Some((memory, shadow))
+}
+
+#[test]
+fn a_refused_allocation_of_a_sweep_by_one_is_told(rt: HostRuntime) -> Result<(), Fail> {
+    let cutting = Cutting::new(1, 3)?;
+    let Some((memory, shadow)) = swept_things(rt.alloc()) else {
+        return Ok(());
+    };
+    match sweep_masks(&rt, rt.alloc(), &memory, &shadow, &cutting, &Open) {
+        Ok(masks) => assert_eq!(rt; masks.as_slice(), WANTED.as_slice()),
+        Err(fault) => assert_eq!(rt; fault, SweepFault::Memory),
+    }
+    Ok(())
+}
+
+#[test]
+fn a_refused_allocation_of_a_sweep_by_two_is_told(rt: HostRuntime) -> Result<(), Fail> {
+    let cutting = Cutting::new(2, 3)?;
+    let Some((memory, shadow)) = swept_things(rt.alloc()) else {
+        return Ok(());
+    };
+    match sweep_masks(&rt, rt.alloc(), &memory, &shadow, &cutting, &Open) {
+        Ok(masks) => assert_eq!(rt; masks.as_slice(), WANTED.as_slice()),
+        Err(fault) => assert_eq!(rt; fault, SweepFault::Memory),
+    }
+    Ok(())
+}
+
+#[test]
+fn a_refused_allocation_of_a_task_is_told(rt: HostRuntime) -> Result<(), Fail> {
+    let cutting = Cutting::new(2, 3)?;
+    let Some((memory, shadow)) = swept_things(rt.alloc()) else {
+        return Ok(());
+    };
+    assert!(rt; cutting.tasks(memory.pages()) > 2);
+    match sweep_task(rt.alloc(), &memory, &shadow, &cutting, 2) {
+        Ok(swept) => {
+            assert_eq!(rt; swept.task, 2);
+            assert_eq!(rt; swept.masks.as_slice(), [0, 0, 0, 1 << 63].as_slice());
+        }
+        Err(fault) => assert_eq!(rt; fault, SweepFault::Memory),
+    }
+    Ok(())
+}
+
+// A refused claim leaves task 0 unmarked.
+#[test]
+fn a_refused_allocation_of_a_claim_leaves_the_task(rt: HostRuntime) -> Result<(), Fail> {
+    let cutting = Cutting::new(1, 1)?;
+    let Ok(memory) = Memory::new(rt.alloc(), BASE, 2) else {
+        return Ok(());
+    };
+    let Ok(shadow) = held_shadow(rt.alloc()) else {
+        return Ok(());
+    };
+    let tasks = cutting.tasks(memory.pages());
+    assert!(rt; tasks == 2);
+    let Ok((board, mut seat)) = Board::new(rt.alloc(), 2, 1) else {
+        return Ok(());
+    };
+    match sweep_next(rt.alloc(), &board, &mut seat, &memory, &shadow, &cutting, 0) {
+        Ok(next) => {
+            assert_eq!(rt; next.map(|swept| swept.task), Some(0));
+            assert_eq!(rt; board.mark(&mut seat, 0, 1), 0);
+        }
+        Err(fault) => {
+            assert_eq!(rt; fault, SweepFault::Memory);
+            assert_eq!(rt; board.mark(&mut seat, 0, 1), 1);
+        }
+    }
+    Ok(())
+}
+
+#[test]
+fn a_refused_thread_of_a_sweep_changes_nothing(rt: HostRuntime) -> Result<(), Fail> {
+    let cutting = Cutting::new(4, 1)?;
+    let memory = tagged_memory(rt.alloc())?;
+    let shadow = held_shadow(rt.alloc())?;
+    let masks = sweep_masks(&rt, rt.alloc(), &memory, &shadow, &cutting, &Open)?;
+    assert_eq!(rt; masks.as_slice(), WANTED.as_slice());
+    Ok(())
+}
