@@ -1,15 +1,10 @@
 -- What a worker comes to, and what all do together: the tasks of their lists are all tasks, each once.
-use Rattle.std.proofs.Common.{◌≡◌, ◌≢◌, ℕ, zero, suc, ◌+◌, ◌*◌, ◌/◌, ◌%◌, ◌^◌, ◌<◌, ◌≤◌, All, Bool, List, [], ◌∷◌, ◌++◌, length, take, Some, arith, subst, sym, ap, ◌∙◌, refl}
+use Rattle.std.proofs.Common.{◌≡◌, ℕ, zero, suc, ◌+◌, ◌/◌, ◌<◌, ◌≤◌, All, Bool, List, [], ◌∷◌, ◌++◌, length, take, Some, arith, subst, sym, ap, ◌∙◌, refl}
 use Rattle.std.specs.Prelude.{slice_get}
-use mathlib.Core.Logic.{dite}
-use Rattle.std.proofs.Math.Decide.{ℕ_discrete}
 use Rattle.std.proofs.lemmas.List.Elements.{All-append, All-push, All-weaker}
-use Rattle.std.proofs.lemmas.Nat.{div-add-mod'}
-use Rattle.std.proofs.lemmas.Nat.Bits.{bit_at-lt, bit_at-pow_other, bit_at-pow_same}
 use Rattle.std.proofs.lemmas.Option.{get_or_from_slice_get, slice_get_within}
-use Rattle.mark_board.specs.Bits.{Apart, Within, bit, united}
-use Rattle.mark_board.specs.Board.{BoardState, SeatState, no_bits}
-use Rattle.mark_board.specs.Laws.{bit-gains_other, bit-gains_same, bit-none, bit-united}
+use Rattle.mark_board.specs.Bits.{Apart, Within, united}
+use Rattle.mark_board.specs.Board.{SeatState}
 use Rattle.sweep_pool.specs.ClaimLaws.{Accounts-join, Accounts-more, HasRun-join, HasRun-next, each_once, times-hit}
 use Rattle.sweep_pool.specs.Claims.{Accounts, AreAllSwept, HasRun, IsDone, claimed, has}
 use Rattle.sweep_pool.specs.Gather.{IsFaultOf, IsSized, IsSwept, times}

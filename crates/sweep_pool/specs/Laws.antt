@@ -1,13 +1,16 @@
 -- What callers of this crate need of tasks, and of masks by a heap's shadow.
-use Rattle.std.proofs.Common.{◌≡◌, ◌∙◌, ◌<◌, ◌≤◌, ◌+◌, ◌-◌, ◌*◌, ◌/◌, ◌&&◌, ℕ, Bool, false, inl, inr, List, length, get_or, refl, sym, ap, arith}
+use Rattle.std.proofs.Common.{◌≡◌, ◌∙◌, ◌<◌, ◌≤◌, ◌+◌, ◌-◌, ◌*◌, ◌/◌, ◌^◌, ◌==◌, ◌&&◌, ℕ, Bool, false, inl, inr, List, length, get_or, refl, sym, ap, arith}
 use Rattle.std.specs.Prelude.{◌⊎◌}
 use Rattle.std.proofs.Math.Decide.{dec_lt}
 use Rattle.std.proofs.lemmas.Bool.{cases_lt, le-leb, lt-leb}
 use Rattle.std.proofs.lemmas.Bool.Decides.{nat_tests}
-use Rattle.std.proofs.lemmas.List.{get_or_past}
+use Rattle.std.proofs.lemmas.List.{ext_get_or, get_or_past}
 use Rattle.std.proofs.lemmas.List.Elements.{All-weaker}
 use Rattle.std.proofs.lemmas.List.Folds.{list_any_none}
 use Rattle.std.proofs.lemmas.Nat.{mul-le}
+use Rattle.std.proofs.lemmas.Nat.Bits.{bit_at-lt, same_from_bits_below}
+use Rattle.std.specs.Int.{bit_at}
+use Rattle.tag_memory.specs.Laws.{is_set_for-at}
 use mathlib.Core.Logic.{dite}
 use Rattle.heap_core.specs.Blocks.{Span, has_address, lies_in}
 use Rattle.heap_core.specs.Heap.{HeapState, IsInside, IsSound}
@@ -62,6 +65,21 @@ is_hit-takes_tag heap base shadow c of =
 -- Tests that agree have the same masks.
 AreBits-same : (f g : ℕ → Bool) (granules : ℕ) (masks : List ℕ) → ((i : ℕ) → f i ≡ g i) → AreBits f granules masks → AreBits g granules masks
 AreBits-same f g granules masks same are = record { count = are.count; bits = λ i lt. are.bits i lt ∙ same i }
+
+-- Two bits that pass one test are the same bit.
+same_bit : (x y : ℕ) → x < 2 → y < 2 → (x == 1) ≡ (y == 1) → x ≡ y
+same_bit x y x_lt y_lt same = grind (arith, nat_tests)
+
+-- A test has one list of masks, so a memory has one for a shadow, whatever the cutting.
+pub AreBits-unique : (test : ℕ → Bool) (granules : ℕ) (a b : List ℕ) → ((w : ℕ) → get_or a w 0 < 2 ^ 64) → ((w : ℕ) → get_or b w 0 < 2 ^ 64)
+    → AreBits test granules a → AreBits test granules b → a ≡ b
+AreBits-unique test granules a b a_fits b_fits p q =
+    ext_get_or 0 a b (let m = p.count in let n = q.count in omega arith)
+    (λ w lt. same_from_bits_below 64 (get_or a w 0) (get_or b w 0) (a_fits w) (b_fits w)
+    (λ j below.
+    let inside : 64 * w + j < granules = (let m = p.count in omega arith) in
+    same_bit (bit_at (get_or a w 0) j) (bit_at (get_or b w 0) j) (bit_at-lt _ j) (bit_at-lt _ j)
+    (sym (is_set_for-at a w j below) ∙ (p.bits (64 * w + j) inside ∙ (sym (q.bits (64 * w + j) inside) ∙ is_set_for-at b w j below)))))
 
 -- The masks of so many pages are four words for each.
 pub AreBits-words : (test : ℕ → Bool) (pages : ℕ) (masks : List ℕ) → AreBits test (256 * pages) masks → length masks ≡ 4 * pages

@@ -79,6 +79,7 @@ fn sweep_shared<R: Threads + Sync, G: Gate + Sync>(
 // How many workers sweep: no more than there are tasks.
 fn workers_for(memory: &Memory, cutting: &Cutting) -> u32
     ensures some { 0 < result }
+    ensures few { result ≤ cutting.now.workers }
     ensures most { result ≤ 64 }
 {
     let _base = memory.base();

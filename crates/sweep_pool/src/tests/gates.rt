@@ -74,7 +74,10 @@ fn no_more_workers_than_the_cutting_has(rt: HostRuntime) -> Result<(), Fail> {
         };
         let _ = sweep_masks(&rt, rt.alloc(), &memory, &shadow, &cutting, &gate)?;
         let most = gate.most.load(SeqCst);
-        assert!(rt; 1 <= most && most <= u64::from(workers), "{most} of {workers} workers");
+        assert!(rt;
+            1 <= most && most <= u64::from(workers),
+            "{most} of {workers} workers"
+        );
     }
     Ok(())
 }
