@@ -1,6 +1,5 @@
-use Rattle.std.proofs.Common.{◌≡◌, ◌∙◌, ℕ, [], ap, sym, arith}
+use Rattle.std.proofs.Common.{◌≡◌, [], sym, arith}
 use Rattle.heap_core.specs.Blocks.{bytes_of}
-use Rattle.sweep_pool.specs.Sweep.{tags_taken}
 use Rattle.heap_trace.specs.declared.reply.Reply.TheVariants.{Swept}
 use Rattle.heap_trace.specs.State.{State}
 use Rattle.heap_trace.proofs.SweptState.{no_blocks, swept-none, tags_taken-none}
