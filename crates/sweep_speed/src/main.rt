@@ -54,7 +54,10 @@ fn main(rt: HostRuntime) -> io::Result<()> {
             return println!(rt; "no sweep");
         };
         println!(rt; "all tagged: {} tags taken", swept.taken)?;
-        eprintln!(rt; "all tagged, {workers} workers: {} ns a sweep", swept.least.as_nanos())?;
+        eprintln!(rt;
+            "all tagged, {workers} workers: {} ns a sweep",
+            swept.least.as_nanos()
+        )?;
     }
     let Ok(untagged) = Memory::new(rt.alloc(), BASE, PAGES) else {
         return println!(rt; "want of memory");
@@ -69,7 +72,10 @@ fn main(rt: HostRuntime) -> io::Result<()> {
             return println!(rt; "no sweep");
         };
         println!(rt; "untagged: {} tags taken", swept.taken)?;
-        eprintln!(rt; "untagged, {pages} pages a task: {} ns a sweep", swept.least.as_nanos())?;
+        eprintln!(rt;
+            "untagged, {pages} pages a task: {} ns a sweep",
+            swept.least.as_nanos()
+        )?;
     }
     Ok(())
 }
