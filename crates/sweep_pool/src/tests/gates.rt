@@ -129,6 +129,48 @@ fn two_workers_meet(rt: HostRuntime) -> Result<(), Fail> {
     Ok(())
 }
 
+// Keeps the tasks of its first two calls, each as a bit. The first waits for the second, for at most
+// 100,000,000 turns.
+#[derive(Drop)]
+struct Beginnings {
+    calls: AtomicU64,
+    tasks: AtomicU64,
+}
+
+impl Gate for Beginnings {
+    fn pass(&self, task: u32) {
+        let call = self.calls.fetch_add(1, SeqCst);
+        if call >= 2 {
+            return;
+        }
+        let _ = self.tasks.fetch_or(1 << task.min(63), SeqCst);
+        if call != 0 {
+            return;
+        }
+        for _ in 0..100_000_000u32 {
+            if self.calls.load(SeqCst) >= 2 {
+                return;
+            }
+        }
+    }
+}
+
+#[test]
+fn each_worker_begins_with_a_task_of_its_own(rt: HostRuntime) -> Result<(), Fail> {
+    let memory = Memory::new(rt.alloc(), BASE, 8)?;
+    let shadow = held_shadow(rt.alloc())?;
+    let cutting = Cutting::new(2, 1)?;
+    for run in 0..100 {
+        let gate = Beginnings {
+            calls: AtomicU64::new(0),
+            tasks: AtomicU64::new(0),
+        };
+        let _ = sweep_masks(&rt, rt.alloc(), &memory, &shadow, &cutting, &gate)?;
+        assert_eq!(rt; gate.tasks.load(SeqCst), 0x11, "run {run}");
+    }
+    Ok(())
+}
+
 #[test]
 fn a_held_worker_leaves_its_tasks_to_others(rt: HostRuntime) -> Result<(), Fail> {
     let memory = Memory::new(rt.alloc(), BASE, 8)?;
