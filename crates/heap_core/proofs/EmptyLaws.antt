@@ -1,21 +1,20 @@
 -- The table of a heap with no block.
-use Rattle.std.proofs.Common.{◌≡◌, ◌<◌, ◌+◌, ◌*◌, ℕ, zero, suc, Bool, true, false, List, [], ◌∷◌, length, get_or, replicate, refl, sym, ◌∙◌, arith}
+use Rattle.std.proofs.Common.{◌≡◌, ◌+◌, ◌*◌, ℕ, zero, suc, Bool, true, false, List, [], length, get_or, replicate, refl, sym, ◌∙◌, arith}
 use Rattle.std.proofs.lemmas.Bool.{le-ltb}
-use Rattle.std.proofs.lemmas.Bool.Decides.{nat_tests}
 use Rattle.std.proofs.lemmas.List.{length-replicate}
 use Rattle.heap_core.specs.Heap.{empty_heap}
-use Rattle.heap_core.specs.Table.{AreFree, IsTable, blocks_of, is_held, is_live, is_taken, table_state}
+use Rattle.heap_core.specs.Table.{IsTable, blocks_of, is_held, is_live, is_taken, table_state}
 use Rattle.tag_memory.specs.Span.{is_base, is_size}
 
 abbrev pub zeros : ℕ → List ℕ
 zeros n = replicate n 0
 
-get_or-zeros : (n k : ℕ) → get_or (zeros n) k 0 ≡ 0
+pub get_or-zeros : (n k : ℕ) → get_or (zeros n) k 0 ≡ 0
 get_or-zeros zero k = refl
 get_or-zeros (suc n) zero = refl
 get_or-zeros (suc n) (suc k) = get_or-zeros n k
 
-is_taken-zeros : (n k : ℕ) → is_taken k (zeros n) ≡ false
+pub is_taken-zeros : (n k : ℕ) → is_taken k (zeros n) ≡ false
 is_taken-zeros zero k = refl
 is_taken-zeros (suc n) zero = refl
 is_taken-zeros (suc n) (suc k) = rw (le-ltb (suc k) 0 (omega arith)) (is_taken-zeros n k)
@@ -36,15 +35,6 @@ IsTable-zeros base n pages count size place =
       place = place;
       inside = λ j lt. omega (arith, get_or-zeros n j);
       apart = λ j k lt block. absurd (omega (arith, get_or-zeros n k));
-    }
-
--- All its granules are one extent.
-pub AreFree-zeros : (n : ℕ) → 0 < n → AreFree (zeros n) (record { start = 0; length = n } ∷ [])
-AreFree-zeros n some =
-    let long : length (zeros n) ≡ n = length-replicate n zero in
-    record {
-      gapped = rw long (omega arith, (some, (omega arith, tt)));
-      free = λ k lt. rw is_taken-zeros (grind (arith, nat_tests));
     }
 
 pub table_state-zeros : (base n pages : ℕ) → n ≡ 256 * pages

@@ -1,8 +1,8 @@
 -- The blocks of a table whose marks pass a test, as lengths and as a list.
-use Rattle.std.proofs.Common.{◌≡◌, ◌<◌, ◌≤◌, ◌+◌, ◌*◌, inl, inr, nat_lt, ◌&&◌, not, ℕ, zero, suc, Bool, true, false, cond, List, [], ◌∷◌, length, get_or, refl, sym, ap, ◌∙◌, subst, arith}
+use Rattle.std.proofs.Common.{◌≡◌, ◌<◌, ◌≤◌, ◌+◌, ◌*◌, inl, inr, nat_lt, ◌&&◌, not, ℕ, zero, suc, Bool, true, false, cond, List, [], ◌∷◌, length, get_or, replicate, refl, sym, ap, ◌∙◌, subst, arith}
 use Rattle.std.proofs.lemmas.Bool.{and_from, cases_Bool, cases_lt, lt-ltb, true≢false}
 use Rattle.std.proofs.lemmas.Bool.Decides.{nat_tests}
-use Rattle.std.proofs.lemmas.List.{ext_get_or}
+use Rattle.std.proofs.lemmas.List.{ext_get_or, length-replicate}
 use Rattle.std.proofs.lemmas.List.Folds.{list_any_none}
 use Rattle.std.specs.List.{list_any}
 use Rattle.heap_core.specs.Blocks.{Span, has_address, lies_in}
@@ -138,7 +138,7 @@ lies_in-blocks_of keeps base a k lengths marks same from before lt =
 
 -- Its live blocks are those of the whole table.
 pub live_blocks-kept : (base i : ℕ) (lengths : List ℕ) (marks : List Bool) → length marks ≡ length lengths
-    → blocks_of is_live base i (kept_lengths is_live lengths marks) marks ≡ blocks_of is_live base i lengths marks
+    → blocks_of is_live base i (kept_lengths is_live lengths marks) (replicate (length lengths) false) ≡ blocks_of is_live base i lengths marks
 live_blocks-kept base i [] marks same = refl
 live_blocks-kept base i (n ∷ lengths) [] same = absurd (omega arith)
 live_blocks-kept base i (n ∷ lengths) (mark ∷ marks) same =
@@ -149,7 +149,7 @@ live_blocks-kept base i (n ∷ lengths) (mark ∷ marks) same =
 
 -- It has no held blocks.
 pub held_blocks-kept : (base i : ℕ) (lengths : List ℕ) (marks : List Bool) → length marks ≡ length lengths
-    → blocks_of is_held base i (kept_lengths is_live lengths marks) marks ≡ []
+    → blocks_of is_held base i (kept_lengths is_live lengths marks) (replicate (length lengths) false) ≡ []
 held_blocks-kept base i [] marks same = refl
 held_blocks-kept base i (n ∷ lengths) [] same = absurd (omega arith)
 held_blocks-kept base i (n ∷ lengths) (mark ∷ marks) same =
@@ -158,11 +158,12 @@ held_blocks-kept base i (n ∷ lengths) (mark ∷ marks) same =
       | inr is ↦ rw (is, held_blocks-kept base (i + 1) lengths marks (omega arith)) (grind arith)
     ]
 
-pub IsTable-kept : (base : ℕ) (lengths : List ℕ) (marks : List Bool) → IsTable base lengths marks → IsTable base (kept_lengths is_live lengths marks) marks
+pub IsTable-kept : (base : ℕ) (lengths : List ℕ) (marks : List Bool) → IsTable base lengths marks
+    → IsTable base (kept_lengths is_live lengths marks) (replicate (length lengths) false)
 IsTable-kept base lengths marks table =
     let long : length (kept_lengths is_live lengths marks) ≡ length lengths = length-kept_lengths is_live lengths marks table.same in
     record {
-      same = table.same ∙ sym long;
+      same = length-replicate (length lengths) false ∙ sym long;
       pages = table.pages;
       count = long ∙ table.count;
       size = table.size;
@@ -172,6 +173,6 @@ IsTable-kept base lengths marks table =
     }
 
 pub table_state-kept : (base : ℕ) (lengths : List ℕ) (marks : List Bool) → length marks ≡ length lengths
-    → table_state base (kept_lengths is_live lengths marks) marks ≡ without_held (table_state base lengths marks)
+    → table_state base (kept_lengths is_live lengths marks) (replicate (length lengths) false) ≡ without_held (table_state base lengths marks)
 table_state-kept base lengths marks same =
     rw (length-kept_lengths is_live lengths marks same, live_blocks-kept base 0 lengths marks same, held_blocks-kept base 0 lengths marks same) refl

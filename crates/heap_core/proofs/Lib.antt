@@ -1,14 +1,13 @@
 pub mod BlockLaws
 pub mod EmptyLaws
-pub mod ExtentLaws
-pub mod FreeLaws
 pub mod KeptLaws
-pub mod PassLaws
 pub mod PlaceLaws
 pub mod QuarantineLaws
+pub mod RowLaws
 pub mod RunLaws
 pub mod ShadowLaws
 pub mod SizeLaws
 pub mod SoundLaws
 pub mod SpanLaws
+pub mod StoredLaws
 pub mod SumLaws

@@ -1,6 +1,6 @@
 -- The granules that the blocks of a table take, and the runs that they leave free.
 use Rattle.std.proofs.Common.{◌≡◌, ◌<◌, ◌≤◌, ◌+◌, ◌*◌, ◌⊎◌, inl, inr, nat_lt, ◌||◌, ℕ, zero, suc, Bool, true, false, List, [], ◌∷◌, length, get_or, set, length-set, refl, sym, ap, ◌∙◌, arith}
-use Rattle.std.proofs.lemmas.Bool.{cases_eq, cases_lt, lt-ltb, ltb-true, or_cases, true≢false}
+use Rattle.std.proofs.lemmas.Bool.{cases_Bool, cases_eq, cases_lt, lt-ltb, ltb-true, or_cases, true≢false}
 use Rattle.std.proofs.lemmas.Bool.Decides.{nat_tests}
 use Rattle.std.proofs.lemmas.List.{get_or-set_other, get_or-set_same}
 use Rattle.heap_core.specs.Blocks.{blocks_with}
@@ -25,6 +25,14 @@ is_taken_by (n ∷ lengths) (suc k) is =
     elim (or_cases (nat_lt (suc k) n) (is_taken k lengths) is) [
       | inl here ↦ (0, (omega arith, omega (arith, ltb-true (suc k) n here)))
       | inr later ↦ (let by = is_taken_by lengths k later in (suc by.0, (omega (arith, by.1.0), omega (arith, by.1.1))))
+    ]
+
+-- A granule into which no block reaches is in none.
+pub is_taken_none : (lengths : List ℕ) (k : ℕ) → ((j : ℕ) → j ≤ k → j + get_or lengths j 0 ≤ k) → is_taken k lengths ≡ false
+is_taken_none lengths k ends =
+    elim (cases_Bool (is_taken k lengths)) [
+      | inl taken ↦ (let by = is_taken_by lengths k taken in absurd (omega (arith, by.1.0, by.1.1, ends by.0 by.1.0)))
+      | inr free ↦ free
     ]
 
 -- A block at a granule where none started takes no granule outside it.

@@ -1,7 +1,9 @@
 pub mod Blocks
-pub mod Extents
+pub mod Consistent
 pub mod Heap
 pub mod Place
 pub mod Quarantine
+pub mod Rows
 pub mod Shadow
+pub mod Stored
 pub mod Table

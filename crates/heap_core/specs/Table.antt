@@ -1,12 +1,14 @@
--- How a heap is stored: as a table, which has for each granule the length in granules of the block
--- that starts there, or 0, and a mark that says whether that block is held; and as free extents.
-use Rattle.std.specs.Prelude.{◌≡◌, ◌<◌, ◌≤◌, ◌+◌, ◌-◌, ◌*◌, ◌%◌, nat_lt, ◌&&◌, ◌||◌, not, if◌then◌else◌, ℕ, zero, suc, Bool, true, false, List, [], ◌∷◌, ◌++◌, length, slice_index, vec_capacity}
-use Rattle.heap_core.specs.Blocks.{Span, bytes_of}
-use Rattle.heap_core.specs.Extents.{IsGapped, covers}
+-- A heap as a table, which has for each granule the length in granules of the block that starts there,
+-- or 0, and a mark that says whether that block is held.
+use Rattle.std.specs.Prelude.{◌≡◌, ◌<◌, ◌≤◌, ◌+◌, ◌*◌, ◌%◌, nat_lt, ◌&&◌, ◌||◌, not, if◌then◌else◌, ℕ, zero, suc, Bool, true, false, List, [], ◌∷◌, ◌++◌, length, slice_index}
+use Rattle.heap_core.specs.Blocks.{Span}
 use Rattle.heap_core.specs.Heap.{HeapState}
-use Rattle.heap_core.specs.declared.extent.Extent.{Extent}
-use Rattle.heap_core.specs.declared.heap.Heap.TheInside.{Inside}
 use Rattle.tag_memory.specs.Span.{is_base, is_size}
+
+-- The table of a heap.
+pub record TableState : Type 0 where
+  pub lengths : List ℕ
+  pub marks : List Bool
 
 -- The blocks whose marks pass the test, of a table that begins at granule i.
 abbrev pub blocks_of : (Bool → Bool) → ℕ → ℕ → List ℕ → List Bool → List Span
@@ -32,10 +34,6 @@ table_state base lengths marks = record {
   live = blocks_of is_live base 0 lengths marks;
   held = blocks_of is_held base 0 lengths marks;
 }
-
--- What a caller sees of a heap.
-abbrev pub state_of : Inside → HeapState
-state_of h = table_state h.base h.lengths.items h.held.items
 
 -- Granule k lies in a block.
 abbrev pub is_taken : ℕ → List ℕ → Bool
@@ -78,26 +76,3 @@ pub record IsTable (base : ℕ) (lengths : List ℕ) (marks : List Bool) : Type 
   pub place : is_base base pages ≡ true
   pub inside : (j : ℕ) → j < length lengths → j + slice_index lengths j ≤ length lengths
   pub apart : (j k : ℕ) → j < k → 0 < slice_index lengths k → j + slice_index lengths j ≤ k
-
--- The extents are the granules that lie in no block.
-pub record AreFree (lengths : List ℕ) (extents : List Extent) : Type 0 where
-  pub gapped : IsGapped 0 (length lengths) extents
-  pub free : (k : ℕ) → k < length lengths → covers extents k ≡ not (is_taken k lengths)
-
--- The extents are those of the first `at` granules, across which no block reaches. Unless all granules
--- are done, a block ends at `at`, or nothing is done yet.
-pub record AreFreeUpTo (lengths : List ℕ) (extents : List Extent) (at : ℕ) : Type 0 where
-  pub within : at ≤ length lengths
-  pub whole : (j : ℕ) → j < at → j + slice_index lengths j ≤ at
-  pub gapped : IsGapped 0 at extents
-  pub gap : at < length lengths → IsGapped 0 (at - 1) extents
-  pub free : (k : ℕ) → k < at → covers extents k ≡ not (is_taken k lengths)
-
--- The parts of a heap agree, and there is room for as many extents as there can be: since no two
--- touch, half as many as granules.
-pub record IsConsistent (h : Inside) : Type 0 where
-  pub table : IsTable h.base h.lengths.items h.held.items
-  pub extents : AreFree h.lengths.items h.extents.items
-  pub live : 16 * h.live_granules ≡ bytes_of (blocks_of is_live h.base 0 h.lengths.items h.held.items)
-  pub held : 16 * h.held_granules ≡ bytes_of (blocks_of is_held h.base 0 h.lengths.items h.held.items)
-  pub room : length h.lengths.items < 2 * vec_capacity h.extents

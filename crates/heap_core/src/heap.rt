@@ -10,9 +10,8 @@ ghost use Rattle.tag_memory.specs.Span as span;
 mod quarantine;
 
 use crate::block::{Block, granules_for, shape_for};
-use crate::extent::{Extent, first_fit};
 use crate::fault::HeapFault;
-use crate::table::put_block;
+use crate::table::Table;
 use std::alloc::Global;
 use std::marker::Model;
 use tag_memory::{GRANULE, PAGE_GRANULES, is_base, is_size};
@@ -21,12 +20,8 @@ use tag_memory::{GRANULE, PAGE_GRANULES, is_base, is_size};
 #[derive(Drop)]
 pub struct Heap {
     base: u64,
-    // For each granule the length, in granules, of the block that starts there, or 0.
-    lengths: Vec<u32>,
-    // For each granule whether the block that starts there is held.
-    held: Vec<bool>,
-    // The free granules, by rising start, each extent as long as it can be.
-    extents: Vec<Extent>,
+    // The blocks, and which are held.
+    table: Table,
     // How many granules lie in live blocks.
     live_granules: u32,
     // How many granules lie in held blocks.
@@ -38,7 +33,7 @@ impl Model for Heap {
 
     ghost Value = { HeapState };
 
-    ghost use Rattle.heap_core.specs.Table.{IsConsistent, state_of};
+    ghost use Rattle.heap_core.specs.Consistent.{IsConsistent, state_of};
 
     ghost view = { state_of };
 
@@ -73,22 +68,10 @@ impl Heap {
         ensures memory { IsOkUnless result HeapFault.Memory }
         ensures empty { IfOk result (λ heap. heap ≡ empty_heap base pages) }
     {
-        let granules = PAGE_GRANULES * pages;
-        let count = granules as usize;
-        let lengths = vec![in alloc; 0; count]?;
-        let held = vec![in alloc; false; count]?;
-        // No two extents touch, so there are never more.
-        let mut extents = Vec::with_capacity(alloc, count / 2 + 1)?;
-        let whole = Extent {
-            start: 0,
-            length: granules,
-        };
-        extents.push(whole).unwrap();
+        let table = Table::new(alloc, (PAGE_GRANULES * pages) as usize)?;
         Ok(Heap {
             base,
-            lengths,
-            held,
-            extents,
+            table,
             live_granules: 0,
             held_granules: 0,
         })
@@ -113,19 +96,16 @@ impl Heap {
         ensures sound { IsSound self.new }
     {
         let asked = granules_for(size);
-        if asked > self.lengths.len() as u64 {
+        if asked > self.table.granules() as u64 {
             return Ok(None);
         }
         let shape = shape_for(asked);
-        let origin = self.base / GRANULE;
-        let Some(index) = first_fit(&self.extents, origin, shape) else {
+        let Some(start) = self.table.put(self.base / GRANULE, shape) else {
             return Ok(None);
         };
-        let run = put_block(&mut self.lengths, &mut self.extents, index, origin, shape);
-        self.held[run.start as usize] = false;
-        self.live_granules += run.length;
-        let base = self.base + GRANULE * u64::from(run.start);
-        let top = u128::from(base) + u128::from(GRANULE * u64::from(run.length));
+        self.live_granules += shape.granules as u32;
+        let base = self.base + GRANULE * start as u64;
+        let top = u128::from(base) + u128::from(GRANULE * shape.granules);
         Ok(Some(Block { base, top }))
     }
 
@@ -149,7 +129,7 @@ impl Heap {
         // What holds of every heap.
         ensures sound { IsSound self.now }
     {
-        let granules = self.lengths.len() as u64;
+        let granules = self.table.granules() as u64;
         GRANULE * (granules - u64::from(self.live_granules) - u64::from(self.held_granules))
     }
 }

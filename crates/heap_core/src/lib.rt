@@ -2,10 +2,9 @@
 #![tactic(auto)]
 
 mod block;
-mod extent;
 mod fault;
-mod free;
 mod heap;
+mod rows;
 mod shadow;
 mod table;
 #[cfg(test)]

@@ -1,66 +1,151 @@
-//! The table of a heap, beside the extents that are free in it.
+//! The blocks of a heap, by the granules at which they start.
 
-ghost use Rattle.std.specs.Prelude.{◌≡◌, ◌<◌, ◌≤◌, ◌*◌, ◌^◌, ℕ, length, slice_set, vec_capacity, vec_len, None, Some};
-ghost use Rattle.heap_core.specs.Extents.{first_fit_of};
-ghost use Rattle.heap_core.specs.Table.{AreFree, IsBlockAt, IsFirstRun};
+ghost use Rattle.std.specs.Prelude.{◌≡◌, ◌<◌, ◌≤◌, ◌+◌, ◌*◌, ◌%◌, ◌^◌, ℕ, IfOk, IfSome, false, length, replicate, slice_index, slice_index_or, slice_set, true};
+ghost use Rattle.heap_core.specs.Table.{IsBlockAt, IsFirstRun, IsRun, is_held, is_live, is_taken, kept_lengths};
 
 use crate::block::Shape;
-use crate::extent::{Extent, aligned_start, take_run};
+use crate::rows::Rows;
+use crate::shadow::Shadow;
+use granule_rows::row_bit;
+use std::alloc::{AllocError, Global};
+use std::marker::Model;
 use tag_memory::GRANULE;
 
-// Puts a block of this shape into the extent that the first fit names, as early as it can lie there.
-// Answers the granules that it took.
-pub fn put_block(
-    lengths: &mut Vec<u32>,
-    extents: &mut Vec<Extent>,
-    index: usize,
-    origin: u64,
-    shape: Shape,
-) -> Extent
-    requires limit { length lengths.old.items < 2 ^ 32 }
-    requires room { vec_len extents.old < vec_capacity extents.old }
-    requires free { AreFree lengths.old.items extents.old.items }
-    requires origin { origin ≤ 2 ^ 60 }
-    requires some { 0 < shape.granules }
-    requires unit { 0 < shape.unit }
-    requires unit_limit { shape.unit ≤ 2 ^ 60 }
-    requires fit { first_fit_of origin shape.unit shape.granules extents.old.items ≡ Some index }
-    ensures granules { result.length ≡ shape.granules }
-    ensures first { IsFirstRun origin shape.unit lengths.old.items result.start result.length }
-    ensures block { lengths.new.items ≡ slice_set lengths.old.items result.start result.length }
-    ensures free { AreFree lengths.new.items extents.new.items }
-    ensures capacity { vec_capacity extents.old ≤ vec_capacity extents.new }
-{
-    let extent = extents[index];
-    let run = Extent {
-        start: aligned_start(extent, origin, shape.unit) as u32,
-        length: shape.granules as u32,
-    };
-    take_run(extents, index, extent, run);
-    lengths[run.start as usize] = run.length;
-    run
+/// The blocks over the granules of one heap, and which of them are held.
+#[derive(Drop)]
+pub struct Table {
+    // The length in granules of the block that starts at a granule, where one does. Where none does
+    // an entry may be left over from an earlier block.
+    lengths: Vec<u32>,
+    rows: Rows,
 }
 
-// The granule at which the block from `start` to `top` starts, if it is one, in the table of a heap at
-// `base`.
-pub fn block_index(base: u64, lengths: &[u32], start: u64, top: u128) -> Option<usize>
-    ensures some { (k : ℕ) → result ≡ Some k → IsBlockAt base lengths.now start top k }
-    ensures none { result ≡ None → (k : ℕ) → ¬ IsBlockAt base lengths.now start top k }
-{
-    if start < base {
-        return None;
+impl Model for Table {
+    ghost use Rattle.heap_core.specs.Table.{TableState};
+
+    ghost Value = { TableState };
+
+    ghost use Rattle.heap_core.specs.Stored.{AreStored, view_of};
+
+    ghost view = { view_of };
+
+    ghost invariant = { AreStored };
+}
+
+impl Table {
+    /// The table of so many granules, without blocks.
+    pub fn new(alloc: Global, granules: usize) -> Result<Table, AllocError>
+        requires some { 0 < granules }
+        requires limit { granules ≤ 2 ^ 18 }
+        requires whole { granules % 256 ≡ 0 }
+        ensures lengths { IfOk result (λ table. table.lengths ≡ replicate granules 0) }
+        ensures marks { IfOk result (λ table. table.marks ≡ replicate granules false) }
+    {
+        let lengths = vec![in alloc; 0; granules]?;
+        let rows = Rows::new(alloc, granules)?;
+        Ok(Table { lengths, rows })
     }
-    let offset = start - base;
-    if !offset.is_multiple_of(GRANULE) {
-        return None;
+
+    /// How many granules there are.
+    pub fn granules(&self) -> usize
+        ensures { result ≡ length self.now.lengths }
+    {
+        self.lengths.len()
     }
-    let index = (offset / GRANULE) as usize;
-    if index >= lengths.len() {
-        return None;
+
+    /// Puts a block of this shape at the first granule where it fits, and answers that granule.
+    /// Multiples of its unit are counted from address 0, of which the first granule is granule `origin`.
+    pub fn put(&mut self, origin: u64, shape: Shape) -> Option<usize>
+        requires origin { origin ≤ 2 ^ 60 }
+        requires some { 0 < shape.granules }
+        requires unit { 0 < shape.unit }
+        requires unit_limit { shape.unit ≤ 2 ^ 60 }
+        ensures none { result ≡ None → (p : ℕ) → IsRun self.old.lengths p shape.granules → ¬ ((origin + p) % shape.unit ≡ 0) }
+        ensures unchanged { result ≡ None → self.new ≡ self.old }
+        ensures first { IfSome result (λ p. IsFirstRun origin shape.unit self.old.lengths p shape.granules) }
+        ensures lengths { IfSome result (λ p. self.new.lengths ≡ slice_set self.old.lengths p shape.granules) }
+        ensures marks { IfSome result (λ p. self.new.marks ≡ slice_set self.old.marks p false) }
+    {
+        let granules = shape.granules as usize;
+        let start = self.rows.free.first_multiple(granules, origin, shape.unit)?;
+        self.lengths[start] = shape.granules as u32;
+        self.rows.put(start, granules);
+        Some(start)
     }
-    let bytes = GRANULE * u64::from(lengths[index]);
-    if bytes == 0 || top != u128::from(start) + u128::from(bytes) {
-        return None;
+
+    /// The granule at which the block from `start` to `top` starts, if it is one, in the table of a heap
+    /// at `base`.
+    pub fn block_at(&self, base: u64, start: u64, top: u128) -> Option<usize>
+        ensures some { (k : ℕ) → result ≡ Some k → IsBlockAt base self.now.lengths start top k }
+        ensures none { result ≡ None → (k : ℕ) → ¬ IsBlockAt base self.now.lengths start top k }
+    {
+        if start < base {
+            return None;
+        }
+        let offset = start - base;
+        if !offset.is_multiple_of(GRANULE) {
+            return None;
+        }
+        let index = (offset / GRANULE) as usize;
+        if index >= self.granules() {
+            return None;
+        }
+        let bytes = GRANULE * u64::from(self.length_at(index));
+        if bytes == 0 || top != u128::from(start) + u128::from(bytes) {
+            return None;
+        }
+        Some(index)
     }
-    Some(index)
+
+    /// How many granules the block has that starts at a granule, or 0 where none starts.
+    pub fn length_at(&self, granule: usize) -> u32
+        requires { granule < length self.now.lengths }
+        ensures { result ≡ slice_index self.now.lengths granule }
+    {
+        if row_bit(&self.rows.starts, granule) {
+            self.lengths[granule]
+        } else {
+            0
+        }
+    }
+
+    /// Whether a held block starts at a granule.
+    pub fn is_held_at(&self, granule: usize) -> bool
+        requires { granule < length self.now.lengths }
+        ensures { result ≡ slice_index_or self.now.marks granule false }
+    {
+        row_bit(&self.rows.starts, granule) && row_bit(&self.rows.held, granule)
+    }
+
+    /// Makes the live block that starts at a granule held.
+    pub fn hold(&mut self, granule: usize)
+        requires inside { granule < length self.old.lengths }
+        requires block { 0 < slice_index self.old.lengths granule }
+        requires live { slice_index_or self.old.marks granule false ≡ false }
+        requires end { (j : ℕ) → j < length self.old.lengths → j + slice_index self.old.lengths j ≤ length self.old.lengths }
+        requires apart { (j k : ℕ) → j < k → 0 < slice_index self.old.lengths k → j + slice_index self.old.lengths j ≤ k }
+        ensures lengths { self.new.lengths ≡ self.old.lengths }
+        ensures marks { self.new.marks ≡ slice_set self.old.marks granule true }
+    {
+        let granules = self.length_at(granule);
+        self.rows.hold(granule, granules as usize);
+    }
+
+    /// Takes the held blocks away.
+    pub fn drop_held(&mut self)
+        requires apart { (j k : ℕ) → j < k → 0 < slice_index self.old.lengths k → j + slice_index self.old.lengths j ≤ k }
+        ensures lengths { self.new.lengths ≡ kept_lengths is_live self.old.lengths self.old.marks }
+        ensures marks { self.new.marks ≡ replicate (length self.old.lengths) false }
+    {
+        self.rows.give_back();
+    }
+
+    /// Which granules lie in held blocks.
+    pub fn shadow(&self, alloc: Global) -> Result<Shadow, AllocError>
+        ensures granules { IfOk result (λ shadow. length shadow ≡ length self.now.lengths) }
+        ensures painted { IfOk result (λ shadow. (k : ℕ) → k < length self.now.lengths
+            → slice_index_or shadow k false ≡ is_taken k (kept_lengths is_held self.now.lengths self.now.marks)) }
+    {
+        Shadow::of_row(alloc, &self.rows.held)
+    }
 }

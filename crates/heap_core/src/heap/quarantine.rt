@@ -7,30 +7,28 @@ ghost use Rattle.heap_core.specs.Quarantine.{IsShadow, freed_of, with_held, with
 
 use crate::block::Freed;
 use crate::fault::HeapFault;
-use crate::free::{collect_extents, drop_held};
 use crate::heap::Heap;
-use crate::shadow::{Shadow, paint};
-use crate::table::block_index;
+use crate::shadow::Shadow;
 use std::alloc::Global;
 
 impl Heap {
     /// Gives up the live block with exactly these bounds: it becomes held, and its bytes stay in use
     /// until they are given back. It never errs.
     pub fn release(&mut self, base: u64, top: u128) -> Result<Freed, HeapFault>
-        // A mark of the table is turned, which needs no memory.
+        // Bits are turned, which needs no memory.
         ensures answer { result ≡ Ok (freed_of self.old base top) }
         ensures held { result ≡ Ok Freed.Held → self.new ≡ with_held self.old base top }
         ensures unchanged { ¬ (result ≡ Ok Freed.Held) → self.new ≡ self.old }
         ensures sound { IsSound self.new }
     {
-        let Some(index) = block_index(self.base, &self.lengths, base, top) else {
+        let Some(start) = self.table.block_at(self.base, base, top) else {
             return Ok(Freed::NotBlock);
         };
-        if self.held[index] {
+        if self.table.is_held_at(start) {
             return Ok(Freed::AlreadyHeld);
         }
-        let granules = self.lengths[index];
-        self.held[index] = true;
+        let granules = self.table.length_at(start);
+        self.table.hold(start);
         self.live_granules -= granules;
         self.held_granules += granules;
         Ok(Freed::Held)
@@ -41,13 +39,13 @@ impl Heap {
         ensures memory { IfErr result (λ fault. fault ≡ HeapFault.Memory) }
         ensures shadow { IfOk result (λ shadow. IsShadow self.now shadow) }
     {
-        let Ok(shadow) = paint(alloc, &self.lengths, &self.held) else {
+        let Ok(shadow) = self.table.shadow(alloc) else {
             return Err(HeapFault::Memory);
         };
         Ok(shadow)
     }
 
-    /// Makes room for giving back. A heap has it from its making on, so this never errs.
+    /// Makes room for giving back. A heap needs none, so this never errs.
     pub fn prepare(&mut self) -> Result<(), HeapFault>
         ensures ok { IsOk result }
         ensures unchanged { self.new ≡ self.old }
@@ -59,7 +57,7 @@ impl Heap {
     pub fn is_prepared(&self) -> bool
         ensures { result ≡ true }
     {
-        self.extents.capacity() > self.lengths.len() / 2
+        true
     }
 
     /// Makes the held blocks free, and answers their bytes.
@@ -69,8 +67,7 @@ impl Heap {
         ensures sound { IsSound self.new }
     {
         let bytes = self.held_bytes();
-        drop_held(&mut self.lengths, &self.held);
-        collect_extents(&mut self.extents, &self.lengths);
+        self.table.drop_held();
         self.held_granules = 0;
         bytes
     }

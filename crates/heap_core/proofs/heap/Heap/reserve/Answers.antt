@@ -1,10 +1,8 @@
-use Rattle.std.proofs.Common.{◌≡◌, ◌≤◌, ◌+◌, ◌*◌, ◌/◌, ◌%◌, ◌^◌, ◌∙◌, None, refl, sym, subst, arith, length-set}
+use Rattle.std.proofs.Common.{◌≡◌, ◌≤◌, ◌+◌, ◌*◌, ◌%◌, ◌^◌, refl, subst, arith}
 use Rattle.cap_codec.specs.Rounding.{IsExact, length_for, unit_for}
 use Rattle.heap_core.specs.Blocks.{Span}
-use Rattle.heap_core.specs.Extents.{first_fit_of}
 use Rattle.heap_core.specs.Heap.{IsSound}
 use Rattle.heap_core.specs.Table.{blocks_of, is_live}
-use Rattle.heap_core.proofs.FreeLaws.{extents_have_room, run_is_none}
 use Rattle.heap_core.proofs.PlaceLaws.{IsPlace-from_run, IsRun-from_free, multiple-from_free, too_long}
 use Rattle.heap_core.proofs.RunLaws.{IsTable-set, held_blocks-set, live_blocks-set, table_state-set}
 use Rattle.heap_core.proofs.SizeLaws.{HasShape-shape}
@@ -13,79 +11,69 @@ use Rattle.heap_core.proofs.SpanLaws.{LiesWithin-span, LiesWithin-table}
 use Rattle.heap_core.proofs.SumLaws.{bytes_of-blocks_with, granules_fit}
 use Rattle.heap_core.proofs.heap.Heap.reserve.Goals as goal
 
-pub returns-then-asked-len-clause-none : goal.returns-then-asked-len-clause-none
-returns-then-asked-len-clause-none c =
-    let long = c.if-asked-len.true in
+pub returns-then-asked-granules-clause-none : goal.returns-then-asked-granules-clause-none
+returns-then-asked-granules-clause-none c =
+    let long = c.if-asked-granules.true in
     (λ _ a free. too_long _ _ _ _ _ a c.granules_for-asked.ensures (omega arith) (rw (← c.self.view_is) at free), λ _. refl)
 
-pub returns-then-asked-len-clause-sound : goal.returns-then-asked-len-clause-sound
-returns-then-asked-len-clause-sound c = rw (← c.self.view_is) (IsSound-from_table _ _ _ c.self.invariant.table)
+pub returns-then-asked-granules-clause-sound : goal.returns-then-asked-granules-clause-sound
+returns-then-asked-granules-clause-sound c = rw (← c.self.view_is) (IsSound-from_table _ _ _ c.self.invariant.table)
 
 pub returns-in_default-clause-none : goal.returns-in_default-clause-none
 returns-in_default-clause-none c =
     let h = c.self.invariant in
     let shape = c.shape_for-shape in
-    let has = HasShape-shape c.args.size _ _ _ c.granules_for-asked.ensures shape.ensures.some shape.ensures.granules shape.ensures.unit in
-    let none : first_fit_of (c.self.inside.base / 16) shape.result.unit shape.result.granules c.self.inside.extents.items ≡ None =
-    sym (rw c.deref.ensures.value at c.first_fit.ensures) ∙ c.in_default.is in (
+    let has = HasShape-shape c.args.size _ _ _ c.granules_for-asked.ensures shape.ensures.some shape.ensures.granules shape.ensures.unit in (
       λ _ a given.
           let free = rw (← c.self.view_is) at given in
-          run_is_none _ _ _ _ _ _ h.extents none has.unit_some (IsRun-from_free _ _ _ _ a _ _ h.table has free) (multiple-from_free _ _ _ _ a _ _ h.table has free),
+          c.put.ensures.none c.in_default.is _ (IsRun-from_free _ _ _ _ a _ _ h.table has free) (multiple-from_free _ _ _ _ a _ _ h.table has free),
       λ _. refl,
     )
 
 pub returns-in_default-clause-sound : goal.returns-in_default-clause-sound
-returns-in_default-clause-sound c = rw (← c.self.view_is) (IsSound-from_table _ _ _ c.self.invariant.table)
-
-pub put_block-run-requires-clause-room : goal.put_block-run-requires-clause-room
-put_block-run-requires-clause-room c =
-    let h = c.self.invariant in
-    omega (arith, extents_have_room _ _ _ _ h.extents h.table.count h.room)
+returns-in_default-clause-sound c = rw (c.put.ensures.unchanged c.in_default.is) (IsSound-from_table _ _ _ c.self.invariant.table)
 
 pub overflow_add-self : goal.overflow_add-self
 overflow_add-self c =
     let h = c.self.invariant in
-    let run = c.put_block-run.ensures.first.run in
+    let run = c.in-Some.ensures.first.run in
     omega (arith, granules_fit _ _ _ _ _ h.table h.live h.held, run.end, h.table.count, (LiesWithin-table _ _ _ h.table).limit)
 
-pub invariant_of-self : goal.invariant_of-self
-invariant_of-self c =
+pub invariant_of-self-2 : goal.invariant_of-self-2
+invariant_of-self-2 c =
     let h = c.self.invariant in
-    let put = c.put_block-run in
-    let n = put.result.length in
-    let run = put.ensures.first.run in
-    let block : Span = (c.self.inside.base + 16 * put.result.start, 16 * n) in
-    let live = blocks_of is_live c.self.inside.base 0 c.self.inside.lengths.items c.self.inside.held.items in
+    let put = c.in-Some.ensures in
+    let n = c.shape_for-shape.result.granules in
+    let run = put.first.run in
+    let block : Span = (c.self.inside.base + 16 * c.in-Some.start, 16 * n) in
+    let live = blocks_of is_live c.self.inside.base 0 c.self.inside.table.lengths c.self.inside.table.marks in
     record {
-      table = rw put.ensures.block (IsTable-set _ _ _ put.result.start n h.table run);
-      extents = put.ensures.free;
-      live = rw (put.ensures.block, live_blocks-set _ _ _ put.result.start n h.table.same run) (omega (arith, bytes_of-blocks_with block live, h.live));
-      held = rw (put.ensures.block, held_blocks-set _ _ _ put.result.start n run) h.held;
-      room = rw put.ensures.block (omega (arith, length-set c.self.inside.lengths.items put.result.start n, h.room, put.ensures.capacity));
+      table = rw (put.lengths, put.marks) (IsTable-set _ _ _ c.in-Some.start n h.table run);
+      live = rw (put.lengths, put.marks, live_blocks-set _ _ _ c.in-Some.start n h.table.same run) (omega (arith, bytes_of-blocks_with block live, h.live));
+      held = rw (put.lengths, put.marks, held_blocks-set _ _ _ c.in-Some.start n run) h.held;
     }
 
 pub returns-clause-place : goal.returns-clause-place
 returns-clause-place c =
-    let put = c.put_block-run in
     let shape = c.shape_for-shape in
     let has = HasShape-shape c.args.size _ _ _ c.granules_for-asked.ensures shape.ensures.some shape.ensures.granules shape.ensures.unit in
-    rw (← c.self.view_is, c.from.ensures) (IsPlace-from_run _ _ _ _ _ _ _ c.self.invariant.table has (rw put.ensures.granules at put.ensures.first))
+    rw (← c.self.view_is) (IsPlace-from_run _ _ _ _ _ _ _ c.self.invariant.table has c.in-Some.ensures.first)
 
 pub returns-clause-none : goal.returns-clause-none
 returns-clause-none c = (λ e. cc, λ none. absurd (none _ (returns-clause-place c).free))
 
 pub returns-clause-live : goal.returns-clause-live
 returns-clause-live c =
-    let put = c.put_block-run in
+    let put = c.in-Some.ensures in
     let shape = c.shape_for-shape in
     let has = HasShape-shape c.args.size _ _ _ c.granules_for-asked.ensures shape.ensures.some shape.ensures.granules shape.ensures.unit in
-    rw (← c.self.view_is, c.from.ensures, has.length, put.ensures.block, put.ensures.granules)
-    (table_state-set _ _ _ put.result.start _ c.self.invariant.table.same (rw put.ensures.granules at put.ensures.first.run))
+    rw (← c.self.view_is, has.length, put.lengths, put.marks)
+    (table_state-set _ _ _ c.in-Some.start _ c.self.invariant.table.same put.first.run)
 
 pub returns-clause-sound : goal.returns-clause-sound
 returns-clause-sound c =
-    let put = c.put_block-run in
-    rw put.ensures.block (IsSound-from_table _ _ _ (IsTable-set _ _ _ put.result.start _ c.self.invariant.table put.ensures.first.run))
+    let put = c.in-Some.ensures in
+    rw (put.lengths, put.marks) (IsSound-from_table _ _ _ (IsTable-set _ _ _ c.in-Some.start _ c.self.invariant.table put.first.run))
 
 pub returns-clause-exact : goal.returns-clause-exact
 returns-clause-exact c =
@@ -93,9 +81,9 @@ returns-clause-exact c =
     let shape = c.shape_for-shape.ensures in
     let sound : IsSound c.args.self.now = rw (← c.self.view_is) (IsSound-from_table _ _ _ c.self.invariant.table) in
     let within = LiesWithin-span c.args.self.now.base sound.pages sound.size sound.place in
-    let base = c.self.inside.base + 16 * c.from.result in
+    let base = c.self.inside.base + 16 * c.in-Some.start in
     let length = length_for (16 * c.granules_for-asked.result) in
     let unit : base % unit_for (16 * c.granules_for-asked.result) ≡ 0 = rw c.granules_for-asked.ensures free.unit in
     let end : base + length ≤ 2 ^ 64 = rw c.granules_for-asked.ensures (omega (arith, free.end, within.end, sound.bytes)) in
-    let top : base + length ≡ c.from-2.result + c.from-4.result = omega (arith, shape.granules, c.put_block-run.ensures.granules, c.from.ensures, c.from-2.ensures, c.from-3.ensures, c.from-4.ensures) in
+    let top : base + length ≡ c.from.result + c.from-2.result = omega (arith, shape.granules, c.from.ensures, c.from-2.ensures) in
     subst (IsExact base) top (shape.exact base unit end)

@@ -1,0 +1,184 @@
+-- Runs of ones in words.
+use Rattle.std.proofs.Common.{◌≡◌, ◌≢◌, ◌<◌, ◌≤◌, ◌+◌, ◌-◌, ◌*◌, ◌/◌, ◌%◌, ◌^◌, ◌==◌, ◌&&◌, ℕ, zero, suc, true, false, min, inl, inr, refl, sym, ap, ◌∙◌, subst, arith, bit_and, w64}
+use Rattle.std.proofs.lemmas.Bool.{and_from, and_parts, both_ways, cases_lt}
+use Rattle.std.proofs.lemmas.Nat.{div_below, le-div, leading_length, pow_pos, shr-shr}
+use Rattle.std.proofs.lemmas.Nat.Bits.{bit_at-lt, bit_at-zero, bit_at_above, bit_at_and, bit_at_not, bit_at_ones, bit_at-trailing_zeros}
+use Rattle.std.specs.Int.{bit_at, bit_not, leading_zeros, trailing_zeros}
+use Rattle.granule_rows.specs.Runs.{AreSet, HasRun, IsFirst}
+use Rattle.granule_rows.specs.Tree.{IsLeaf}
+use Rattle.tag_memory.specs.Laws.{same_test}
+use Rattle.tag_memory.specs.Tags.{is_set}
+
+-- ---- bits
+
+pub is_set-shr : (t s i : ℕ) → is_set (t / 2 ^ s) i ≡ is_set t (s + i)
+is_set-shr t s i = same_test _ _ (ap (λ (x : ℕ). x % 2) (shr-shr t s i))
+
+both : (a b : ℕ) → a < 2 → b < 2 → (min a b == 1) ≡ ((a == 1) && (b == 1))
+both zero zero ha hb = refl
+both zero (suc zero) ha hb = refl
+both zero (suc (suc b)) ha hb = absurd (omega arith)
+both (suc zero) zero ha hb = refl
+both (suc zero) (suc zero) ha hb = refl
+both (suc zero) (suc (suc b)) ha hb = absurd (omega arith)
+both (suc (suc a)) b ha hb = absurd (omega arith)
+
+pub is_set-and : (a b i : ℕ) → is_set (bit_and a b) i ≡ (is_set a i && is_set b i)
+is_set-and a b i = same_test _ _ (bit_at_and a b i) ∙ both (bit_at a i) (bit_at b i) (bit_at-lt a i) (bit_at-lt b i)
+
+pub is_set_zero : (i : ℕ) → is_set 0 i ≡ false
+is_set_zero i = same_test _ 0 (bit_at-zero i)
+
+-- a word has no bit from 64 on
+pub set_below : (word i : ℕ) → word < 2 ^ 64 → is_set word i ≡ true → i < 64
+set_below word i fits set = elim (cases_lt i 64) [
+  | inl below ↦ below
+  | inr past ↦ absurd (both_ways _ (same_test _ 0 (bit_at_above word 64 i fits past)) set)
+]
+
+-- the lowest one
+pub lowest : (t : ℕ) → 0 < t → t < 2 ^ 64 → (trailing_zeros w64 t < 64) × (is_set t (trailing_zeros w64 t) ≡ true) × ((i : ℕ) → i < trailing_zeros w64 t → is_set t i ≡ false)
+lowest t some fits =
+    let h = bit_at-trailing_zeros w64 t some fits in
+    (h.0, same_test _ 1 h.1, λ i lt. same_test _ 0 (h.2 i lt))
+
+-- ---- where runs start
+
+-- Bit j of t is 1 where n ones start at bit j of the word.
+pub record AreStarts (word t n : ℕ) : Type 0 where
+  pub runs : (i : ℕ) → is_set t i ≡ true → AreSet (is_set word) i n
+  pub all : (i : ℕ) → AreSet (is_set word) i n → is_set t i ≡ true
+
+pub AreStarts-one : (word : ℕ) → AreStarts word word 1
+AreStarts-one word = record {
+  runs = λ i set. record { each = λ k le lt. (let e : i ≡ k = omega arith in subst (λ (j : ℕ). is_set word j ≡ true) e set) };
+  all = λ i run. run.each i (omega arith) (omega arith);
+}
+
+pub AreStarts-more : (word t m s : ℕ) → AreStarts word t m → s ≤ m → AreStarts word (bit_and t (t / 2 ^ s)) (m + s)
+AreStarts-more word t m s starts le = record {
+  runs = λ i set.
+      let parts = and_parts _ _ (sym (is_set-and t (t / 2 ^ s) i) ∙ set) in
+      let low = starts.runs i parts.0 in
+      let high = starts.runs (s + i) (sym (is_set-shr t s i) ∙ parts.1) in
+      record {
+        each = λ k from to. elim (cases_lt k (i + m)) [
+          | inl before ↦ low.each k from before
+          | inr behind ↦ high.each k (omega arith) (omega arith)
+        ];
+      };
+  all = λ i run.
+      let low = starts.all i (record { each = λ k from to. run.each k from (omega arith) }) in
+      let high = starts.all (s + i) (record { each = λ k from to. run.each k (omega arith) (omega arith) }) in
+      is_set-and t (t / 2 ^ s) i ∙ and_from _ _ low (is_set-shr t s i ∙ high);
+}
+
+pub no_starts : (word t n : ℕ) → AreStarts word t n → t ≡ 0 → (q : ℕ) → AreSet (is_set word) q n → ⊥
+no_starts word t n starts none q run =
+    both_ways _ (ap (λ (x : ℕ). is_set x q) none ∙ is_set_zero q) (starts.all q run)
+
+pub first_start : (word t n : ℕ) → AreStarts word t n → 0 < t → t < 2 ^ 64 → IsFirst (is_set word) 0 n (trailing_zeros w64 t)
+first_start word t n starts some fits =
+    let low = lowest t some fits in
+    record {
+      run = starts.runs _ low.1;
+      after = omega arith;
+      least = λ q from run. elim (cases_lt q (trailing_zeros w64 t)) [
+        | inl before ↦ absurd (both_ways _ (low.2 q before) (starts.all q run))
+        | inr behind ↦ behind
+      ];
+    }
+
+pub run_fits : (word q n : ℕ) → word < 2 ^ 64 → AreSet (is_set word) q n → 0 < n → q + n ≤ 64
+run_fits word q n fits run some =
+    let last = set_below word (q + n - 1) fits (run.each (q + n - 1) (omega arith) (omega arith)) in
+    omega (arith, last)
+
+-- ---- the longest one
+
+pub HasRun-none : (word : ℕ) → HasRun (is_set word) 0
+HasRun-none word = record { at = 0; run = record { each = λ k from to. absurd (omega arith) } }
+
+pub HasRun-start : (word t n : ℕ) → AreStarts word t n → 0 < t → t < 2 ^ 64 → HasRun (is_set word) n
+HasRun-start word t n starts some fits = record { at = _; run = (first_start word t n starts some fits).run }
+
+pub HasRun-fits : (word n : ℕ) → word < 2 ^ 64 → HasRun (is_set word) n → n ≤ 64
+HasRun-fits word zero fits has = omega arith
+HasRun-fits word (suc n) fits has = omega (arith, run_fits word has.at (suc n) fits has.run (omega arith))
+
+pub longest_most : (word t n : ℕ) → AreStarts word t (n + 1) → t ≡ 0 → (q m : ℕ) → AreSet (is_set word) q m → m ≤ n
+longest_most word t n starts none q m run = elim (cases_lt n m) [
+  | inl more ↦ absurd (no_starts word t (n + 1) starts none q (record { each = λ k from to. run.each k from (omega arith) }))
+  | inr fine ↦ fine
+]
+
+-- ---- the summary
+
+pub IsLeaf-full : (word : ℕ) → word < 2 ^ 64 → bit_not w64 word ≡ 0 → IsLeaf word (record { length = 64; prefix = 64; longest = 64; suffix = 64 })
+IsLeaf-full word fits none =
+    let whole : word ≡ 2 ^ 64 - 1 = omega arith in
+    let set : (k : ℕ) → k < 64 → is_set word k ≡ true = λ k lt. same_test _ 1 (ap (λ (x : ℕ). bit_at x k) whole ∙ bit_at_ones 64 k lt) in
+    record {
+      length = refl;
+      summary = record {
+        prefix_within = omega arith;
+        prefix_set = λ k le lt. set k (omega arith);
+        prefix_ends = λ lt. absurd (omega arith);
+        suffix_within = omega arith;
+        suffix_set = λ k le lt. set k (omega arith);
+        suffix_ends = λ k le e. absurd (omega arith);
+        longest_at = 0;
+        longest_from = omega arith;
+        longest_end = omega arith;
+        longest_set = λ k le lt. set k (omega arith);
+        longest_most = λ q n from to run. omega arith;
+      };
+    }
+
+-- the bits of a word, from those of its zeros
+set_from_not : (word k : ℕ) → word < 2 ^ 64 → k < 64 → bit_at (bit_not w64 word) k ≡ 0 → is_set word k ≡ true
+set_from_not word k fits lt none = same_test _ 1 (omega (arith, bit_at_not w64 word k fits lt, bit_at-lt word k))
+
+clear_from_not : (word k : ℕ) → word < 2 ^ 64 → k < 64 → bit_at (bit_not w64 word) k ≡ 1 → is_set word k ≡ false
+clear_from_not word k fits lt one = same_test _ 0 (omega (arith, bit_at_not w64 word k fits lt, bit_at-lt word k))
+
+-- the highest one of a number that has m digits
+highest : (a m : ℕ) → a < 2 ^ suc m → 2 ^ suc m ≤ 2 * a + 1 → bit_at a m ≡ 1
+highest a m lt le =
+    let some : 0 < 2 ^ m = pow_pos m in
+    let twice : 2 ^ suc m ≡ 2 * 2 ^ m = omega arith in
+    let one : a / 2 ^ m ≡ 1 = omega (arith, le-div 1 a (2 ^ m) some (omega arith), div_below a (2 ^ m) 2 some (omega arith)) in
+    ap (λ (x : ℕ). x % 2) one
+
+longest_place : (word n : ℕ) → word < 2 ^ 64 → HasRun (is_set word) n → (at : ℕ) × (0 ≤ at) × (at + n ≤ 0 + 64) × ((k : ℕ) → at ≤ k → k < at + n → is_set word k ≡ true)
+longest_place word zero fits has = (0, omega arith, omega arith, λ k le lt. absurd (omega arith))
+longest_place word (suc n) fits has = (has.at, omega arith, omega (arith, run_fits word has.at (suc n) fits has.run (omega arith)), has.run.each)
+
+pub IsLeaf-part : (word longest : ℕ) → word < 2 ^ 64 → bit_not w64 word ≢ 0 → HasRun (is_set word) longest → ((q n : ℕ) → AreSet (is_set word) q n → n ≤ longest)
+    → IsLeaf word (record { length = 64; prefix = trailing_zeros w64 (bit_not w64 word); longest = longest; suffix = leading_zeros w64 (bit_not w64 word) })
+IsLeaf-part word longest fits some has most =
+    let z : ℕ = bit_not w64 word in
+    let z_some : 0 < bit_not w64 word = omega arith in
+    let z_fits : bit_not w64 word < 2 ^ 64 = omega arith in
+    let low = bit_at-trailing_zeros w64 (bit_not w64 word) z_some z_fits in
+    let high = leading_length 64 (bit_not w64 word) z_fits in
+    let place = longest_place word longest fits has in
+    record {
+      length = refl;
+      summary = record {
+        prefix_within = omega (arith, low.0);
+        prefix_set = λ k le lt. set_from_not word k fits (omega (arith, low.0)) (low.2 k (omega arith));
+        prefix_ends = λ lt. (let e : trailing_zeros w64 (bit_not w64 word) ≡ 0 + trailing_zeros w64 (bit_not w64 word) = omega arith in
+            subst (λ (k : ℕ). is_set word k ≡ false) e (clear_from_not word _ fits low.0 low.1));
+        suffix_within = omega (arith, high.1);
+        suffix_set = λ k le lt. set_from_not word k fits (omega arith) (bit_at_above (bit_not w64 word) high.0 k high.2 (omega (arith, high.1)));
+        suffix_ends = λ k le e. (let m : high.0 ≡ suc k = omega (arith, high.1) in
+            clear_from_not word k fits (omega arith)
+            (highest (bit_not w64 word) k (subst (λ (n : ℕ). bit_not w64 word < 2 ^ n) m high.2) (subst (λ (n : ℕ). 2 ^ n ≤ 2 * bit_not w64 word + 1) m high.3)));
+        longest_at = place.0;
+        longest_from = place.1;
+        longest_end = place.2;
+        longest_set = place.3;
+        longest_most = λ q n from to run. most q n run;
+      };
+    }

@@ -1,0 +1,6 @@
+use Rattle.std.proofs.Common.{◌/◌, ◌&&◌, ◌||◌, nat_le, nat_lt}
+use Rattle.granule_rows.proofs.RangeLaws.{AreMade}
+use Rattle.granule_rows.proofs.ranges.set_run.Given as goal
+
+abbrev pub invariant-loop-w : goal.invariant-loop-w
+invariant-loop-w l = AreMade (λ k b. (nat_le l.first k && nat_lt k l.end) || b) l.words l.initial.words (l.first / 64) l.w

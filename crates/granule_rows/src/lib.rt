@@ -1,0 +1,15 @@
+//! Rows of bits, one a granule: runs set and cleared in them, and a row of free granules with a tree of
+//! summaries, which finds the first run of ones.
+#![tactic(auto)]
+
+mod find;
+mod ranges;
+mod row;
+mod summary;
+#[cfg(test)]
+mod tests;
+mod tree;
+mod word;
+
+pub use crate::ranges::{clear_run, clear_words, row_bit, set_run};
+pub use crate::row::FreeRow;

@@ -1,0 +1,229 @@
+-- Rows over the granules of a heap, written and given back.
+use Rattle.std.proofs.Common.{◌≡◌, ◌<◌, ◌≤◌, ◌+◌, ◌*◌, ◌/◌, ◌%◌, ◌^◌, ◌&&◌, ◌||◌, not, inl, inr, ℕ, Bool, true, false, List, length, get_or, ◌++◌, drop, take, refl, sym, ap, ◌∙◌, subst, arith}
+use Rattle.std.proofs.lemmas.Bool.{and_parts, both_ways, cases_Bool, cases_eq, cases_lt, or_cases}
+use Rattle.std.proofs.lemmas.Bool.Decides.{nat_tests}
+use Rattle.std.proofs.lemmas.Nat.Bits.{bit_at-zero}
+use Rattle.granule_rows.specs.Laws.{whole_written}
+use Rattle.granule_rows.specs.Runs.{is_within}
+use Rattle.heap_core.proofs.EmptyLaws.{get_or-zeros, zeros}
+use Rattle.heap_core.specs.Rows.{AreGiven, AreRows, granules_of}
+use Rattle.heap_core.specs.declared.rows.Rows.{Rows}
+use Rattle.tag_memory.specs.Laws.{same_test}
+use Rattle.tag_memory.specs.Tags.{is_set, is_set_for}
+
+-- ---- a row written
+
+-- What the slice of a whole row was made.
+module _ {len : ℕ} {old now : List ℕ} (new : List ℕ) (value : now ≡ old) (long : length now ≡ len) (same : length new ≡ length now) where
+  written : take len (new ++ drop (length new) old) ≡ new
+  written = whole_written len old new (same ∙ long)
+
+  pub length-written : length (take len (new ++ drop (length new) old)) ≡ length old
+  length-written = ap length written ∙ (same ∙ ap length value)
+
+  pub bits-written : (make : ℕ → Bool → Bool) → ((k : ℕ) → is_set_for new k ≡ make k (is_set_for now k))
+      → (k : ℕ) → is_set_for (take len (new ++ drop (length new) old)) k ≡ make k (is_set_for old k)
+  bits-written make bits k = ap (λ (xs : List ℕ). is_set_for xs k) written ∙ (bits k ∙ ap (λ (xs : List ℕ). make k (is_set_for xs k)) value)
+
+-- ---- a block held
+
+within_pages : (start end to k : ℕ) → to ≡ (end + 255) / 256 → is_within (start / 256) to (k / 256) ≡ false → is_within start end k ≡ false
+within_pages start end to k to_is out =
+    elim (cases_lt k start) [
+      | inl before ↦ grind (arith, nat_tests)
+      | inr from ↦ elim (cases_lt k end) [
+        | inr past ↦ grind (arith, nat_tests)
+        | inl inside ↦
+            let low : start / 256 ≤ k / 256 = omega arith in
+            let high : k / 256 < to = omega arith in
+            absurd (grind (arith, nat_tests, out, low, high))
+      ]
+    ]
+
+inside_pages : (start end to pages page : ℕ) → to ≡ (end + 255) / 256 → end ≤ 256 * pages → is_within (start / 256) to page ≡ true → page < pages
+inside_pages start end to pages page to_is le is =
+    elim (cases_lt page to) [
+      | inl before ↦ omega arith
+      | inr past ↦ absurd (grind (arith, nat_tests, is, past))
+    ]
+
+no_bit : (a b : Bool) → (a || b) ≡ false → (a ≡ false) × (b ≡ false)
+no_bit false false none = (refl, refl)
+no_bit true b none = absurd (both_ways true none refl)
+no_bit false true none = absurd (both_ways true none refl)
+
+pub AreRows-held : (r s : Rows) (start end to : ℕ) → AreRows r → to ≡ (end + 255) / 256 → end ≤ granules_of r → s.free ≡ r.free → s.starts ≡ r.starts
+    → length s.held.items ≡ length r.held.items → length s.held_pages.items ≡ length r.held_pages.items
+    → ((k : ℕ) → is_set_for s.held.items k ≡ (is_within start end k || is_set_for r.held.items k))
+    → ((page : ℕ) → is_set_for s.held_pages.items page ≡ (is_within (start / 256) to page || is_set_for r.held_pages.items page))
+    → AreRows s
+AreRows-held r s start end to rows to_is le free starts held held_pages bits page_bits =
+    let count : granules_of s ≡ granules_of r = ap (λ x. 64 * length x.items) starts in
+    record {
+      pages = rows.pages;
+      whole = count ∙ rows.whole;
+      limit = omega (arith, rows.limit);
+      free = omega (arith, rows.free, ap length free);
+      held = held ∙ (rows.held ∙ sym (ap (λ x. length x.items) starts));
+      held_pages = omega (arith, rows.held_pages);
+      held_pages_limit = omega (arith, rows.held_pages_limit);
+      inside = λ page set. elim (or_cases _ _ (sym (page_bits page) ∙ set)) [
+        | inl new ↦ inside_pages start end to rows.pages page to_is (omega (arith, rows.whole)) new
+        | inr old ↦ rows.inside page old
+      ];
+      marked = λ k clear.
+          let none = no_bit _ _ (sym (page_bits (k / 256)) ∙ clear) in
+          bits k ∙ (ap (λ b. b || is_set_for r.held.items k) (within_pages start end to k to_is none.0) ∙ rows.marked k none.1);
+    }
+
+-- ---- pages given back
+
+given_free : (w h f : Bool) → (((w && h) || f) || (h && not w)) ≡ (f || h)
+given_free false false false = refl
+given_free false false true = refl
+given_free false true false = refl
+given_free false true true = refl
+given_free true false false = refl
+given_free true false true = refl
+given_free true true false = refl
+given_free true true true = refl
+
+given_starts : (w h s : Bool) → ((s && not (w && h)) && not (h && not w)) ≡ (s && not h)
+given_starts false false false = refl
+given_starts false false true = refl
+given_starts false true false = refl
+given_starts false true true = refl
+given_starts true false false = refl
+given_starts true false true = refl
+given_starts true true false = refl
+given_starts true true true = refl
+
+-- What lies in some granules is given back.
+pub AreGiven-within : (r s : Rows) (test : ℕ → Bool) → granules_of s ≡ granules_of r → s.held_pages ≡ r.held_pages
+    → ((k : ℕ) → is_set_for s.free k ≡ ((test k && is_set_for r.held.items k) || is_set_for r.free k))
+    → ((k : ℕ) → is_set_for s.starts.items k ≡ (is_set_for r.starts.items k && not (test k && is_set_for r.held.items k)))
+    → ((k : ℕ) → is_set_for s.held.items k ≡ (is_set_for r.held.items k && not (test k)))
+    → AreGiven r s
+AreGiven-within r s test count pages free starts held = record {
+  count = count;
+  marks = ap (λ x. length x.items) pages;
+  free = λ k. rw (free k, held k) (given_free (test k) (is_set_for r.held.items k) (is_set_for r.free k));
+  starts = λ k. rw (starts k, held k) (given_starts (test k) (is_set_for r.held.items k) (is_set_for r.starts.items k));
+  held_pages = λ page clear. ap (λ x. is_set_for x.items page) pages ∙ clear;
+}
+
+pub AreGiven-none : (r : Rows) → AreGiven r r
+AreGiven-none r = record { count = refl; marks = refl; free = λ k. refl; starts = λ k. refl; held_pages = λ page clear. clear }
+
+pub AreGiven-then : {r s t : Rows} → AreGiven r s → AreGiven s t → AreGiven r t
+AreGiven-then first second = record {
+  count = second.count ∙ first.count;
+  marks = second.marks ∙ first.marks;
+  free = λ k. second.free k ∙ first.free k;
+  starts = λ k. second.starts k ∙ first.starts k;
+  held_pages = λ page clear. second.held_pages page (first.held_pages page clear);
+}
+
+pub unmarked : (b : Bool) (page : ℕ) → (b && not (is_within page (page + 1) page)) ≡ false
+unmarked b page = grind (arith, nat_tests)
+
+-- A mark that stays is as it was.
+other_mark : (a b : Bool) → (a && not b) ≡ false → b ≡ false → a ≡ false
+other_mark a true none is = absurd (both_ways true is refl)
+other_mark false false none is = refl
+other_mark true false none is = absurd (both_ways true none refl)
+
+-- The mark of a page is taken away whose granules are given back.
+pub AreRows-unmarked : (r s : Rows) (page : ℕ) → AreRows r → ((k : ℕ) → k / 256 ≡ page → is_set_for r.held.items k ≡ false)
+    → s.free ≡ r.free → s.starts ≡ r.starts → s.held ≡ r.held → length s.held_pages.items ≡ length r.held_pages.items
+    → ((p : ℕ) → is_set_for s.held_pages.items p ≡ (is_set_for r.held_pages.items p && not (is_within page (page + 1) p)))
+    → AreRows s
+AreRows-unmarked r s page rows gone free starts held long bits =
+    let count : granules_of s ≡ granules_of r = ap (λ x. 64 * length x.items) starts in
+    record {
+      pages = rows.pages;
+      whole = count ∙ rows.whole;
+      limit = omega (arith, rows.limit);
+      free = omega (arith, rows.free, ap length free);
+      held = ap (λ x. length x.items) held ∙ (rows.held ∙ sym (ap (λ x. length x.items) starts));
+      held_pages = omega (arith, rows.held_pages);
+      held_pages_limit = omega (arith, rows.held_pages_limit);
+      inside = λ p set. rows.inside p (and_parts _ _ (sym (bits p) ∙ set)).0;
+      marked = λ k clear. ap (λ x. is_set_for x.items k) held
+          ∙ elim (cases_eq (k / 256) page) [
+            | inl same ↦ gone k same
+            | inr other ↦ rows.marked k (other_mark _ _ (sym (bits (k / 256)) ∙ clear) (grind (arith, nat_tests, other)))
+          ];
+    }
+
+pub AreGiven-unmarked : (r s : Rows) (page : ℕ) → s.free ≡ r.free → s.starts ≡ r.starts → s.held ≡ r.held → length s.held_pages.items ≡ length r.held_pages.items
+    → ((p : ℕ) → is_set_for s.held_pages.items p ≡ (is_set_for r.held_pages.items p && not (is_within page (page + 1) p)))
+    → AreGiven r s
+AreGiven-unmarked r s page free starts held long bits = record {
+  count = ap (λ x. 64 * length x.items) starts;
+  marks = long;
+  free = λ k. rw (free, held) refl;
+  starts = λ k. rw (starts, held) refl;
+  held_pages = λ p clear. bits p ∙ ap (λ b. b && not (is_within page (page + 1) p)) clear;
+}
+
+-- One mark more is taken away.
+pub one_more : {r s : Rows} {at : ℕ} → AreGiven r s → is_set_for s.held_pages.items at ≡ false → (page : ℕ)
+    → (page < at → is_set_for r.held_pages.items page ≡ false) → page < at + 1 → is_set_for s.held_pages.items page ≡ false
+one_more {s = s} {at = at} given here page before lt = elim (cases_lt page at) [
+  | inl less ↦ given.held_pages page (before less)
+  | inr from ↦ (let same : at ≡ page = omega arith in subst (λ (p : ℕ). is_set_for s.held_pages.items p ≡ false) same here)
+]
+
+-- ---- no page is marked
+
+none_marked : {r : Rows} → AreRows r → ((page : ℕ) → page / 64 < length r.held_pages.items → is_set_for r.held_pages.items page ≡ false)
+    → (page : ℕ) → is_set_for r.held_pages.items page ≡ false
+none_marked {r = r} rows clear page = elim (cases_Bool (is_set_for r.held_pages.items page)) [
+  | inl set ↦ clear page (omega (arith, rows.inside page set, rows.held_pages))
+  | inr none ↦ none
+]
+
+pub nothing_held : {r : Rows} → AreRows r → ((page : ℕ) → page / 64 < length r.held_pages.items → is_set_for r.held_pages.items page ≡ false)
+    → (k : ℕ) → is_set_for r.held.items k ≡ false
+nothing_held rows clear k = rows.marked k (none_marked rows clear (k / 256))
+
+pub word_of_zero : (words : List ℕ) (w : ℕ) → get_or words w 0 ≡ 0 → (page : ℕ) → page / 64 ≡ w → is_set_for words page ≡ false
+word_of_zero words w zero page at = ap (λ (i : ℕ). is_set (get_or words i 0) (page % 64)) at ∙ (ap (λ (x : ℕ). is_set x (page % 64)) zero ∙ same_test _ 0 (bit_at-zero (page % 64)))
+
+or_false : (b : Bool) → (b || false) ≡ b
+or_false false = refl
+or_false true = refl
+
+and_true : (b : Bool) → (b && true) ≡ b
+and_true false = refl
+and_true true = refl
+
+-- What is left once nothing is held.
+pub given_all_free : {r s : Rows} → AreGiven r s → ((k : ℕ) → is_set_for s.held.items k ≡ false) → (k : ℕ)
+    → is_set_for s.free k ≡ (is_set_for r.free k || is_set_for r.held.items k)
+given_all_free {s = s} given none k = sym (or_false (is_set_for s.free k)) ∙ (ap (λ b. is_set_for s.free k || b) (sym (none k)) ∙ given.free k)
+
+pub given_all_starts : {r s : Rows} → AreGiven r s → ((k : ℕ) → is_set_for s.held.items k ≡ false) → (k : ℕ)
+    → is_set_for s.starts.items k ≡ (is_set_for r.starts.items k && not (is_set_for r.held.items k))
+given_all_starts {s = s} given none k = sym (and_true (is_set_for s.starts.items k)) ∙ (ap (λ b. is_set_for s.starts.items k && not b) (sym (none k)) ∙ given.starts k)
+
+-- ---- no block
+
+pub AreRows-new : (r : Rows) (n : ℕ) → n ≤ 2 ^ 18 → n % 256 ≡ 0 → n / 64 ≤ length r.free → length r.starts.items ≡ n / 64 → length r.held.items ≡ n / 64
+    → length r.held_pages.items ≡ (n / 256 + 63) / 64 → ((k : ℕ) → is_set_for r.held.items k ≡ false) → ((page : ℕ) → is_set_for r.held_pages.items page ≡ false)
+    → AreRows r
+AreRows-new r n limit whole free starts held held_pages none no_marks = record {
+  pages = n / 256;
+  whole = omega arith;
+  limit = omega arith;
+  free = omega arith;
+  held = omega arith;
+  held_pages = omega arith;
+  held_pages_limit = omega arith;
+  inside = λ page set. absurd (both_ways _ (no_marks page) set);
+  marked = λ k clear. none k;
+}
+
+pub no_bits : (words : List ℕ) (n k : ℕ) → words ≡ zeros n → is_set_for words k ≡ false
+no_bits words n k zeros = ap (λ (xs : List ℕ). is_set_for xs k) zeros ∙ (ap (λ (x : ℕ). is_set x (k % 64)) (get_or-zeros n (k / 64)) ∙ same_test _ 0 (bit_at-zero (k % 64)))

@@ -1,5 +1,0 @@
-use Rattle.heap_core.proofs.ShadowLaws.{is_set-run}
-use Rattle.heap_core.proofs.shadow.run_word.Goals as goal
-
-pub returns : goal.returns
-returns c = λ j lt. is_set-run c.args.low c.args.high j c.requires.low c.requires.high lt

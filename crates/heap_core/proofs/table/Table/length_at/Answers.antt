@@ -1,0 +1,20 @@
+use Rattle.std.proofs.Common.{◌≡◌, ◌∙◌, sym, ap, false, true, arith}
+use Rattle.heap_core.proofs.StoredLaws.{length_nowhere, length_read, row_reaches}
+use Rattle.tag_memory.specs.Tags.{is_set_for}
+use Rattle.heap_core.proofs.table.Table.length_at.Goals as goal
+
+pub row_bit-requires : goal.row_bit-requires
+row_bit-requires c =
+    let inside = c.requires in
+    omega (arith, c.deref.ensures.len, row_reaches c.self.inside c.self.invariant c.args.granule (rw (← c.self.view_is) at inside))
+
+pub returns-then-row_bit : goal.returns-then-row_bit
+returns-then-row_bit c =
+    let inside = c.requires in
+    let start : is_set_for c.self.inside.rows.starts.items c.args.granule ≡ true = ap (λ xs. is_set_for xs c.args.granule) (sym c.deref.ensures.value) ∙ sym c.if-row_bit.ensures in
+    rw (← c.self.view_is) (length_read c.self.inside c.self.invariant c.args.granule c.index.result.now (rw (← c.self.view_is) at inside) start c.index.ensures)
+
+pub returns-else-row_bit : goal.returns-else-row_bit
+returns-else-row_bit c =
+    let none : is_set_for c.self.inside.rows.starts.items c.args.granule ≡ false = ap (λ xs. is_set_for xs c.args.granule) (sym c.deref.ensures.value) ∙ sym c.if-row_bit.ensures in
+    rw (← c.self.view_is) (length_nowhere c.self.inside c.self.invariant c.args.granule none)
