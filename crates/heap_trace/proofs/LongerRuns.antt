@@ -3,14 +3,14 @@ use Rattle.std.proofs.Common.{◌≡◌, ℕ, suc, map, arith, List, [], ◌∷�
 use Rattle.std.proofs.lemmas.List.{append-nil, map_push, length-map}
 use Rattle.trace_text.specs.declared.trace.Command.{Command}
 use Rattle.trace_text.specs.Reading.{Script}
-use Rattle.heap_trace.specs.declared.reply.Reply.{Reply}
+use Rattle.heap_machine.specs.declared.reply.Reply.{Reply}
 use Rattle.heap_trace.specs.declared.running.Outcome.{Outcome}
 use Rattle.heap_trace.specs.Outcome.{IsOutcome}
 use Rattle.heap_trace.specs.Report.{end_text, line_text, lines_text}
 use Rattle.heap_trace.specs.Run.{IsSafeRun, Run, Told}
-use Rattle.heap_trace.specs.Safety.{IsReuseSafe, IsSafe}
-use Rattle.heap_trace.specs.State.{State, first_state, memory_of}
-use Rattle.heap_trace.specs.Step.{Step}
+use Rattle.heap_machine.specs.Safety.{IsReuseSafe, IsSafe}
+use Rattle.heap_machine.specs.State.{State, first_state, memory_of}
+use Rattle.heap_machine.specs.Step.{Step}
 
 Run-push : (old : State) (cs : List Command) (rs : List Reply) (mid : State) (c : Command) (r : Reply) (new : State)
     → Run old cs rs mid → Step mid c r new → Run old (cs ++ c ∷ []) (rs ++ r ∷ []) new

@@ -3,45 +3,52 @@ use Rattle.std.proofs.Common.{◌≡◌, ◌∙◌, ℕ, List, [], ◌∷◌, Ok
 use Rattle.trace_text.specs.declared.trace.Command.{Command}
 use Rattle.trace_text.specs.Reading.{Script}
 use Rattle.heap_trace.specs.declared.running.Outcome.{Outcome}
-use Rattle.heap_trace.specs.declared.reply.Reply.{Reply}
+use Rattle.heap_machine.specs.declared.reply.Reply.{Reply}
 use Rattle.heap_trace.specs.Outcome.{Answers, IsOutcome}
 use Rattle.heap_trace.specs.Report.{report_text}
 use Rattle.heap_trace.specs.Run.{Run}
-use Rattle.heap_trace.specs.State.{State, memory_of}
-use Rattle.heap_trace.proofs.OneStep.{Step-only, Step-some}
+use Rattle.heap_machine.specs.State.{State, memory_of}
+use Rattle.heap_machine.specs.Step.{Step}
 
-pub Run-some : (first : State) (cs : List Command) → (rs : List Reply) × (last : State) × Run first cs rs last
-Run-some first [] = ([], first, refl)
-Run-some first (c ∷ cs) =
-    let step = Step-some first c in
-    let rest = Run-some step.1 cs in
+-- From each state each command has a step, and no other: the law `steps`.
+abbrev pub HaveSteps : Type 0
+HaveSteps = (old : State) (c : Command) → (r : Reply) × (new : State) × Step old c r new
+
+abbrev pub HaveOneStep : Type 0
+HaveOneStep = (old : State) (c : Command) (r s : Reply) (m n : State) → Step old c r m → Step old c s n → (r ≡ s) × (m ≡ n)
+
+pub Run-some : HaveSteps → (first : State) (cs : List Command) → (rs : List Reply) × (last : State) × Run first cs rs last
+Run-some steps first [] = ([], first, refl)
+Run-some steps first (c ∷ cs) =
+    let step = steps first c in
+    let rest = Run-some steps step.1 cs in
     (step.0 ∷ rest.0, rest.1, (step.1, step.2, rest.2))
 
-pub Run-only : (first : State) (cs : List Command) (rs ss : List Reply) (m n : State) → Run first cs rs m → Run first cs ss n → (rs ≡ ss) × (m ≡ n)
-Run-only first [] [] [] m n p q = (refl, p ∙ sym q)
-Run-only first [] (r ∷ rs) ss m n p q = absurd p
-Run-only first [] [] (s ∷ ss) m n p q = absurd q
-Run-only first (c ∷ cs) [] ss m n p q = absurd p
-Run-only first (c ∷ cs) (r ∷ rs) [] m n p q = absurd q
-Run-only first (c ∷ cs) (r ∷ rs) (s ∷ ss) m n p q =
-    let here = Step-only first c r s p.0 q.0 p.1 q.1 in
-    let rest = Run-only p.0 cs rs ss m n p.2 (subst (λ (mid : State). Run mid cs ss n) (sym here.1) q.2) in
+pub Run-only : HaveOneStep → (first : State) (cs : List Command) (rs ss : List Reply) (m n : State) → Run first cs rs m → Run first cs ss n → (rs ≡ ss) × (m ≡ n)
+Run-only one first [] [] [] m n p q = (refl, p ∙ sym q)
+Run-only one first [] (r ∷ rs) ss m n p q = absurd p
+Run-only one first [] [] (s ∷ ss) m n p q = absurd q
+Run-only one first (c ∷ cs) [] ss m n p q = absurd p
+Run-only one first (c ∷ cs) (r ∷ rs) [] m n p q = absurd q
+Run-only one first (c ∷ cs) (r ∷ rs) (s ∷ ss) m n p q =
+    let here = one first c r s p.0 q.0 p.1 q.1 in
+    let rest = Run-only one p.0 cs rs ss m n p.2 (subst (λ (mid : State). Run mid cs ss n) (sym here.1) q.2) in
     let both : r ∷ rs ≡ s ∷ ss = cc in
     (both, rest.1)
 
-pub IsOutcome-only : (script : Script) (a b : Outcome) → IsOutcome script a → IsOutcome script b
+pub IsOutcome-only : HaveOneStep → (script : Script) (a b : Outcome) → IsOutcome script a → IsOutcome script b
     → (a.report.items ≡ b.report.items) × (a.registers ≡ b.registers) × (a.memory ≡ b.memory)
-IsOutcome-only script a b p q =
-    let same = Run-only _ _ p.replies q.replies p.last q.last p.run q.run in
+IsOutcome-only one script a b p q =
+    let same = Run-only one _ _ p.replies q.replies p.last q.last p.run q.run in
     let text : report_text script.commands p.replies p.last ≡ report_text script.commands q.replies q.last = cc in
     let memory : memory_of p.last ≡ memory_of q.last = cc in
     let registers : p.last.registers ≡ q.last.registers = cc in
     (p.report ∙ text ∙ sym q.report, p.registers ∙ registers ∙ sym q.registers, p.memory ∙ memory ∙ sym q.memory)
 
-pub Answers-only : (text : List ℕ) (a b : Outcome) → Answers text (Ok a) → Answers text (Ok b)
+pub Answers-only : HaveOneStep → (text : List ℕ) (a b : Outcome) → Answers text (Ok a) → Answers text (Ok b)
     → (a.report.items ≡ b.report.items) × (a.registers ≡ b.registers) × (a.memory ≡ b.memory)
-Answers-only text a b p q =
+Answers-only one text a b p q =
     let read = p.1 in
     let read_again = q.1 in
     let same : q.0 ≡ p.0 = cc in
-    IsOutcome-only p.0 a b p.2 (subst (λ (script : Script). IsOutcome script b) same q.2)
+    IsOutcome-only one p.0 a b p.2 (subst (λ (script : Script). IsOutcome script b) same q.2)

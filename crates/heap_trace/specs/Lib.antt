@@ -4,12 +4,13 @@ pub use Rattle.trace_text.specs.Grammar
 pub use Rattle.trace_text.specs.Heap
 pub use Rattle.trace_text.specs.Lines
 pub use Rattle.trace_text.specs.Reading
-pub mod Display
+-- the machine's, for the crates above
+pub use Rattle.heap_machine.specs.Display
+pub use Rattle.heap_machine.specs.Safety
+pub use Rattle.heap_machine.specs.Sound
+pub use Rattle.heap_machine.specs.State
+pub use Rattle.heap_machine.specs.Step
 pub mod Image
 pub mod Outcome
 pub mod Report
 pub mod Run
-pub mod Safety
-pub mod Sound
-pub mod State
-pub mod Step

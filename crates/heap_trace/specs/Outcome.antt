@@ -1,6 +1,6 @@
 -- What a run of a text gives. The definition knows no workers.
 use Rattle.std.specs.Prelude.{◌≡◌, List, Result, Ok, Err, map}
-use Rattle.heap_trace.specs.declared.reply.Reply.{Reply}
+use Rattle.heap_machine.specs.declared.reply.Reply.{Reply}
 use Rattle.heap_trace.specs.declared.running.Outcome.{Outcome as TheOutcome}
 use Rattle.heap_trace.specs.declared.running.RunFault.{RunFault}
 use Rattle.heap_trace.specs.declared.running.RunFault.TheVariants.{Memory, Trace}
@@ -8,7 +8,7 @@ use Rattle.std.specs.Prelude.{ℕ}
 use Rattle.trace_text.specs.Reading.{Script, trace_of}
 use Rattle.heap_trace.specs.Report.{report_text}
 use Rattle.heap_trace.specs.Run.{IsSafeRun, Run}
-use Rattle.heap_trace.specs.State.{State, first_state, memory_of}
+use Rattle.heap_machine.specs.State.{State, first_state, memory_of}
 
 -- A run of these commands from the first state, safe throughout, leaves this report, these registers and
 -- this memory.

@@ -6,14 +6,9 @@ use Rattle.heap_core.specs.Blocks.{bytes_of}
 use Rattle.heap_core.specs.Heap.{HeapState}
 use Rattle.trace_text.specs.declared.trace.Command.{Command}
 use Rattle.trace_text.specs.declared.trace.Command.TheVariants.{Malloc, Free, Copy, SetAddr, Narrow, AndPerm, StoreCap, LoadCap, Write, Show, Sweep}
-use Rattle.heap_trace.specs.declared.reply.Reply.{Reply}
-use Rattle.heap_trace.specs.declared.reply.Reply.TheVariants.{Block, NoSpace, Held, Done, Cleared, Swept}
-use Rattle.heap_trace.specs.declared.reply.Reply.TheVariants as reply
-use Rattle.heap_trace.specs.declared.reply.Shown.{Shown as ShownCell}
-use Rattle.heap_trace.specs.declared.reply.Trap.{Trap}
-use Rattle.heap_trace.specs.declared.reply.Trap.TheVariants as trap
-use Rattle.heap_trace.specs.State.{State, tags_of}
-use Rattle.heap_trace.specs.Display.{bit_text, hexadecimal_text, joined, place_text}
+use Rattle.heap_machine.specs.declared.reply.Reply.{Reply}
+use Rattle.heap_machine.specs.State.{State, tags_of}
+pub use Rattle.heap_machine.specs.Answer.{answer_text, shown_text, trap_name}
 
 -- The first word of a command.
 abbrev pub name_of : Command → List ℕ
@@ -28,34 +23,6 @@ name_of (LoadCap rd ra) = codes "loadcap"
 name_of (Write ra bytes) = codes "write"
 name_of (Show rs) = codes "show"
 name_of Sweep = codes "sweep"
-
-abbrev pub trap_name : Trap → List ℕ
-trap_name trap.Tag = codes "tag"
-trap_name trap.Perm = codes "perm"
-trap_name trap.Bounds = codes "bounds"
-trap_name trap.Align = codes "align"
-trap_name trap.Empty = codes "empty"
-trap_name trap.Inexact = codes "inexact"
-trap_name trap.Freed = codes "freed"
-trap_name trap.NotBlock = codes "notblock"
-
-abbrev pub shown_text : ShownCell → List ℕ
-shown_text s =
-    joined (
-    codes "tag " ∷ bit_text s.tag ∷ codes " " ∷ place_text s.address s.base s.top ∷ codes " perms " ∷ hexadecimal_text s.perms
-    ∷ codes " type " ∷ hexadecimal_text s.otype ∷ codes " exponent " ∷ decimal s.exponent ∷ []
-    )
-
--- What a command is answered.
-abbrev pub answer_text : Reply → List ℕ
-answer_text (Block base top) = joined (codes "block " ∷ hexadecimal_text base ∷ codes " " ∷ hexadecimal_text top ∷ [])
-answer_text NoSpace = codes "nospace"
-answer_text (Held bytes) = joined (codes "held " ∷ decimal bytes ∷ [])
-answer_text Done = codes "ok"
-answer_text Cleared = codes "cleared"
-answer_text (Swept cleared released) = joined (codes "cleared " ∷ decimal cleared ∷ codes " released " ∷ decimal released ∷ [])
-answer_text (reply.Shown s) = shown_text s
-answer_text (reply.Trap t) = joined (codes "trap " ∷ trap_name t ∷ [])
 
 -- The line of a command at line n.
 abbrev pub line_text : ℕ → Command → Reply → List ℕ

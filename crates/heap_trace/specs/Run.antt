@@ -1,11 +1,11 @@
 -- Runs of commands.
 use Rattle.std.specs.Prelude.{◌≡◌, ℕ, List, [], ◌∷◌, map}
 use Rattle.trace_text.specs.declared.trace.Command.{Command}
-use Rattle.heap_trace.specs.declared.reply.Reply.{Reply}
+use Rattle.heap_machine.specs.declared.reply.Reply.{Reply}
 use Rattle.heap_trace.specs.Report.{lines_text}
-use Rattle.heap_trace.specs.Safety.{IsReuseSafe, IsSafe}
-use Rattle.heap_trace.specs.State.{State}
-use Rattle.heap_trace.specs.Step.{Step}
+use Rattle.heap_machine.specs.Safety.{IsReuseSafe, IsSafe}
+use Rattle.heap_machine.specs.State.{State}
+use Rattle.heap_machine.specs.Step.{Step}
 
 -- The commands, one step after another, are answered so and leave the state new.
 abbrev pub Run : State → List Command → List Reply → State → Type 0

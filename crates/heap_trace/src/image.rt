@@ -3,9 +3,8 @@
 ghost use Rattle.std.specs.Prelude.{◌≡◌, ◌++◌, IfErr, IfOk, OnOk};
 ghost use Rattle.heap_trace.specs.Image.{granule_text, image_line, image_of};
 
-use crate::display::bit;
-use crate::reply::MachineFault;
 use cap_codec::{Word, to_bytes};
+use heap_machine::{MachineFault, bit};
 use std::alloc::{AllocError, Global};
 use tag_memory::{GRANULE, Memory};
 

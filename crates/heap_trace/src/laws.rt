@@ -1,22 +1,15 @@
-//! The laws: a trace has one outcome.
+//! The law: a trace has one outcome.
 
 ghost use Rattle.std.specs.Prelude.{◌≡◌, ℕ, List, Ok};
 ghost use Rattle.trace_text.specs.declared.trace.Command.{Command as TheCommand};
 ghost use Rattle.trace_text.specs.Reading.{Script};
-ghost use Rattle.heap_trace.specs.declared.reply.Reply.{Reply as TheReply};
+ghost use Rattle.heap_machine.specs.declared.reply.Reply.{Reply as TheReply};
+ghost use Rattle.heap_machine.specs.State.{State};
 ghost use Rattle.heap_trace.specs.declared.running.Outcome.{Outcome as TheOutcome};
 ghost use Rattle.heap_trace.specs.Outcome.{Answers, IsOutcome};
 ghost use Rattle.heap_trace.specs.Run.{Run};
-ghost use Rattle.heap_trace.specs.State.{State};
-ghost use Rattle.heap_trace.specs.Step.{Step};
 
-/// In each state a command has exactly one reply and leaves exactly one state.
-pub fn steps()
-    ensures one { (old : State) (command : TheCommand) →
-        (reply : TheReply) × (new : State) × Step old command reply new }
-    ensures only { (old : State) (command : TheCommand) (reply other : TheReply) (new left : State) →
-        Step old command reply new → Step old command other left → (reply ≡ other) × (new ≡ left) }
-{}
+use heap_machine::steps;
 
 /// From each state commands have exactly one run, so a trace has one outcome at most.
 pub fn runs()
@@ -29,4 +22,6 @@ pub fn runs()
         (a.report.items ≡ b.report.items) × (a.registers ≡ b.registers) × (a.memory ≡ b.memory) }
     ensures answer { (text : List ℕ) (a b : TheOutcome) → Answers text (Ok a) → Answers text (Ok b) →
         (a.report.items ≡ b.report.items) × (a.registers ≡ b.registers) × (a.memory ≡ b.memory) }
-{}
+{
+    steps();
+}

@@ -1,14 +1,11 @@
 //! The text of a report.
 
-ghost use Rattle.std.specs.Prelude.{◌≡◌, ◌++◌, IfOk, OnErr, OnOk, Some, string_bytes};
-ghost use Rattle.heap_trace.specs.Report.{answer_text, end_text, line_text, name_of, shown_text, trap_name};
-ghost use Rattle.heap_trace.specs.State.{tags_of};
+ghost use Rattle.std.specs.Prelude.{◌≡◌, ◌++◌, OnErr, OnOk};
+ghost use Rattle.heap_machine.specs.State.{tags_of};
+ghost use Rattle.heap_trace.specs.Report.{end_text, line_text, name_of};
 
-use crate::display::{Hexadecimal, Place, bit};
-use crate::machine::Machine;
-use crate::reply::{Reply, Shown, Trap};
+use heap_machine::{Machine, Reply};
 use std::alloc::{AllocError, Global};
-use std::fmt;
 use trace_text::Command;
 
 fn name(command: Command) -> &'static str
@@ -26,67 +23,6 @@ fn name(command: Command) -> &'static str
         Command::Write { .. } => "write",
         Command::Show { .. } => "show",
         Command::Sweep => "sweep",
-    }
-}
-
-fn name_of_trap(trap: Trap) -> &'static str
-    ensures { result.now ≡ trap_name trap }
-{
-    match trap {
-        Trap::Tag => "tag",
-        Trap::Perm => "perm",
-        Trap::Bounds => "bounds",
-        Trap::Align => "align",
-        Trap::Empty => "empty",
-        Trap::Inexact => "inexact",
-        Trap::Freed => "freed",
-        Trap::NotBlock => "notblock",
-    }
-}
-
-impl fmt::Display for Shown {
-    ghost output = { λ s. Some (shown_text s) };
-
-    fn fmt<W: fmt::Write>(&self, f: &mut fmt::Formatter<W>) -> fmt::Result {
-        let tag = bit(self.tag);
-        let place = Place {
-            address: self.address,
-            base: self.base,
-            top: self.top,
-        };
-        let perms = self.perms;
-        let otype = self.otype;
-        let exponent = self.exponent;
-        write!(
-            f,
-            "tag {tag} {place} perms 0x{perms:x} type 0x{otype:x} exponent {exponent}"
-        )
-    }
-}
-
-impl fmt::Display for Reply {
-    ghost output = { λ r. Some (answer_text r) };
-
-    fn fmt<W: fmt::Write>(&self, f: &mut fmt::Formatter<W>) -> fmt::Result {
-        match *self {
-            Reply::Block { base, top } => {
-                let top = Hexadecimal(top);
-                write!(f, "block 0x{base:x} {top}")
-            }
-            Reply::NoSpace => write!(f, "nospace"),
-            Reply::Held(bytes) => write!(f, "held {bytes}"),
-            Reply::Done => write!(f, "ok"),
-            Reply::Cleared => write!(f, "cleared"),
-            Reply::Swept { cleared, released } => write!(
-                f,
-                "cleared {cleared} released {released}"
-            ),
-            Reply::Shown(shown) => write!(f, "{shown}"),
-            Reply::Trap(trap) => {
-                let name = name_of_trap(trap);
-                write!(f, "trap {name}")
-            }
-        }
     }
 }
 

@@ -8,10 +8,10 @@ ghost use Rattle.trace_text.specs.Reading.{script_of};
 ghost use Rattle.heap_trace.specs.Outcome.{Answers, IsOutcome};
 ghost use Rattle.heap_trace.specs.Report.{end_text};
 ghost use Rattle.heap_trace.specs.Run.{Told};
-ghost use Rattle.heap_trace.specs.Safety.{IsSafe};
+ghost use Rattle.heap_machine.specs.Safety.{IsSafe};
 
-use crate::machine::Machine;
 use crate::report::{push_end, push_line};
+use heap_machine::Machine;
 use std::alloc::{AllocError, Global};
 use std::thread::Threads;
 use sweep_pool::{Cutting, Open};
@@ -75,7 +75,12 @@ fn run_trace<R: Threads + Sync>(
     let Ok(()) = push_end(&mut report, alloc, &machine) else {
         return None;
     };
-    Some(machine.finish(report))
+    let (memory, registers) = machine.finish();
+    Some(Outcome {
+        report,
+        memory,
+        registers,
+    })
 }
 
 // Runs the commands, and answers the lines of the report but the last; `None` where memory runs out.

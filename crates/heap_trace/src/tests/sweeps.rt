@@ -1,11 +1,8 @@
-//! Traces with quarantine and sweeps, and a machine whose sweep is refused.
+//! Traces with quarantine and sweeps.
 
 use crate::tests::runs::answer;
-use crate::{Command, Machine, MachineFault, Reply, RunFault, image_text};
-use std::alloc::Global;
+use crate::{RunFault, image_text};
 use std::test::Fail;
-use std::thread::Threads;
-use sweep_pool::{Cutting, Open};
 
 // Traces with the reports of their runs.
 const SWEEPS: [(&str, &str); 4] = [
@@ -133,55 +130,4 @@ fn a_refused_allocation_of_a_run_with_a_sweep_is_told(rt: HostRuntime) {
         Ok(outcome) => assert_eq!(rt; outcome.report.as_slice(), report.as_bytes()),
         Err(fault) => assert_eq!(rt; fault, RunFault::Memory),
     }
-}
-
-// Tagged registers, tagged granules, and the bytes of live, held and free blocks.
-type Sums = (usize, usize, u64, u64, u64);
-
-fn sums(machine: &Machine) -> Sums {
-    (
-        machine.registers().tagged(),
-        machine.memory().tagged(),
-        machine.live_bytes(),
-        machine.held_bytes(),
-        machine.free_bytes(),
-    )
-}
-
-// A machine with one held block, whose capability is in a register and in memory.
-fn held_machine<R: Threads + Sync>(rt: &R, alloc: Global) -> Result<Machine, MachineFault> {
-    let Ok(cutting) = Cutting::new(1, 16) else {
-        return Err(MachineFault::Memory);
-    };
-    let mut machine = Machine::new(alloc, 0x4000_0000, 1, cutting)?;
-    let commands = [
-        Command::Malloc { rd: 1, size: 32 },
-        Command::StoreCap { ra: 1, rs: 1 },
-        Command::Free { rs: 1 },
-    ];
-    for command in commands {
-        let _ = machine.step(rt, alloc, command, &Open)?;
-    }
-    Ok(machine)
-}
-
-// A refused sweep leaves the machine as it was, and is done when it is asked for again.
-#[test]
-fn a_refused_allocation_of_a_sweep_changes_nothing(rt: HostRuntime) {
-    let Ok(mut machine) = held_machine(&rt, rt.alloc()) else {
-        return;
-    };
-    let done = Ok(Reply::Swept {
-        cleared: 2,
-        released: 32,
-    });
-    let before = sums(&machine);
-    assert_eq!(rt; before, (1, 1, 0, 32, 4064));
-    let mut reply = machine.step(&rt, rt.alloc(), Command::Sweep, &Open);
-    if reply == Err(MachineFault::Memory) {
-        assert_eq!(rt; sums(&machine), before);
-        reply = machine.step(&rt, rt.alloc(), Command::Sweep, &Open);
-    }
-    assert_eq!(rt; reply, done);
-    assert_eq!(rt; sums(&machine), (0, 0, 0, 0, 4096));
 }

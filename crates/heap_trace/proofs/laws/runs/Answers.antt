@@ -2,13 +2,13 @@ use Rattle.heap_trace.proofs.OneRun.{Answers-only, IsOutcome-only, Run-only, Run
 use Rattle.heap_trace.proofs.laws.runs.Goals as goal
 
 pub returns-clause-one : goal.returns-clause-one
-returns-clause-one c = λ first commands. Run-some first commands
+returns-clause-one c = λ first commands. Run-some c.steps.ensures.one first commands
 
 pub returns-clause-only : goal.returns-clause-only
-returns-clause-only c = λ first commands replies others last left p q. Run-only first commands replies others last left p q
+returns-clause-only c = λ first commands replies others last left p q. Run-only c.steps.ensures.only first commands replies others last left p q
 
 pub returns-clause-outcome : goal.returns-clause-outcome
-returns-clause-outcome c = λ script a b p q. IsOutcome-only script a b p q
+returns-clause-outcome c = λ script a b p q. IsOutcome-only c.steps.ensures.only script a b p q
 
 pub returns-clause-answer : goal.returns-clause-answer
-returns-clause-answer c = λ text a b p q. Answers-only text a b p q
+returns-clause-answer c = λ text a b p q. Answers-only c.steps.ensures.only text a b p q

@@ -1,0 +1,115 @@
+-- A block that goes from live to held keeps a state sound.
+use Rattle.std.proofs.Common.{◌≡◌, ◌∙◌, ◌-◌, ◌==◌, ℕ, Bool, true, false, cond, not, inl, inr, List, [], ◌∷◌, refl, sym, ap, subst, arith}
+use Rattle.std.specs.Prelude.{All, filter}
+use Rattle.std.specs.List.{Contains}
+use Rattle.std.proofs.lemmas.Bool.{and_parts, cases_Bool, eqb-true, false_from_ne_true}
+use Rattle.std.proofs.lemmas.List.Elements.{All-contains, All-weaker}
+use Rattle.std.proofs.lemmas.List.Folds.{Any-from_list_any}
+use Rattle.heap_core.specs.Blocks.{IsApart, Span, blocks_with, end_of, has_bounds, is_block, start_of}
+use Rattle.heap_core.specs.Heap.{HeapState, IsInside, IsSound as IsSoundHeap}
+use Rattle.heap_core.specs.Quarantine.{freed_of, with_held}
+use Rattle.heap_core.specs.declared.block.Freed.TheVariants as TheFreed
+use Rattle.tag_memory.specs.Cells.{cell_of}
+use Rattle.trace_text.specs.declared.trace.Command.TheVariants.{Free}
+use Rattle.heap_machine.specs.Safety.{HoldsGuarded, IsGuarded, IsLiveOrHeld}
+use Rattle.heap_machine.specs.declared.reply.Reply.TheVariants.{Held}
+use Rattle.heap_machine.specs.Sound.{IsSound}
+use Rattle.heap_machine.specs.State.{State, register}
+use Rattle.heap_machine.specs.Step.{Step, bounds_in}
+use Rattle.heap_machine.proofs.BlockLists.{Contains-later, Contains-cases, Contains-new, Contains-still}
+use Rattle.heap_machine.proofs.GuardLaws.{IsGuarded-in}
+
+-- ---- bounds
+
+-- The block with these bounds.
+has_bounds-is : (base top : ℕ) (block : Span) → has_bounds base top block ≡ true → (start_of block ≡ base) × (end_of block ≡ top)
+has_bounds-is base top block is =
+    let both = and_parts (start_of block == base) (end_of block == top) is in
+    (eqb-true (start_of block) base both.0, eqb-true (end_of block) top both.1)
+
+the_block : (base top : ℕ) (block : Span) → has_bounds base top block ≡ true → block ≡ (base, top - base)
+the_block base top block is =
+    let both = has_bounds-is base top block is in
+    let length : block.1 ≡ top - base = omega (arith, both.0, both.1) in
+    λ k. (both.0 k, length k)
+
+-- No block is live and held.
+pub one_of_both : (heap : HeapState) (base top : ℕ) → IsSoundHeap heap → is_block heap.live base top ≡ true → is_block heap.held base top ≡ false
+one_of_both heap base top sound live =
+    false_from_ne_true (is_block heap.held base top)
+    (λ held.
+    let a = Any-from_list_any (has_bounds base top) heap.live live in
+    let b = Any-from_list_any (has_bounds base top) heap.held held in
+    let in_live : Contains heap.live a.1 = (a.0, a.2, a.3) in
+    let in_held : Contains heap.held b.1 = (b.0, b.2, b.3) in
+    let inside = All-contains (IsInside heap) heap.live a.1 sound.live_inside in_live in
+    let bounds_a = has_bounds-is base top a.1 a.4 in
+    let bounds_b = has_bounds-is base top b.1 b.4 in
+    elim (All-contains (IsApart a.1) heap.held b.1 (All-contains (λ block. All (IsApart block) heap.held) heap.live a.1 sound.apart in_live) in_held) [
+      | inl before ↦ omega (arith, before, inside.some, bounds_a.0, bounds_a.1, bounds_b.0, bounds_b.1)
+      | inr after ↦ omega (arith, after, inside.some, bounds_a.0, bounds_a.1, bounds_b.0, bounds_b.1)
+    ])
+
+-- ---- the blocks
+
+Contains-filter : (test : Span → Bool) (blocks : List Span) (block : Span) → test block ≡ true → Contains blocks block → Contains (filter test blocks) block
+Contains-filter test [] block passes h = h
+Contains-filter test (b ∷ blocks) block passes h =
+    elim (Contains-cases b blocks block h) [
+      | inl same ↦ (let here : test b ≡ true = ap test same ∙ passes in rw here (0, omega arith, same))
+      | inr later ↦
+          let rest = Contains-filter test blocks block passes later in
+          elim (cases_Bool (test b)) [
+            | inl is ↦ rw is (Contains-later b (filter test blocks) block rest)
+            | inr is ↦ rw is rest
+          ]
+    ]
+
+-- Each block is one still.
+still_there : (heap : HeapState) (base top : ℕ) (block : Span) → IsLiveOrHeld heap block → IsLiveOrHeld (with_held heap base top) block
+still_there heap base top block (inr held) = inr (Contains-still (base, top - base) heap.held block held)
+still_there heap base top block (inl live) =
+    elim (cases_Bool (has_bounds base top block)) [
+      | inl is ↦
+          let same = the_block base top block is in
+          inr (subst (Contains (blocks_with (base, top - base) heap.held)) (sym same) (Contains-new (base, top - base) heap.held))
+      | inr other ↦ inl (Contains-filter (λ b. not (has_bounds base top b)) heap.live block (ap not other) live)
+    ]
+
+-- ---- the state
+
+pub IsSound-held : (s : State) (heap : HeapState) (base top : ℕ) → IsSound s → heap ≡ with_held s.heap base top → IsSoundHeap heap → IsSound (record s { heap = heap })
+IsSound-held s heap base top sound same sound_heap =
+    let still : (block : Span) → IsLiveOrHeld s.heap block → IsLiveOrHeld heap block =
+    λ block there. subst (λ (h : HeapState). IsLiveOrHeld h block) (sym same) (still_there s.heap base top block there) in
+    let size : heap.size ≡ s.heap.size = ap (λ (h : HeapState). h.size) same in
+    record {
+      granules = sound.granules ∙ sym size;
+      count = sound.count;
+      zero = sound.zero;
+      safe = record {
+        heap = sound_heap;
+        registers = All-weaker (IsGuarded s.heap) (IsGuarded heap) (λ c. IsGuarded-in s.heap heap c still) s.registers sound.safe.registers;
+        cells = All-weaker (HoldsGuarded s.heap) (HoldsGuarded heap) (λ granule. IsGuarded-in s.heap heap (cell_of granule) still) s.cells sound.safe.cells;
+      };
+    }
+
+-- ---- the step
+
+-- What is held was a live block.
+was_live : (heap : HeapState) (base top : ℕ) → freed_of heap base top ≡ TheFreed.Held → is_block heap.live base top ≡ true
+was_live heap base top held = go (is_block heap.live base top) (is_block heap.held base top) held where
+  go : (live other : Bool) → (cond live TheFreed.Held (cond other TheFreed.AlreadyHeld TheFreed.NotBlock)) ≡ TheFreed.Held → live ≡ true
+  go true other e = refl
+  go false true e = absurd cc
+  go false false e = absurd cc
+
+pub Step-free : (s : State) (rs : ℕ) (heap : HeapState) → IsSoundHeap s.heap → (register s rs).1 ≡ true
+    → freed_of s.heap (bounds_in (register s rs).0).base (bounds_in (register s rs).0).top ≡ TheFreed.Held
+    → heap ≡ with_held s.heap (bounds_in (register s rs).0).base (bounds_in (register s rs).0).top
+    → Step s (Free rs) (Held ((bounds_in (register s rs).0).top - (bounds_in (register s rs).0).base)) (record s { heap = heap })
+Step-free s rs heap sound tagged held same =
+    let bounds = bounds_in (register s rs).0 in
+    let live = was_live s.heap bounds.base bounds.top held in
+    let other = one_of_both s.heap bounds.base bounds.top sound live in
+    rw (tagged, other, live) (refl, ap (λ (h : HeapState). record s { heap = h }) same)

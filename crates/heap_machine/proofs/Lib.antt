@@ -1,0 +1,13 @@
+mod BlockLists
+mod ClearedRegisters
+mod FreedBlock
+mod GuardLaws
+mod HexadecimalLaws
+mod NewBlock
+mod OnePlace
+pub mod OneStep
+mod RevokedLaws
+mod SoundLaws
+mod SweepStep
+mod SweptState
+mod UnusedLaws

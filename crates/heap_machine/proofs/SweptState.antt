@@ -1,0 +1,187 @@
+-- The state after a sweep: each tagged word whose base lies in a held block has lost its tag.
+use Rattle.std.proofs.Common.{◌≡◌, ◌∙◌, ◌<◌, ◌≤◌, ◌+◌, ◌-◌, ◌*◌, ◌&&◌, ℕ, Bool, true, false, cond, not, inl, inr, All, List, [], ◌∷◌, length, get_or, drop, refl, sym, ap, subst, arith}
+use Rattle.std.specs.Prelude.{count_by}
+use Rattle.std.specs.List.{Contains, enumerate_from}
+use Rattle.std.proofs.lemmas.Bool.{and_parts, not-true, true≢false}
+use Rattle.std.proofs.lemmas.Bool.Decides.{nat_tests}
+use Rattle.std.proofs.lemmas.List.{drop-map, ext_get_or, get_or-map, length-map}
+use Rattle.std.proofs.lemmas.List.Elements.{All-head, All-map, All-weaker}
+use Rattle.std.proofs.lemmas.List.Folds.{list_any-from_Any}
+use Rattle.std.proofs.lemmas.List.FromFn.{get_or-enumerate_from, length-enumerate_from}
+use Rattle.std.proofs.lemmas.List.Sums.{sum_by-cons}
+use Rattle.cap_codec.specs.declared.word.Word.{Word}
+use Rattle.heap_core.specs.Blocks.{Span, bytes_of, end_of, has_address, length_of, start_of}
+use Rattle.heap_core.specs.Heap.{HeapState, IsInside, IsSound as IsSoundHeap}
+use Rattle.heap_core.specs.Quarantine.{without_held}
+use Rattle.sweep_pool.specs.Sweep.{TakeTags, base_of, is_revoked, swept_cell, swept_granule, swept_granules, swept_registers, tags_taken}
+use Rattle.tag_memory.specs.Cells.{Cell, Granule, MemoryState, cell_of, null_cell}
+use Rattle.tag_memory.specs.Tags.{is_set_for, without_tags}
+use Rattle.heap_machine.specs.Safety.{HoldsGuarded, IsGuarded, LieIn}
+use Rattle.heap_machine.specs.Sound.{IsSound}
+use Rattle.heap_machine.specs.State.{State, tags_of}
+use Rattle.heap_machine.specs.Step.{bounds_in, swept}
+
+-- ---- memory
+
+-- A tag that is taken where it is and the word is revoked.
+pub and_not : (t r : Bool) → (t && not (t && r)) ≡ (t && not r)
+and_not true r = refl
+and_not false r = refl
+
+get_or-without_tags : (masks : List ℕ) (granules : List Granule) (i : ℕ) → i < length granules
+    → get_or (without_tags masks granules) i (0, false) ≡ ((get_or granules i (0, false)).0, (get_or granules i (0, false)).1 && not (is_set_for masks i))
+unfolding without_tags
+get_or-without_tags masks granules i lt =
+    let take : ℕ × Granule → Granule = λ at. (at.1.0, at.1.1 && not (is_set_for masks at.0)) in
+    let there : get_or (enumerate_from 0 granules) i (0, (0, false)) ≡ (i, get_or granules i (0, false)) =
+    (let here : 0 + i ≡ i = omega arith in get_or-enumerate_from 0 granules i (0, (0, false)) lt ∙ ap (λ (n : ℕ). (n, get_or granules i (0, false))) here) in
+    get_or-map take (enumerate_from 0 granules) i (0, (0, false)) (0, false) (rw length-enumerate_from lt) ∙ ap take there
+
+length-without_tags : (masks : List ℕ) (granules : List Granule) → length (without_tags masks granules) ≡ length granules
+unfolding without_tags
+length-without_tags masks granules = length-map _ _ ∙ length-enumerate_from 0 granules
+
+-- Memory without the tags of the masks is the memory swept.
+pub without_tags-swept : (held : List Span) (m : MemoryState) (masks : List ℕ) → TakeTags m held masks → without_tags masks m.cells ≡ swept_granules held m.cells
+without_tags-swept held m masks take =
+    let cells = m.cells in
+    ext_get_or (0, false) (without_tags masks cells) (swept_granules held cells)
+    (length-without_tags masks cells ∙ sym (length-map cells (swept_granule held)))
+    (λ i lt.
+    let inside : i < length cells = omega (arith, lt, length-without_tags masks cells) in
+    let granule = get_or cells i (0, false) in
+    let tag : (granule.1 && not (is_set_for masks i)) ≡ (granule.1 && not (is_revoked held (record { bits = granule.0 }))) =
+    ap (λ b. granule.1 && not b) (take.bits i inside) ∙ and_not granule.1 (is_revoked held (record { bits = granule.0 })) in
+    get_or-without_tags masks cells i inside
+    ∙ ((λ k. (granule.0, tag k)) ∙ sym (get_or-map (swept_granule held) cells i (0, false) (0, false) inside)))
+
+-- ---- tags
+
+kept_or_taken : (t r : Bool) → cond (t && not r) 1 0 + cond (t && r) 1 0 ≡ cond t 1 0
+kept_or_taken true true = refl
+kept_or_taken true false = refl
+kept_or_taken false r = refl
+
+-- The tags that a sweep leaves and those that it takes are the tags before.
+count-swept_granules : (held : List Span) (granules : List Granule)
+    → count_by (λ (g : Granule). g.1) (swept_granules held granules) + count_by (λ (g : Granule). g.1 && is_revoked held (cell_of g).0) granules
+    ≡ count_by (λ (g : Granule). g.1) granules
+count-swept_granules held [] = refl
+count-swept_granules held (g ∷ granules) =
+    let taken : Granule → Bool = λ x. x.1 && is_revoked held (cell_of x).0 in
+    let rest = count-swept_granules held granules in
+    let here = kept_or_taken g.1 (is_revoked held (cell_of g).0) in
+    omega (
+      arith,
+      sum_by-cons (λ (x : Granule). cond x.1 1 0) (swept_granule held g) (swept_granules held granules),
+      sum_by-cons (λ (x : Granule). cond (taken x) 1 0) g granules,
+      sum_by-cons (λ (x : Granule). cond x.1 1 0) g granules,
+      rest,
+      here,
+    )
+
+count-swept_registers : (held : List Span) (registers : List Cell)
+    → count_by (λ (c : Cell). c.1) (swept_registers held registers) + count_by (λ (c : Cell). c.1 && is_revoked held c.0) registers
+    ≡ count_by (λ (c : Cell). c.1) registers
+count-swept_registers held [] = refl
+count-swept_registers held (c ∷ registers) =
+    let taken : Cell → Bool = λ x. x.1 && is_revoked held x.0 in
+    let rest = count-swept_registers held registers in
+    let here = kept_or_taken c.1 (is_revoked held c.0) in
+    omega (
+      arith,
+      sum_by-cons (λ (x : Cell). cond x.1 1 0) (swept_cell held c) (swept_registers held registers),
+      sum_by-cons (λ (x : Cell). cond (taken x) 1 0) c registers,
+      sum_by-cons (λ (x : Cell). cond x.1 1 0) c registers,
+      rest,
+      here,
+    )
+
+pub tags_of-swept : (s : State) → tags_of (swept s) + tags_taken s.heap.held s.cells s.registers ≡ tags_of s
+tags_of-swept s =
+    let held = s.heap.held in
+    let taken = count_by (λ (c : Cell). c.1 && is_revoked s.heap.held c.0) (drop 1 s.registers) in
+    let registers = subst (λ (xs : List Cell). count_by (λ (c : Cell). c.1) xs + taken ≡ count_by (λ (c : Cell). c.1) (drop 1 s.registers))
+    (sym (drop-map (swept_cell held) 1 s.registers)) (count-swept_registers held (drop 1 s.registers)) in
+    omega (arith, count-swept_granules held s.cells, registers)
+
+-- So what is counted before and after tells how many it takes.
+pub tags_taken-difference : (s : State) → tags_of s - tags_of (swept s) ≡ tags_taken s.heap.held s.cells s.registers
+tags_taken-difference s = omega (arith, tags_of-swept s)
+
+-- ---- what stays guarded
+
+base_in : (w : Word) → base_of w ≡ (bounds_in w).base
+unfolding bounds_in
+base_in w = refl
+
+-- A word whose bounds lie in a held block is revoked.
+revoked_in : (held : List Span) (w : Word) (block : Span) → Contains held block → LieIn (bounds_in w) block → is_revoked held w ≡ true
+revoked_in held w block there lie =
+    let base = base_in w in
+    let here : has_address (base_of w) block ≡ true =
+    (let from : start_of block ≤ base_of w = omega (arith, lie.start, base) in
+    let before : base_of w < end_of block = omega (arith, lie.some, lie.end, base) in
+    grind (arith, nat_tests)) in
+    list_any-from_Any (has_address (base_of w)) held (there.0, block, there.1, there.2, here)
+
+-- What keeps its tag lies in a live block.
+pub IsGuarded-swept : (heap : HeapState) (c : Cell) → IsGuarded heap c → IsGuarded (without_held heap) (swept_cell heap.held c)
+IsGuarded-swept heap c guarded = record {
+  within = λ e.
+      let both = and_parts c.1 (not (is_revoked heap.held c.0)) e in
+      let x = guarded.within both.0 in
+      elim x.1 [
+        | inl live ↦ (x.0, inl live, x.2)
+        | inr held ↦ absurd (true≢false (sym (revoked_in heap.held c.0 x.0 held x.2) ∙ not-true (is_revoked heap.held c.0) both.1))
+      ];
+}
+
+pub IsSound-swept : (s : State) (heap : HeapState) → IsSound s → heap ≡ without_held s.heap → IsSoundHeap heap → IsSound (record (swept s) { heap = heap })
+IsSound-swept s heap sound same sound_heap =
+    let size : heap.size ≡ s.heap.size = ap (λ (h : HeapState). h.size) same in
+    let guarded : (c : Cell) → IsGuarded s.heap c → IsGuarded heap (swept_cell s.heap.held c) =
+    λ c g. subst (λ (h : HeapState). IsGuarded h (swept_cell s.heap.held c)) (sym same) (IsGuarded-swept s.heap c g) in
+    record {
+      granules = ap (λ n. 16 * n) (length-map s.cells (swept_granule s.heap.held)) ∙ (sound.granules ∙ sym size);
+      count = length-map s.registers (swept_cell s.heap.held) ∙ sound.count;
+      zero = get_or-map (swept_cell s.heap.held) s.registers 0 null_cell null_cell (omega (arith, sound.count)) ∙ ap (swept_cell s.heap.held) sound.zero;
+      safe = record {
+        heap = sound_heap;
+        registers = All-map (IsGuarded heap) (swept_cell s.heap.held) s.registers (All-weaker (IsGuarded s.heap) (λ c. IsGuarded heap (swept_cell s.heap.held c)) guarded s.registers sound.safe.registers);
+        cells = All-map (HoldsGuarded heap) (swept_granule s.heap.held) s.cells (All-weaker (HoldsGuarded s.heap) (λ granule. HoldsGuarded heap (swept_granule s.heap.held granule)) (λ granule. guarded (cell_of granule)) s.cells sound.safe.cells);
+      };
+    }
+
+-- ---- where nothing is held
+
+no_spans : (heap : HeapState) (blocks : List Span) → All (IsInside heap) blocks → bytes_of blocks ≡ 0 → blocks ≡ []
+no_spans heap [] inside none = refl
+no_spans heap (b ∷ blocks) inside none =
+    let some = (All-head (IsInside heap) b blocks inside).some in
+    absurd (omega (arith, some, none, sum_by-cons length_of b blocks))
+
+-- Every block has a byte at least, so where held blocks have none there is none.
+pub no_blocks : (heap : HeapState) → IsSoundHeap heap → bytes_of heap.held ≡ 0 → heap.held ≡ []
+no_blocks heap sound none = no_spans heap heap.held sound.held_inside none
+
+and_true : (t : Bool) → (t && true) ≡ t
+and_true true = refl
+and_true false = refl
+
+swept_granules-none : (granules : List Granule) → swept_granules [] granules ≡ granules
+swept_granules-none [] = refl
+swept_granules-none (g ∷ granules) = λ i. (g.0, and_true g.1 i) ∷ swept_granules-none granules i
+
+swept_registers-none : (registers : List Cell) → swept_registers [] registers ≡ registers
+swept_registers-none [] = refl
+swept_registers-none (c ∷ registers) = λ i. (c.0, and_true c.1 i) ∷ swept_registers-none registers i
+
+-- A sweep then leaves the state as it is, and takes no tag.
+pub swept-none : (s : State) → s.heap.held ≡ [] → swept s ≡ s
+swept-none s none =
+    subst (λ (held : List Span). record s { heap = record s.heap { held = [] }; cells = swept_granules held s.cells; registers = swept_registers held s.registers } ≡ s) (sym none)
+    (λ i. record s { heap = record s.heap { held = sym none i }; cells = swept_granules-none s.cells i; registers = swept_registers-none s.registers i })
+
+pub tags_taken-none : (s : State) → s.heap.held ≡ [] → tags_taken s.heap.held s.cells s.registers ≡ 0
+tags_taken-none s none = omega (arith, tags_of-swept s, ap tags_of (swept-none s none))

@@ -1,0 +1,37 @@
+use Rattle.std.proofs.Common.{◌≡◌, ◌∙◌, Ok, Result, true, ap, sym}
+use Rattle.heap_core.specs.Heap.{HeapState}
+use Rattle.heap_core.specs.Quarantine.{freed_of}
+use Rattle.heap_core.specs.declared.block.Freed.TheVariants as TheFreed
+use Rattle.heap_core.specs.declared.block.Freed.{Freed}
+use Rattle.heap_core.specs.declared.fault.HeapFault.{HeapFault}
+use Rattle.heap_machine.specs.Step.{bounds_in}
+use Rattle.tag_memory.specs.Cells.{Cell, register_in}
+use Rattle.heap_machine.specs.State.{State}
+use Rattle.heap_machine.proofs.FreedBlock.{IsSound-held, Step-free}
+use Rattle.heap_machine.proofs.machine.Machine.free.Goals as goal
+
+one_answer : {r : Result Freed HeapFault} {a b : Freed} → r ≡ Ok a → r ≡ Ok b → a ≡ b
+one_answer p q = cc
+
+pub invariant_of-self-2 : goal.invariant_of-self-2
+invariant_of-self-2 c =
+    let m = c.self.inside in
+    let s : State = record { heap = m.heap; cells = m.memory.cells; registers = m.registers } in
+    let bounds = c.bounds_of_word-base.result in
+    let same = c.release.ensures.held (c.in-Ok.is ∙ ap Ok c.in-Held.is) in (
+      c.self.invariant.0 ∙ sym (ap (λ (h : HeapState). h.base) same),
+      IsSound-held s c.release.new.self bounds.base bounds.top c.self.invariant.1 same c.release.ensures.sound,
+    )
+
+pub returns-clause-step : goal.returns-clause-step
+returns-clause-step c =
+    let m = c.self.inside in
+    let s : State = record { heap = m.heap; cells = m.memory.cells; registers = m.registers } in
+    let bounds = c.bounds_of_word-base.result in
+    let is : c.bounds_of_word-base.result ≡ bounds_in (register_in c.self.inside.registers c.args.rs).0 =
+    c.bounds_of_word-base.ensures ∙ ap (λ (cell : Cell). bounds_in cell.0) c.get-tag.ensures.value in
+    let tagged : (register_in c.self.inside.registers c.args.rs).1 ≡ true = sym (ap (λ (cell : Cell). cell.1) c.get-tag.ensures.value) ∙ c.if-not-tag.false in
+    let same = c.release.ensures.held (c.in-Ok.is ∙ ap Ok c.in-Held.is) in
+    let held : freed_of c.self.inside.heap c.bounds_of_word-base.result.base c.bounds_of_word-base.result.top ≡ TheFreed.Held =
+    one_answer c.release.ensures.answer c.in-Ok.is ∙ c.in-Held.is in
+    rw (← c.self.view_is, c.from.ensures, is) (Step-free s c.args.rs c.release.new.self c.self.invariant.1.safe.heap tagged (rw is at held) (rw is at same))

@@ -1,0 +1,6 @@
+pub mod Answer
+pub mod Display
+pub mod Safety
+pub mod Sound
+pub mod State
+pub mod Step

@@ -1,0 +1,206 @@
+-- What each command answers, and what state it leaves: the table of the commands (this project's own
+-- profile). First come the checks of a command in their order; the first that fails is the trap, and a trap
+-- changes nothing. Where none fails, the effect is the command's.
+use Rattle.std.specs.Prelude.{◌≡◌, ℕ, ◌+◌, ◌-◌, ◌/◌, ◌%◌, ◌^◌, Bool, true, false, not, ◌||◌, slice_index_or, slice_set, List, [], ◌∷◌, Option, Some, None, ◌&&◌, ◌==◌, bit_and, nat_le, if◌then◌else◌}
+use Rattle.cap_codec.specs.declared.word.Bounds.{Bounds}
+use Rattle.cap_codec.specs.declared.word.Fields.{Fields}
+use Rattle.cap_codec.specs.declared.word.Word.{Word}
+use Rattle.cap_codec.specs.Bounds.{bounds_of}
+use Rattle.cap_codec.specs.Bytes.{bits_of_bytes}
+use Rattle.cap_codec.specs.Fields.{bits_with, fields_of}
+use Rattle.cap_codec.specs.Mantissas.{exponent_of}
+use Rattle.cap_codec.specs.Representable.{is_representable}
+use Rattle.cap_codec.specs.Rounding.{outward_base, outward_top, with_bounds_of}
+use Rattle.heap_core.specs.Blocks.{blocks_with, bytes_of, is_block}
+use Rattle.heap_core.specs.Place.{IsFree, IsPlace, block_length}
+use Rattle.heap_core.specs.Quarantine.{with_held, without_held}
+use Rattle.sweep_pool.specs.Sweep.{swept_granules, swept_registers, tags_taken}
+use Rattle.tag_memory.specs.Cells.{Cell, Granule, null_cell}
+use Rattle.trace_text.specs.declared.trace.Command.{Command}
+use Rattle.trace_text.specs.declared.trace.Command.TheVariants.{Malloc, Free, Copy, SetAddr, Narrow, AndPerm, StoreCap, LoadCap, Write, Show, Sweep}
+use Rattle.heap_machine.specs.declared.reply.Reply.{Reply}
+use Rattle.heap_machine.specs.declared.reply.Reply.TheVariants.{Block, NoSpace, Held, Done, Cleared, Swept}
+use Rattle.heap_machine.specs.declared.reply.Reply.TheVariants as reply
+use Rattle.heap_machine.specs.declared.reply.Shown.{Shown as ShownCell}
+use Rattle.heap_machine.specs.declared.reply.Trap.{Trap}
+use Rattle.heap_machine.specs.declared.reply.Trap.TheVariants as trap
+use Rattle.heap_machine.specs.State.{State, register, with_cell}
+
+-- ---- words
+
+-- The fields of the null capability with the permissions of a new block: GLOBAL, LOAD, STORE,
+-- LOAD_CAPABILITY and STORE_CAPABILITY.
+abbrev pub block_fields : Fields
+block_fields = record (fields_of (record { bits = 0 })) { perms = 0x3d }
+
+-- The capability of a new block, its address the block's base.
+unfoldable pub capability_of : ℕ → ℕ → Word
+capability_of base top = record { bits = bits_with (with_bounds_of block_fields base top) }
+
+-- The address of a word, and its bounds.
+unfoldable pub address_in : Word → ℕ
+address_in w = (fields_of w).address
+
+unfoldable pub bounds_in : Word → Bounds
+bounds_in w = bounds_of (fields_of w)
+
+-- The word with this address, and whether it keeps its bounds there.
+unfoldable pub with_address : Word → ℕ → Word
+with_address w a = record { bits = bits_with (record (fields_of w) { address = a }) }
+
+unfoldable pub keeps_bounds : Word → ℕ → Bool
+keeps_bounds w a = is_representable (fields_of w) a
+
+-- The word with those of its permissions that the mask has too.
+unfoldable pub with_perms : Word → ℕ → Word
+with_perms w mask = record { bits = bits_with (record (fields_of w) { perms = bit_and (fields_of w).perms mask }) }
+
+-- The word with these bounds, its address the base, and whether a word can hold them as they are.
+unfoldable pub narrowed : Word → ℕ → ℕ → Word
+narrowed w base top = record { bits = bits_with (with_bounds_of (fields_of w) base top) }
+
+unfoldable pub is_exact : ℕ → ℕ → Bool
+is_exact base top = (outward_base base top == base) && (outward_top base top == top)
+
+-- What is shown of a register.
+unfoldable pub shown_of : Cell → ShownCell
+shown_of c = record {
+  tag = c.1;
+  address = (fields_of c.0).address;
+  base = (bounds_of (fields_of c.0)).base;
+  top = (bounds_of (fields_of c.0)).top;
+  perms = (fields_of c.0).perms;
+  otype = (fields_of c.0).otype;
+  exponent = exponent_of (fields_of c.0);
+}
+
+-- ---- permissions and accesses
+
+-- Permissions, each by its bit (CHERI ISA version 9, UCAM-CL-TR-987: architectural permissions).
+abbrev pub load : ℕ
+load = 2 ^ 2
+
+abbrev pub store : ℕ
+store = 2 ^ 3
+
+abbrev pub load_capability : ℕ
+load_capability = 2 ^ 4
+
+abbrev pub store_capability : ℕ
+store_capability = 2 ^ 5
+
+-- The word has this permission.
+unfoldable pub allows : ℕ → Word → Bool
+allows permission w = not (bit_and (fields_of w).perms permission == 0)
+
+-- The checks of an access to the 16 bytes at the address of a register, which is allowed so.
+abbrev pub access : Cell → Bool → List (Bool × Trap)
+access c allowed =
+    let a = address_in c.0 in
+    (c.1, trap.Tag)
+    ∷ (allowed, trap.Perm)
+    ∷ (nat_le (bounds_in c.0).base a && nat_le (a + 16) (bounds_in c.0).top, trap.Bounds)
+    ∷ (a % 16 == 0, trap.Align) ∷ []
+
+-- The index of the granule at a word's address.
+abbrev pub index_in : State → Word → ℕ
+index_in s w = (address_in w - s.heap.base) / 16
+
+-- The granule there, and the state after a write to it.
+abbrev pub granule_at : State → Word → Granule
+granule_at s w = slice_index_or s.cells (index_in s w) (0, false)
+
+abbrev pub with_granule : State → Word → Granule → State
+with_granule s w granule = record s { cells = slice_set s.cells (index_in s w) granule }
+
+-- ---- freeing and sweeping
+
+-- The state once the live block with a word's bounds is held.
+abbrev pub freed : State → Word → State
+freed s w = record s { heap = with_held s.heap (bounds_in w).base (bounds_in w).top }
+
+-- The state after a sweep: each tagged word whose base lies in a held block has lost its tag, in memory and
+-- in the registers, and the held blocks are free.
+abbrev pub swept : State → State
+swept s = record s {
+  heap = without_held s.heap;
+  cells = swept_granules s.heap.held s.cells;
+  registers = swept_registers s.heap.held s.registers;
+}
+
+-- ---- steps
+
+-- The checks of a command in order, each with the trap where it fails.
+abbrev pub checks : State → Command → List (Bool × Trap)
+checks s (Free rs) =
+    let c = register s rs in
+    let b = bounds_in c.0 in
+    (c.1, trap.Tag)
+    ∷ (not (is_block s.heap.held b.base b.top), trap.Freed)
+    ∷ (is_block s.heap.live b.base b.top, trap.NotBlock) ∷ []
+checks s (Narrow rd rs n) =
+    let c = register s rs in
+    let a = address_in c.0 in
+    (c.1, trap.Tag)
+    ∷ (nat_le 1 n, trap.Empty)
+    ∷ (nat_le (bounds_in c.0).base a && nat_le (a + n) (bounds_in c.0).top, trap.Bounds)
+    ∷ (is_exact a (a + n), trap.Inexact) ∷ []
+checks s (StoreCap ra rs) =
+    let w = (register s ra).0 in
+    access (register s ra) (allows store w && (not (register s rs).1 || allows store_capability w))
+checks s (LoadCap rd ra) = access (register s ra) (allows load (register s ra).0)
+checks s (Write ra bytes) = access (register s ra) (allows store (register s ra).0)
+checks s command = []
+
+-- The trap of the first check that fails.
+abbrev pub first_failed : List (Bool × Trap) → Option Trap
+first_failed [] = None
+first_failed (c ∷ cs) = if c.0 then first_failed cs else Some c.1
+
+-- What a command does where no check fails.
+abbrev pub Effect : State → Command → Reply → State → Type 0
+Effect old (Malloc rd size) (Block base top) new =
+    IsPlace old.heap size base × (top ≡ base + block_length size)
+    × (new ≡ record (with_cell old rd (capability_of base top, true)) { heap = record old.heap { live = blocks_with (base, block_length size) old.heap.live } })
+Effect old (Malloc rd size) NoSpace new = ((a : ℕ) → IsFree old.heap size a → ⊥) × (new ≡ with_cell old rd null_cell)
+Effect old (Malloc rd size) other new = ⊥
+Effect old (Free rs) answer new =
+    let w = (register old rs).0 in
+    (answer ≡ Held ((bounds_in w).top - (bounds_in w).base)) × (new ≡ freed old w)
+Effect old (Copy rd rs) answer new = (answer ≡ Done) × (new ≡ with_cell old rd (register old rs))
+Effect old (SetAddr rd rs a) answer new =
+    let c = register old rs in
+    (answer ≡ (if c.1 && not (keeps_bounds c.0 a) then Cleared else Done))
+    × (new ≡ with_cell old rd (with_address c.0 a, c.1 && keeps_bounds c.0 a))
+Effect old (Narrow rd rs n) answer new =
+    let c = register old rs in
+    (answer ≡ Done) × (new ≡ with_cell old rd (narrowed c.0 (address_in c.0) (address_in c.0 + n), true))
+Effect old (AndPerm rd rs mask) answer new =
+    let c = register old rs in
+    (answer ≡ Done) × (new ≡ with_cell old rd (with_perms c.0 mask, c.1))
+Effect old (StoreCap ra rs) answer new =
+    let c = register old rs in
+    (answer ≡ Done) × (new ≡ with_granule old (register old ra).0 (c.0.bits, c.1))
+Effect old (LoadCap rd ra) answer new =
+    let w = (register old ra).0 in
+    let granule = granule_at old w in
+    (answer ≡ Done) × (new ≡ with_cell old rd (record { bits = granule.0 }, granule.1 && allows load_capability w))
+Effect old (Write ra bytes) answer new = (answer ≡ Done) × (new ≡ with_granule old (register old ra).0 (bits_of_bytes bytes, false))
+Effect old (Show rs) answer new = (answer ≡ reply.Shown (shown_of (register old rs))) × (new ≡ old)
+Effect old Sweep answer new =
+    (answer ≡ Swept (tags_taken old.heap.held old.cells old.registers) (bytes_of old.heap.held)) × (new ≡ swept old)
+
+-- The step where a check fails, and where none does.
+abbrev pub StepAfter : Option Trap → State → Command → Reply → State → Type 0
+StepAfter None old command answer new = Effect old command answer new
+StepAfter (Some trap) old command answer new = (answer ≡ reply.Trap trap) × (new ≡ old)
+
+-- From the state old, the command is answered so and leaves the state new.
+abbrev pub Step : State → Command → Reply → State → Type 0
+Step old command answer new = StepAfter (first_failed (checks old command)) old command answer new
+
+-- The commands that need no memory.
+abbrev pub TakesNoMemory : Command → Type 0
+TakesNoMemory (Malloc rd size) = ⊥
+TakesNoMemory Sweep = ⊥
+TakesNoMemory other = Unit {0}

@@ -1,0 +1,69 @@
+//! The texts of replies.
+
+ghost use Rattle.std.specs.Prelude.{◌≡◌, Some};
+ghost use Rattle.heap_machine.specs.Answer.{answer_text, shown_text, trap_name};
+
+use crate::display::{Hexadecimal, Place, bit};
+use crate::reply::{Reply, Shown, Trap};
+use std::fmt;
+
+fn name_of_trap(trap: Trap) -> &'static str
+    ensures { result.now ≡ trap_name trap }
+{
+    match trap {
+        Trap::Tag => "tag",
+        Trap::Perm => "perm",
+        Trap::Bounds => "bounds",
+        Trap::Align => "align",
+        Trap::Empty => "empty",
+        Trap::Inexact => "inexact",
+        Trap::Freed => "freed",
+        Trap::NotBlock => "notblock",
+    }
+}
+
+impl fmt::Display for Shown {
+    ghost output = { λ s. Some (shown_text s) };
+
+    fn fmt<W: fmt::Write>(&self, f: &mut fmt::Formatter<W>) -> fmt::Result {
+        let tag = bit(self.tag);
+        let place = Place {
+            address: self.address,
+            base: self.base,
+            top: self.top,
+        };
+        let perms = self.perms;
+        let otype = self.otype;
+        let exponent = self.exponent;
+        write!(
+            f,
+            "tag {tag} {place} perms 0x{perms:x} type 0x{otype:x} exponent {exponent}"
+        )
+    }
+}
+
+impl fmt::Display for Reply {
+    ghost output = { λ r. Some (answer_text r) };
+
+    fn fmt<W: fmt::Write>(&self, f: &mut fmt::Formatter<W>) -> fmt::Result {
+        match *self {
+            Reply::Block { base, top } => {
+                let top = Hexadecimal(top);
+                write!(f, "block 0x{base:x} {top}")
+            }
+            Reply::NoSpace => write!(f, "nospace"),
+            Reply::Held(bytes) => write!(f, "held {bytes}"),
+            Reply::Done => write!(f, "ok"),
+            Reply::Cleared => write!(f, "cleared"),
+            Reply::Swept { cleared, released } => write!(
+                f,
+                "cleared {cleared} released {released}"
+            ),
+            Reply::Shown(shown) => write!(f, "{shown}"),
+            Reply::Trap(trap) => {
+                let name = name_of_trap(trap);
+                write!(f, "trap {name}")
+            }
+        }
+    }
+}

@@ -1,0 +1,51 @@
+//! The texts of numbers and of places.
+
+ghost use Rattle.std.specs.Prelude.{◌≡◌, Some};
+ghost use Rattle.cap_codec.specs.Fields.{bit_of};
+ghost use Rattle.heap_machine.specs.Display.{hexadecimal_text, place_text};
+
+use std::fmt;
+
+/// A number that is shown as `0x` and lower-case hexadecimal digits without leading zeros.
+#[derive(Debug, Clone, Copy, PartialEq, Eq)]
+pub struct Hexadecimal(pub u128);
+
+impl fmt::Display for Hexadecimal {
+    ghost output = { λ n. Some (hexadecimal_text n.0) };
+
+    fn fmt<W: fmt::Write>(&self, f: &mut fmt::Formatter<W>) -> fmt::Result {
+        let high = (self.0 >> 64) as u64;
+        let low = (self.0 % (1 << 64)) as u64;
+        if high != 0 {
+            write!(f, "0x{high:x}{low:016x}")
+        } else {
+            write!(f, "0x{low:x}")
+        }
+    }
+}
+
+/// An address with bounds, shown as `address 0x.. base 0x.. top 0x..`.
+#[derive(Debug, Clone, Copy, PartialEq, Eq)]
+pub struct Place {
+    pub address: u64,
+    pub base: u64,
+    pub top: u128,
+}
+
+impl fmt::Display for Place {
+    ghost output = { λ p. Some (place_text p.address p.base p.top) };
+
+    fn fmt<W: fmt::Write>(&self, f: &mut fmt::Formatter<W>) -> fmt::Result {
+        let address = self.address;
+        let base = self.base;
+        let top = Hexadecimal(self.top);
+        write!(f, "address 0x{address:x} base 0x{base:x} top {top}")
+    }
+}
+
+/// A flag as the number that it is shown by.
+pub fn bit(flag: bool) -> u8
+    ensures { result ≡ bit_of flag }
+{
+    u8::from(flag)
+}

@@ -1,0 +1,130 @@
+//! Freeing and sweeping: blocks in quarantine, and the tags of the words that point there.
+
+ghost use Rattle.std.specs.Prelude.{◌≡◌, ◌<◌, ◌≤◌, ◌&&◌, ℕ, IfErr, IfOk, IsOk, OnErr, length, not, slice_index_or};
+ghost use Rattle.trace_text.specs.Command.{IsValid};
+ghost use Rattle.heap_machine.specs.Step.{Step};
+ghost use Rattle.tag_memory.specs.Cells.{null_cell};
+ghost use Rattle.tag_memory.specs.Tags.{is_set};
+
+use crate::capability::bounds_of_word;
+use crate::machine::Machine;
+use crate::reply::{MachineFault, Reply, Trap};
+use cap_codec::Bounds;
+use heap_core::Freed;
+use std::alloc::Global;
+use std::thread::Threads;
+use sweep_pool::{Cutting, Gate, sweep_masks, swept_registers};
+use tag_memory::{REGISTERS, Registers, bit};
+use trace_text::Command;
+
+// To decode the words of so many granules takes longer than a worker more costs: the start of its thread,
+// and its tries of the tasks that others have claimed.
+const GRANULES_A_WORKER: usize = 16_000;
+
+// How a pass over so many tagged granules is cut: a worker is started only where its work is worth it.
+fn cutting_for(cutting: Cutting, tagged: usize) -> Cutting
+    ensures pages { result.pages_per_task ≡ cutting.pages_per_task }
+    ensures workers { result.workers ≤ cutting.workers }
+{
+    let worthwhile = tagged / GRANULES_A_WORKER + 1;
+    let workers = worthwhile.min(cutting.workers() as usize) as u32;
+    Cutting::new(workers, cutting.pages_per_task()).unwrap()
+}
+
+// Takes the tags of the registers whose bits are 1 in the mask. Register 0 stays as it is.
+fn clear_registers(registers: &mut Registers, mask: u32)
+    requires { length registers.old ≡ 32 }
+    ensures count { length registers.new ≡ 32 }
+    ensures zero { slice_index_or registers.new 0 null_cell ≡ slice_index_or registers.old 0 null_cell }
+    ensures cells { (r : ℕ) → 0 < r → r < 32 → slice_index_or registers.new r null_cell
+        ≡ (
+          (slice_index_or registers.old r null_cell).0,
+          (slice_index_or registers.old r null_cell).1 && not (is_set mask r),
+        ) }
+{
+    for r in 0..REGISTERS {
+        if bit(u64::from(mask), usize::from(r)) {
+            registers.clear(r);
+        }
+    }
+}
+
+impl Machine {
+    // The block with just a register's bounds goes into quarantine.
+    pub(super) fn free(&mut self, rs: u8) -> Result<Reply, MachineFault>
+        requires { IsValid (Command.Free rs) }
+        ensures step { IfOk result (λ reply. Step self.old (Command.Free rs) reply self.new) }
+        ensures ok { IsOk result }
+    {
+        let (word, tag) = self.registers.get(rs);
+        if !tag {
+            return Ok(Reply::Trap(Trap::Tag));
+        }
+        let Bounds { base, top } = bounds_of_word(word);
+        let bytes = (top - u128::from(base)) as u64;
+        let Ok(freed) = self.heap.release(base, top) else {
+            return Err(MachineFault::Memory);
+        };
+        match freed {
+            Freed::Held => {}
+            Freed::AlreadyHeld => return Ok(Reply::Trap(Trap::Freed)),
+            Freed::NotBlock => return Ok(Reply::Trap(Trap::NotBlock)),
+        }
+        Ok(Reply::Held(bytes))
+    }
+
+    // Every tagged word whose base lies in a held block loses its tag; then the held blocks are free.
+    // Where none is held there is nothing to look for.
+    pub(super) fn sweep<R: Threads + Sync, G: Gate + Sync>(
+        &mut self,
+        rt: &R,
+        alloc: Global,
+        gate: &G,
+    ) -> Result<Reply, MachineFault>
+        ensures step { IfOk result (λ reply. Step self.old Command.Sweep reply self.new) }
+        ensures err { OnErr result (self.new ≡ self.old) }
+        ensures memory { IfErr result (λ fault. fault ≡ MachineFault.Memory) }
+    {
+        if self.heap.held_bytes() == 0 {
+            return Ok(Reply::Swept {
+                cleared: 0,
+                released: 0,
+            });
+        }
+        self.pass_over(rt, alloc, gate)
+    }
+
+    // A pass over all memory and registers. Whatever takes memory comes first.
+    fn pass_over<R: Threads + Sync, G: Gate + Sync>(
+        &mut self,
+        rt: &R,
+        alloc: Global,
+        gate: &G,
+    ) -> Result<Reply, MachineFault>
+        ensures step { IfOk result (λ reply. Step self.old Command.Sweep reply self.new) }
+        ensures err { OnErr result (self.new ≡ self.old) }
+        ensures memory { IfErr result (λ fault. fault ≡ MachineFault.Memory) }
+    {
+        let Ok(()) = self.heap.prepare() else {
+            return Err(MachineFault::Memory);
+        };
+        let Ok(shadow) = self.heap.shadow(alloc) else {
+            return Err(MachineFault::Memory);
+        };
+        let tagged = self.memory.tagged();
+        let cutting = cutting_for(self.cutting, tagged);
+        let Ok(masks) = sweep_masks(rt, alloc, &self.memory, &shadow, &cutting, gate) else {
+            return Err(MachineFault::Memory);
+        };
+        let mask = swept_registers(&self.registers, &shadow, self.memory.base());
+        let before = tagged + self.registers.tagged();
+        self.memory.clear_tags(&masks);
+        clear_registers(&mut self.registers, mask);
+        let after = self.memory.tagged() + self.registers.tagged();
+        let released = self.heap.give_back();
+        Ok(Reply::Swept {
+            cleared: (before - after) as u32,
+            released,
+        })
+    }
+}

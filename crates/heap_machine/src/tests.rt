@@ -1,0 +1,5 @@
+//! Machines, command by command.
+
+mod machine;
+mod sweeps;
+mod workers;

@@ -1,9 +1,0 @@
-use Rattle.std.proofs.Common.{rules}
-use Rattle.heap_trace.proofs.SoundLaws.{IsSound-first}
-use Rattle.heap_trace.proofs.machine.Machine.new.Goals as goal
-
-pub invariant_of-result : goal.invariant_of-result
-invariant_of-result c = (search rules, IsSound-first _ c.args.base c.args.pages (search rules) (search rules) (search rules) c.new-3.ensures)
-
-pub returns-clause-safe : goal.returns-clause-safe
-returns-clause-safe c = (invariant_of-result c).1.safe
