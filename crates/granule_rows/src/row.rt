@@ -150,6 +150,9 @@ impl FreeRow {
         ensures { MatchOption result ((p : ℕ) → (origin + p) % unit ≡ 0 → ¬ IsRun self.now p n)
             (IsFirstMultiple self.now origin unit n) }
     {
+        if unit == 1 {
+            return self.first_run(n);
+        }
         let end = self.granules();
         let mut from = aligned(0, origin, unit);
         while from < end {
