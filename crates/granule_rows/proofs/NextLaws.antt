@@ -5,12 +5,11 @@ use Rattle.std.proofs.lemmas.Nat.{pow_pos}
 use Rattle.std.proofs.lemmas.Nat.Bits.{bit_at_mask_below, bit_at_mask_inside, ones_shl}
 use Rattle.std.proofs.Math.Nat.{mul-le-mul_right}
 use Rattle.granule_rows.proofs.FindLaws.{node_summary}
-use Rattle.granule_rows.proofs.WordLaws.{is_set-and}
 use Rattle.granule_rows.specs.Runs.{AreSet, IsFirst, bits_from}
 use Rattle.granule_rows.specs.Summaries.{IsSummary}
 use Rattle.granule_rows.specs.Tree.{IsNode, IsTree, node}
 use Rattle.granule_rows.specs.declared.summary.Summary.{Summary}
-use Rattle.tag_memory.specs.Laws.{is_set_for-at, same_test}
+use Rattle.tag_memory.specs.Laws.{is_set-and, is_set_for-at, same_test}
 use Rattle.tag_memory.specs.Tags.{is_set, is_set_for}
 
 -- ---- the way up

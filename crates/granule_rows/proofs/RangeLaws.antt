@@ -47,21 +47,7 @@ is_set-run low high j low_lt high_le lt =
       | inr past ↦ same_test (bit_at word j) 0 (omega (arith, both, bit_at_ones_above high j past)) ∙ grind (arith, nat_tests)
     ]
 
-either_bit : (a b : ℕ) → a < 2 → b < 2 → (max a b == 1) ≡ ((b == 1) || (a == 1))
-either_bit zero zero ha hb = refl
-either_bit zero (suc zero) ha hb = refl
-either_bit zero (suc (suc b)) ha hb = absurd (omega arith)
-either_bit (suc zero) zero ha hb = refl
-either_bit (suc zero) (suc zero) ha hb = refl
-either_bit (suc zero) (suc (suc b)) ha hb = absurd (omega arith)
-either_bit (suc (suc a)) b ha hb = absurd (omega arith)
-
--- The bits of a word with those of a mask.
-pub is_set-with : (word mask j : ℕ) → is_set (bit_or word mask) j ≡ (is_set mask j || is_set word j)
-is_set-with word mask j =
-    same_test _ _ (bit_at_or word mask j) ∙ either_bit (bit_at word j) (bit_at mask j) (bit_at-lt word j) (bit_at-lt mask j)
-
--- Bits of a word, as granules of the shadow.
+-- Bits of a word, as granules of the row.
 pub in_run : (first end w j low high : ℕ) → j < 64 → low ≡ first - 64 * w → high ≡ min (end - 64 * w) 64 → 64 * w < end → first < 64 * w + 64
     → (nat_le low j && nat_lt j high) ≡ (nat_le first (64 * w + j) && nat_lt (64 * w + j) end)
 in_run first end w j low high lt low_is high_is more reaches =
@@ -72,21 +58,6 @@ in_run first end w j low high lt low_is high_is more reaches =
         | inr past ↦ (let beyond : high ≤ j = omega arith in grind (arith, nat_tests))
       ]
     ]
-
--- A word without the bits of a mask.
-both_bits : (a b : ℕ) → a < 2 → b < 2 → (min a (1 - b) == 1) ≡ ((a == 1) && not (b == 1))
-both_bits zero zero ha hb = refl
-both_bits zero (suc zero) ha hb = refl
-both_bits zero (suc (suc b)) ha hb = absurd (omega arith)
-both_bits (suc zero) zero ha hb = refl
-both_bits (suc zero) (suc zero) ha hb = refl
-both_bits (suc zero) (suc (suc b)) ha hb = absurd (omega arith)
-both_bits (suc (suc a)) b ha hb = absurd (omega arith)
-
-pub is_set-cleared : (word mask j : ℕ) → mask < 2 ^ 64 → j < 64 → is_set (bit_and word (bit_not w64 mask)) j ≡ (is_set word j && not (is_set mask j))
-is_set-cleared word mask j m h =
-    let e : bit_at (bit_and word (bit_not w64 mask)) j ≡ min (bit_at word j) (1 - bit_at mask j) = bit_at_and word (bit_not w64 mask) j ∙ ap (λ (x : ℕ). min (bit_at word j) x) (bit_at_not w64 mask j m h) in
-    same_test _ _ e ∙ both_bits (bit_at word j) (bit_at mask j) (bit_at-lt word j) (bit_at-lt mask j)
 
 -- ---- a row, word by word
 

@@ -4,10 +4,10 @@ use Rattle.std.proofs.lemmas.Bool.{both_ways, cases_eq, cases_lt}
 use Rattle.std.proofs.lemmas.List.{get_or_past, get_or-replicate, length-replicate}
 use Rattle.std.proofs.lemmas.Nat.{pow_below}
 use Rattle.granule_rows.proofs.FindLaws.{IsNode-length, IsNode-root, IsNode-summary}
-use Rattle.granule_rows.proofs.WordLaws.{is_set_zero}
 use Rattle.granule_rows.specs.Runs.{AreSet, IsFirst, IsFirstRun, IsRun}
 use Rattle.granule_rows.specs.Tree.{AreSummed, IsLeaf, IsPower, IsSane, IsTree, no_summary, node}
 use Rattle.granule_rows.specs.declared.summary.Summary.{Summary}
+use Rattle.tag_memory.specs.Laws.{is_set_zero}
 use Rattle.tag_memory.specs.Tags.{is_set, is_set_for}
 
 -- ---- powers of two

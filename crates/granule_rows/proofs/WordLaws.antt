@@ -6,28 +6,13 @@ use Rattle.std.proofs.lemmas.Nat.Bits.{bit_at-lt, bit_at-zero, bit_at_above, bit
 use Rattle.std.specs.Int.{bit_at, bit_not, leading_zeros, trailing_zeros}
 use Rattle.granule_rows.specs.Runs.{AreSet, HasRun, IsFirst}
 use Rattle.granule_rows.specs.Tree.{IsLeaf}
-use Rattle.tag_memory.specs.Laws.{same_test}
+use Rattle.tag_memory.specs.Laws.{is_set-and, is_set_zero, same_test}
 use Rattle.tag_memory.specs.Tags.{is_set}
 
 -- ---- bits
 
 pub is_set-shr : (t s i : ℕ) → is_set (t / 2 ^ s) i ≡ is_set t (s + i)
 is_set-shr t s i = same_test _ _ (ap (λ (x : ℕ). x % 2) (shr-shr t s i))
-
-both : (a b : ℕ) → a < 2 → b < 2 → (min a b == 1) ≡ ((a == 1) && (b == 1))
-both zero zero ha hb = refl
-both zero (suc zero) ha hb = refl
-both zero (suc (suc b)) ha hb = absurd (omega arith)
-both (suc zero) zero ha hb = refl
-both (suc zero) (suc zero) ha hb = refl
-both (suc zero) (suc (suc b)) ha hb = absurd (omega arith)
-both (suc (suc a)) b ha hb = absurd (omega arith)
-
-pub is_set-and : (a b i : ℕ) → is_set (bit_and a b) i ≡ (is_set a i && is_set b i)
-is_set-and a b i = same_test _ _ (bit_at_and a b i) ∙ both (bit_at a i) (bit_at b i) (bit_at-lt a i) (bit_at-lt b i)
-
-pub is_set_zero : (i : ℕ) → is_set 0 i ≡ false
-is_set_zero i = same_test _ 0 (bit_at-zero i)
 
 -- a word has no bit from 64 on
 pub set_below : (word i : ℕ) → word < 2 ^ 64 → is_set word i ≡ true → i < 64

@@ -1,14 +1,14 @@
 -- Rows over the granules of a heap, written and given back.
 use Rattle.std.proofs.Common.{◌≡◌, ◌<◌, ◌≤◌, ◌+◌, ◌*◌, ◌/◌, ◌%◌, ◌^◌, ◌&&◌, ◌||◌, not, inl, inr, ℕ, Bool, true, false, List, length, get_or, ◌++◌, drop, take, refl, sym, ap, ◌∙◌, subst, arith}
 use Rattle.std.proofs.lemmas.Bool.{and_parts, both_ways, cases_Bool, cases_eq, cases_lt, or_cases}
+use Rattle.std.proofs.Math.Bool.{and-true, or-false}
 use Rattle.std.proofs.lemmas.Bool.Decides.{nat_tests}
-use Rattle.std.proofs.lemmas.Nat.Bits.{bit_at-zero}
 use Rattle.granule_rows.specs.Laws.{whole_written}
 use Rattle.granule_rows.specs.Runs.{is_within}
 use Rattle.heap_core.proofs.EmptyLaws.{get_or-zeros, zeros}
 use Rattle.heap_core.specs.Rows.{AreGiven, AreRows, granules_of}
 use Rattle.heap_core.specs.declared.rows.Rows.{Rows}
-use Rattle.tag_memory.specs.Laws.{same_test}
+use Rattle.tag_memory.specs.Laws.{is_set_zero}
 use Rattle.tag_memory.specs.Tags.{is_set, is_set_for}
 
 -- ---- a row written
@@ -189,24 +189,16 @@ pub nothing_held : {r : Rows} → AreRows r → ((page : ℕ) → page / 64 < le
 nothing_held rows clear k = rows.marked k (none_marked rows clear (k / 256))
 
 pub word_of_zero : (words : List ℕ) (w : ℕ) → get_or words w 0 ≡ 0 → (page : ℕ) → page / 64 ≡ w → is_set_for words page ≡ false
-word_of_zero words w zero page at = ap (λ (i : ℕ). is_set (get_or words i 0) (page % 64)) at ∙ (ap (λ (x : ℕ). is_set x (page % 64)) zero ∙ same_test _ 0 (bit_at-zero (page % 64)))
-
-or_false : (b : Bool) → (b || false) ≡ b
-or_false false = refl
-or_false true = refl
-
-and_true : (b : Bool) → (b && true) ≡ b
-and_true false = refl
-and_true true = refl
+word_of_zero words w zero page at = ap (λ (i : ℕ). is_set (get_or words i 0) (page % 64)) at ∙ (ap (λ (x : ℕ). is_set x (page % 64)) zero ∙ is_set_zero (page % 64))
 
 -- What is left once nothing is held.
 pub given_all_free : {r s : Rows} → AreGiven r s → ((k : ℕ) → is_set_for s.held.items k ≡ false) → (k : ℕ)
     → is_set_for s.free k ≡ (is_set_for r.free k || is_set_for r.held.items k)
-given_all_free {s = s} given none k = sym (or_false (is_set_for s.free k)) ∙ (ap (λ b. is_set_for s.free k || b) (sym (none k)) ∙ given.free k)
+given_all_free {s = s} given none k = sym (or-false (is_set_for s.free k)) ∙ (ap (λ b. is_set_for s.free k || b) (sym (none k)) ∙ given.free k)
 
 pub given_all_starts : {r s : Rows} → AreGiven r s → ((k : ℕ) → is_set_for s.held.items k ≡ false) → (k : ℕ)
     → is_set_for s.starts.items k ≡ (is_set_for r.starts.items k && not (is_set_for r.held.items k))
-given_all_starts {s = s} given none k = sym (and_true (is_set_for s.starts.items k)) ∙ (ap (λ b. is_set_for s.starts.items k && not b) (sym (none k)) ∙ given.starts k)
+given_all_starts {s = s} given none k = sym (and-true (is_set_for s.starts.items k)) ∙ (ap (λ b. is_set_for s.starts.items k && not b) (sym (none k)) ∙ given.starts k)
 
 -- ---- no block
 
@@ -226,4 +218,4 @@ AreRows-new r n limit whole free starts held held_pages none no_marks = record {
 }
 
 pub no_bits : (words : List ℕ) (n k : ℕ) → words ≡ zeros n → is_set_for words k ≡ false
-no_bits words n k zeros = ap (λ (xs : List ℕ). is_set_for xs k) zeros ∙ (ap (λ (x : ℕ). is_set x (k % 64)) (get_or-zeros n (k / 64)) ∙ same_test _ 0 (bit_at-zero (k % 64)))
+no_bits words n k zeros = ap (λ (xs : List ℕ). is_set_for xs k) zeros ∙ (ap (λ (x : ℕ). is_set x (k % 64)) (get_or-zeros n (k / 64)) ∙ is_set_zero (k % 64))

@@ -1,10 +1,10 @@
 -- A table in rows of bits: what a block that is put, held or taken away changes in it.
 use Rattle.std.proofs.Common.{◌≡◌, ◌≢◌, ◌<◌, ◌≤◌, ◌+◌, ◌-◌, ◌*◌, ◌%◌, ◌/◌, ◌&&◌, ◌||◌, not, nat_lt, inl, inr, ℕ, zero, suc, Bool, true, false, cond, List, [], ◌∷◌, length, get_or, replicate, set, length-set, Result, Ok, Err, IfOk, refl, sym, ap, ◌∙◌, subst, arith}
 use Rattle.std.proofs.lemmas.Bool.{and_from, and_parts, both_ways, cases_Bool, cases_eq, cases_lt, cases_order, le-ltb, lt-ltb, ltb-true, not-true}
+use Rattle.std.proofs.Math.Bool.{and-true, or-true}
 use Rattle.std.proofs.lemmas.Bool.Decides.{nat_tests}
 use Rattle.std.proofs.lemmas.List.{ext_get_or, get_or-set_other, get_or-set_same, get_or_past, length-replicate}
 use Rattle.std.proofs.lemmas.List.FromFn.{get_or-map-range_with_len, length-map-range_with_len}
-use Rattle.std.proofs.lemmas.Nat.Bits.{bit_at-zero}
 use Rattle.granule_rows.specs.Runs as rows
 use Rattle.granule_rows.specs.Runs.{IsFirstMultiple, is_within}
 use Rattle.heap_core.proofs.EmptyLaws.{get_or-zeros, is_taken-zeros, zeros}
@@ -17,16 +17,8 @@ use Rattle.heap_core.specs.Stored.{AreStored, length_in, lengths_of, marks_of}
 use Rattle.heap_core.specs.Table.{IsFirstRun, IsRun, is_held, is_live, is_taken, kept_lengths}
 use Rattle.heap_core.specs.declared.rows.Rows.{Rows}
 use Rattle.heap_core.specs.declared.table.Table.TheInside.{Inside}
-use Rattle.tag_memory.specs.Laws.{same_test}
+use Rattle.tag_memory.specs.Laws.{is_set_zero}
 use Rattle.tag_memory.specs.Tags.{is_set, is_set_for}
-
-and_true : (b : Bool) → (b && true) ≡ b
-and_true false = refl
-and_true true = refl
-
-or_true : (b : Bool) → (b || true) ≡ true
-or_true false = refl
-or_true true = refl
 
 and_false : (a b : Bool) → b ≡ false → (a && b) ≡ false
 and_false false b none = refl
@@ -169,9 +161,9 @@ pub free-put : (lengths : List ℕ) (free : ℕ → Bool) (p n count k : ℕ) �
 free-put lengths free p n count k end long none is some =
     let here : get_or (set lengths p n) p 0 ≡ n = get_or-set_same lengths p n 0 (omega arith) in
     elim (cases_lt k p) [
-      | inl before ↦ (let out = within_before p (p + n) k before in rw (is, out, is_taken-set_other lengths p n k none (inl before)) (and_true (nat_lt k count && not (is_taken k lengths))))
+      | inl before ↦ (let out = within_before p (p + n) k before in rw (is, out, is_taken-set_other lengths p n k none (inl before)) (and-true (nat_lt k count && not (is_taken k lengths))))
       | inr from ↦ elim (cases_lt k (p + n)) [
-        | inr past ↦ (let out = within_behind p (p + n) k past in rw (is, out, is_taken-set_other lengths p n k none (inr past)) (and_true (nat_lt k count && not (is_taken k lengths))))
+        | inr past ↦ (let out = within_behind p (p + n) k past in rw (is, out, is_taken-set_other lengths p n k none (inr past)) (and-true (nat_lt k count && not (is_taken k lengths))))
         | inl inside ↦
             let in_block = within p (p + n) k from inside in
             rw (in_block, is_taken_within (set lengths p n) p k from (omega arith)) (and_false (free k) false refl ∙ sym (and_false (nat_lt k count) false refl))
@@ -475,7 +467,7 @@ taken_both lengths marks k same = elim (cases_Bool (is_taken k lengths)) [
       elim (cases_Bool (get_or marks by.0 false)) [
         | inl held ↦
             let kept = get_or-kept is_held lengths marks by.0 false same inside held in
-            rw (taken, is_taken_within (kept_lengths is_held lengths marks) by.0 k by.1.0 (omega (arith, by.1.1))) (sym (or_true (is_taken k (kept_lengths is_live lengths marks))))
+            rw (taken, is_taken_within (kept_lengths is_held lengths marks) by.0 k by.1.0 (omega (arith, by.1.1))) (sym (or-true (is_taken k (kept_lengths is_live lengths marks))))
         | inr live ↦
             let kept = get_or-kept is_live lengths marks by.0 false same inside (ap not live) in
             rw (taken, is_taken_within (kept_lengths is_live lengths marks) by.0 k by.1.0 (omega (arith, by.1.1))) refl
@@ -522,11 +514,11 @@ marks_all_false : (starts held : List ℕ) (n j : ℕ) → ((k : ℕ) → (is_se
 marks_all_false starts held n j none = rw (marks_of-none starts held n none) (get_or-falses n j)
 
 past_row : (words : List ℕ) (k : ℕ) → 64 * length words ≤ k → is_set_for words k ≡ false
-past_row words k past = ap (λ (x : ℕ). is_set x (k % 64)) (get_or_past words (k / 64) 0 (omega arith)) ∙ same_test _ 0 (bit_at-zero (k % 64))
+past_row words k past = ap (λ (x : ℕ). is_set x (k % 64)) (get_or_past words (k / 64) 0 (omega arith)) ∙ is_set_zero (k % 64)
 
 given_back : (free a b : Bool) → free ≡ not (a || b) → (a ≡ true → b ≡ true → ⊥) → (free || b) ≡ not a
 given_back free false false is once = rw is refl
-given_back free false true is once = or_true free
+given_back free false true is once = or-true free
 given_back free true false is once = rw is refl
 given_back free true true is once = absurd (once refl refl)
 

@@ -1,5 +1,6 @@
 -- The state after a sweep: each tagged word whose base lies in a held block has lost its tag.
 use Rattle.std.proofs.Common.{◌≡◌, ◌∙◌, ◌<◌, ◌≤◌, ◌+◌, ◌-◌, ◌*◌, ◌&&◌, ℕ, Bool, true, false, cond, not, inl, inr, All, List, [], ◌∷◌, length, get_or, drop, refl, sym, ap, subst, arith}
+use Rattle.std.proofs.Math.Bool.{and-true}
 use Rattle.std.specs.Prelude.{count_by}
 use Rattle.std.specs.List.{Contains, enumerate_from}
 use Rattle.std.proofs.lemmas.Bool.{and_parts, not-true, true≢false}
@@ -165,17 +166,13 @@ no_spans heap (b ∷ blocks) inside none =
 pub no_blocks : (heap : HeapState) → IsSoundHeap heap → bytes_of heap.held ≡ 0 → heap.held ≡ []
 no_blocks heap sound none = no_spans heap heap.held sound.held_inside none
 
-and_true : (t : Bool) → (t && true) ≡ t
-and_true true = refl
-and_true false = refl
-
 swept_granules-none : (granules : List Granule) → swept_granules [] granules ≡ granules
 swept_granules-none [] = refl
-swept_granules-none (g ∷ granules) = λ i. (g.0, and_true g.1 i) ∷ swept_granules-none granules i
+swept_granules-none (g ∷ granules) = λ i. (g.0, and-true g.1 i) ∷ swept_granules-none granules i
 
 swept_registers-none : (registers : List Cell) → swept_registers [] registers ≡ registers
 swept_registers-none [] = refl
-swept_registers-none (c ∷ registers) = λ i. (c.0, and_true c.1 i) ∷ swept_registers-none registers i
+swept_registers-none (c ∷ registers) = λ i. (c.0, and-true c.1 i) ∷ swept_registers-none registers i
 
 -- A sweep then leaves the state as it is, and takes no tag.
 pub swept-none : (s : State) → s.heap.held ≡ [] → swept s ≡ s

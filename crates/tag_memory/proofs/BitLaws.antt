@@ -26,22 +26,6 @@ is_set-and_not word j k hj hk = dite (ℕ_discrete k j)
     (λ here. rw (eq-eqb k j here) (rw here (same_test _ 0 (bit_at_clear_same w64 word j hj))))
     (λ other. rw (ne_eqb k j other) (same_test _ _ (bit_at_clear_other w64 word j hj k hk other)))
 
--- ---- the bits of a mask cleared
-
-both : (a b : ℕ) → a < 2 → b < 2 → (min a (1 - b) == 1) ≡ ((a == 1) && not (b == 1))
-both zero zero ha hb = refl
-both zero (suc zero) ha hb = refl
-both zero (suc (suc b)) ha hb = absurd (omega arith)
-both (suc zero) zero ha hb = refl
-both (suc zero) (suc zero) ha hb = refl
-both (suc zero) (suc (suc b)) ha hb = absurd (omega arith)
-both (suc (suc a)) b ha hb = absurd (omega arith)
-
-pub is_set-cleared : (word mask j : ℕ) → mask < 2 ^ 64 → j < 64 → is_set (bit_and word (bit_not w64 mask)) j ≡ (is_set word j && not (is_set mask j))
-is_set-cleared word mask j m h =
-    let e : bit_at (bit_and word (bit_not w64 mask)) j ≡ min (bit_at word j) (1 - bit_at mask j) = bit_at_and word (bit_not w64 mask) j ∙ ap (λ (x : ℕ). min (bit_at word j) x) (bit_at_not w64 mask j m h) in
-    same_test _ _ e ∙ both (bit_at word j) (bit_at mask j) (bit_at-lt word j) (bit_at-lt mask j)
-
 -- ---- a number by its bits
 
 pub number_of_bits-mask : (bits : List Bool) → number_of_bits bits ≡ mask_l bits

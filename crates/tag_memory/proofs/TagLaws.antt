@@ -12,9 +12,9 @@ use Rattle.std.proofs.lemmas.List.Sums.{sum_by-take-drop}
 use Rattle.std.proofs.lemmas.Nat.{div_below, mod_below}
 use Rattle.std.proofs.lemmas.Nat.Bits.{bit_at-zero, bit_at-lt, same_from_bits_below}
 use Rattle.tag_memory.specs.Cells.{Granule}
-use Rattle.tag_memory.specs.Laws.{is_set_for-other}
+use Rattle.tag_memory.specs.Laws.{is_set-cleared, is_set_for-other}
 use Rattle.tag_memory.specs.Tags.{granules_of, is_set, is_set_for, is_tagged, number_of_bits, tag_word, without_tags}
-use Rattle.tag_memory.proofs.BitLaws.{is_set-cleared, bit_at-number_of_bits, number_of_bits-lt, ones-number_of_bits}
+use Rattle.tag_memory.proofs.BitLaws.{bit_at-number_of_bits, number_of_bits-lt, ones-number_of_bits}
 
 -- ---- granules of bits and words
 

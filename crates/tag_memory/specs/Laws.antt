@@ -1,10 +1,10 @@
 -- What the crates above need of bits in words: a bit that is set, and a row of words that is made word
 -- by word.
-use Rattle.std.proofs.Common.{◌≡◌, ◌≢◌, ℕ, ◌+◌, ◌*◌, ◌/◌, ◌%◌, ◌^◌, ◌==◌, ◌<◌, inl, inr, Bool, true, List, length, get_or, set, refl, ap, ◌∙◌, arith, bit_or}
+use Rattle.std.proofs.Common.{◌≡◌, ◌≢◌, ℕ, zero, suc, ◌+◌, ◌-◌, ◌*◌, ◌/◌, ◌%◌, ◌^◌, ◌==◌, ◌<◌, ◌&&◌, ◌||◌, min, max, not, inl, inr, Bool, true, false, List, length, get_or, set, refl, ap, ◌∙◌, arith, bit_and, bit_or, w64}
 use Rattle.std.proofs.lemmas.Bool.{cases_lt}
 use Rattle.std.proofs.lemmas.List.{get_or-set_other, get_or-set_same}
-use Rattle.std.proofs.lemmas.Nat.Bits.{bit_at_set_other, bit_at_set_same}
-use Rattle.std.specs.Int.{Width}
+use Rattle.std.proofs.lemmas.Nat.Bits.{bit_at-lt, bit_at-zero, bit_at_and, bit_at_not, bit_at_or, bit_at_set_other, bit_at_set_same}
+use Rattle.std.specs.Int.{Width, bit_at, bit_not}
 use mir.Val.{bits}
 use Rattle.tag_memory.specs.Tags.{is_set, is_set_for}
 
@@ -19,6 +19,47 @@ module _ (width : Width) (word j : ℕ) (below : j < bits width) where
 
   pub is_set-other : (k : ℕ) → k ≢ j → is_set (bit_or word (1 * 2 ^ j % 2 ^ bits width)) k ≡ is_set word k
   is_set-other k other = same_test _ _ (bit_at_set_other width word j below k other)
+
+-- Bits of words that are put together.
+both_bits : (a b : ℕ) → a < 2 → b < 2 → (min a b == 1) ≡ ((a == 1) && (b == 1))
+both_bits zero zero ha hb = refl
+both_bits zero (suc zero) ha hb = refl
+both_bits zero (suc (suc b)) ha hb = absurd (omega arith)
+both_bits (suc zero) zero ha hb = refl
+both_bits (suc zero) (suc zero) ha hb = refl
+both_bits (suc zero) (suc (suc b)) ha hb = absurd (omega arith)
+both_bits (suc (suc a)) b ha hb = absurd (omega arith)
+
+pub is_set-and : (a b i : ℕ) → is_set (bit_and a b) i ≡ (is_set a i && is_set b i)
+is_set-and a b i = same_test _ _ (bit_at_and a b i) ∙ both_bits (bit_at a i) (bit_at b i) (bit_at-lt a i) (bit_at-lt b i)
+
+either_bit : (a b : ℕ) → a < 2 → b < 2 → (max a b == 1) ≡ ((b == 1) || (a == 1))
+either_bit zero zero ha hb = refl
+either_bit zero (suc zero) ha hb = refl
+either_bit zero (suc (suc b)) ha hb = absurd (omega arith)
+either_bit (suc zero) zero ha hb = refl
+either_bit (suc zero) (suc zero) ha hb = refl
+either_bit (suc zero) (suc (suc b)) ha hb = absurd (omega arith)
+either_bit (suc (suc a)) b ha hb = absurd (omega arith)
+
+-- The bits of a word with those of a mask.
+pub is_set-with : (word mask j : ℕ) → is_set (bit_or word mask) j ≡ (is_set mask j || is_set word j)
+is_set-with word mask j =
+    same_test _ _ (bit_at_or word mask j) ∙ either_bit (bit_at word j) (bit_at mask j) (bit_at-lt word j) (bit_at-lt mask j)
+
+other_bit : (b : ℕ) → b < 2 → (1 - b == 1) ≡ not (b == 1)
+other_bit zero hb = refl
+other_bit (suc zero) hb = refl
+other_bit (suc (suc b)) hb = absurd (omega arith)
+
+-- And without them.
+pub is_set-cleared : (word mask j : ℕ) → mask < 2 ^ 64 → j < 64 → is_set (bit_and word (bit_not w64 mask)) j ≡ (is_set word j && not (is_set mask j))
+is_set-cleared word mask j fits below =
+    is_set-and word (bit_not w64 mask) j
+    ∙ ap (λ (b : Bool). is_set word j && b) (same_test _ _ (bit_at_not w64 mask j fits below) ∙ other_bit (bit_at mask j) (bit_at-lt mask j))
+
+pub is_set_zero : (i : ℕ) → is_set 0 i ≡ false
+is_set_zero i = same_test _ 0 (bit_at-zero i)
 
 -- Bit j of word w is that of granule 64 * w + j.
 pub is_set_for-at : (words : List ℕ) (w j : ℕ) → j < 64 → is_set_for words (64 * w + j) ≡ is_set (get_or words w 0) j

@@ -1,5 +1,6 @@
 use Rattle.std.proofs.Common.{◌∙◌, ap, arith, get_or, ◌&&◌, not, Bool}
-use Rattle.granule_rows.proofs.RangeLaws.{AreMade-more, is_set-cleared}
+use Rattle.granule_rows.proofs.RangeLaws.{AreMade-more}
+use Rattle.tag_memory.specs.Laws.{is_set-cleared}
 use Rattle.tag_memory.specs.Tags.{is_set}
 use Rattle.granule_rows.proofs.ranges.clear_run.Goals as goal
 

@@ -1,6 +1,7 @@
 use Rattle.std.proofs.Common.{◌≡◌, ◌∙◌, ◌*◌, ◌&&◌, not, Bool, ℕ, ap, sym, subst, arith, get_or}
-use Rattle.granule_rows.proofs.RangeLaws.{AreMade, AreMade-more, AreMade-words, in_words, is_set-cleared, kept_by, out_before, out_behind}
+use Rattle.granule_rows.proofs.RangeLaws.{AreMade, AreMade-more, AreMade-words, in_words, kept_by, out_before, out_behind}
 use Rattle.granule_rows.specs.Runs.{is_within}
+use Rattle.tag_memory.specs.Laws.{is_set-cleared}
 use Rattle.tag_memory.specs.Tags.{is_set, is_set_for}
 use Rattle.granule_rows.proofs.ranges.clear_words.Goals as goal
 

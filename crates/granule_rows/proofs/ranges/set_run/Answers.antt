@@ -1,5 +1,6 @@
 use Rattle.std.proofs.Common.{◌∙◌, ap, arith, get_or, ◌||◌, Bool}
-use Rattle.granule_rows.proofs.RangeLaws.{AreMade-more, is_set-with}
+use Rattle.granule_rows.proofs.RangeLaws.{AreMade-more}
+use Rattle.tag_memory.specs.Laws.{is_set-with}
 use Rattle.tag_memory.specs.Tags.{is_set}
 use Rattle.granule_rows.proofs.ranges.set_run.Goals as goal
 
