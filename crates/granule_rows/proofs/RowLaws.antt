@@ -5,29 +5,25 @@ use Rattle.std.proofs.lemmas.List.{get_or_past, get_or-replicate, length-replica
 use Rattle.std.proofs.lemmas.Nat.{pow_below}
 use Rattle.granule_rows.proofs.FindLaws.{IsNode-length, IsNode-root, IsNode-summary}
 use Rattle.granule_rows.specs.Runs.{AreSet, IsFirst, IsFirstRun, IsRun}
-use Rattle.granule_rows.specs.Tree.{AreSummed, IsLeaf, IsPower, IsSane, IsTree, no_summary, node}
+use Rattle.granule_rows.specs.Tree.{AreSummed, IsLeaf, IsSane, IsTree, no_summary, node}
 use Rattle.granule_rows.specs.declared.summary.Summary.{Summary}
 use Rattle.tag_memory.specs.Laws.{is_set_zero}
 use Rattle.tag_memory.specs.Tags.{is_set, is_set_for}
 
 -- ---- powers of two
 
-pub IsPower-twice : (n : ℕ) → IsPower n → IsPower (n * 2)
-IsPower-twice n power = record { exponent = suc power.exponent; is = (let e : 2 ^ suc power.exponent ≡ 2 * 2 ^ power.exponent = omega arith in omega (arith, power.is)) }
-
-pub twice_limit : (n : ℕ) → IsPower n → n < 2 ^ 24 → n * 2 ≤ 2 ^ 24
-twice_limit n power lt =
-    let e : 2 ^ suc power.exponent ≡ 2 * 2 ^ power.exponent = omega arith in
-    elim (cases_lt 24 (suc power.exponent)) [
-      | inr below ↦ elim (cases_eq (suc power.exponent) 24) [
-        | inl same ↦ omega (arith, power.is, ap (λ (k : ℕ). 2 ^ k) same)
-        | inr other ↦ omega (arith, power.is, pow_below (suc power.exponent) 24 (omega arith))
-      ]
-      | inl above ↦ elim (cases_eq power.exponent 24) [
-        | inl same ↦ absurd (omega (arith, power.is, ap (λ (k : ℕ). 2 ^ k) same))
-        | inr other ↦ absurd (omega (arith, power.is, pow_below 24 power.exponent (omega arith)))
-      ]
-    ]
+-- The least from a number on is within the limit where the number is.
+pub power_limit : (n e : ℕ) → n ≡ 2 ^ e → n / 2 < 2 ^ 24 → n ≤ 2 ^ 24
+power_limit n e is half = elim (cases_lt e 25) [
+  | inl below ↦ elim (cases_eq e 24) [
+    | inl same ↦ omega (arith, is, ap (λ (k : ℕ). 2 ^ k) same)
+    | inr other ↦ omega (arith, is, pow_below e 24 (omega arith))
+  ]
+  | inr above ↦ elim (cases_eq e 25) [
+    | inl same ↦ absurd (omega (arith, is, ap (λ (k : ℕ). 2 ^ k) same))
+    | inr other ↦ absurd (omega (arith, is, pow_below 25 e (omega arith)))
+  ]
+]
 
 -- ---- an empty row
 
@@ -102,11 +98,11 @@ IsTree-renewed tree same summed leaves = record {
   leaves = leaves;
 }
 
-pub IsTree-new : (words : List ℕ) (nodes : List Summary) (n : ℕ) → IsPower n → n ≤ 2 ^ 24 → length words ≡ n → AreSummed (length words) nodes 0 0 0 0
+pub IsTree-new : (words : List ℕ) (nodes : List Summary) (n e : ℕ) → n ≡ 2 ^ e → n ≤ 2 ^ 24 → length words ≡ n → AreSummed (length words) nodes 0 0 0 0
     → ((w : ℕ) → w < length words → IsLeaf (get_or words w 0) (node nodes (length words + w))) → IsTree words nodes
-IsTree-new words nodes n power limit long summed leaves = record {
-  height = power.exponent;
-  power = long ∙ power.is;
+IsTree-new words nodes n e power limit long summed leaves = record {
+  height = e;
+  power = long ∙ power;
   limit = omega arith;
   summed = summed;
   leaves = leaves;

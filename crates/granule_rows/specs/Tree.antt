@@ -43,8 +43,3 @@ pub record IsNode (leaves i first : ℕ) : Type 0 where
   pub height : ℕ
   pub place : i * (64 * 2 ^ height) ≡ 64 * leaves + first
   pub within : first + 64 * 2 ^ height ≤ 64 * leaves
-
--- A power of two.
-pub record IsPower (n : ℕ) : Type 0 where
-  pub exponent : ℕ
-  pub is : n ≡ 2 ^ exponent

@@ -2,7 +2,6 @@
 
 ghost use Rattle.std.specs.Prelude.{◌≡◌, ◌<◌, ◌≤◌, ◌+◌, ◌*◌, ◌%◌, ◌^◌, ◌&&◌, ◌||◌, not, ℕ, false, length, IfOk, MatchOption};
 ghost use Rattle.granule_rows.specs.Runs.{IsFirstMultiple, IsFirstRun, IsRun, aligned_from, is_within};
-ghost use Rattle.granule_rows.specs.Tree.{IsPower};
 ghost use Rattle.tag_memory.specs.Tags.{is_set_for};
 
 use crate::find::{first_from, first_in};
@@ -34,21 +33,6 @@ impl Model for FreeRow {
     ghost invariant = { λ row. IsTree row.words.items row.nodes.items };
 }
 
-// The least power of two from `count` on.
-fn power_from(count: usize) -> usize
-    requires some { 0 < count }
-    requires limit { count ≤ 2 ^ 24 }
-    ensures from { count ≤ result }
-    ensures limit { result ≤ 2 ^ 24 }
-    ensures power { IsPower result }
-{
-    let mut power = 1;
-    while power < count {
-        power *= 2;
-    }
-    power
-}
-
 // The first granule from `k` on that is a multiple of the unit, counted from granule `origin` below 0.
 fn aligned(k: usize, origin: u64, unit: u64) -> usize
     requires limit { k ≤ 2 ^ 30 }
@@ -68,7 +52,7 @@ impl FreeRow {
         ensures count { IfOk result (λ row. count ≤ length row) }
         ensures clear { IfOk result (λ row. (k : ℕ) → is_set_for row k ≡ false) }
     {
-        let leaves = power_from(count);
+        let leaves = count.next_power_of_two();
         let none = Summary {
             length: 0,
             prefix: 0,

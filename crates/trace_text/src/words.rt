@@ -11,6 +11,10 @@ use memchr::memchr_iter;
 fn first_feed(text: &[u8]) -> Option<usize>
     ensures { result ≡ position (λ byte. byte == 10) text.now }
 {
+    // An empty line is no work for a search.
+    if text.starts_with(b"\n") {
+        return Some(0);
+    }
     // The iterator looks at the next 32 bytes first, which most lines don't pass.
     memchr_iter(b'\n', text).next()
 }
