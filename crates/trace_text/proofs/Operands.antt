@@ -1,5 +1,5 @@
 -- A word is read as a number or as a register exactly where the grammar says that it is it.
-use Rattle.std.proofs.Common.{◌≡◌, ℕ, zero, suc, ◌<◌, ◌≤◌, ◌^◌, ◌&&◌, Bool, true, false, not, cond, nat_eq, nat_lt, nat_le, List, [], ◌∷◌, ◌++◌, Option, Some, None, length, take, drop, get_or, codes, bytes_eq, inl, inr, refl, sym, ap, ◌∙◌, arith}
+use Rattle.std.proofs.Common.{◌≡◌, ℕ, zero, suc, ◌<◌, ◌^◌, ◌&&◌, Bool, true, false, not, cond, nat_eq, nat_lt, nat_le, List, [], ◌∷◌, ◌++◌, Option, Some, None, length, take, drop, get_or, codes, bytes_eq, inl, inr, refl, sym, ap, ◌∙◌, arith}
 use Rattle.std.specs.Char.{digit_value}
 use Rattle.std.specs.Fmt.{decimal}
 use Rattle.std.specs.Str.Parse.{AllDigits, digits_value}
@@ -24,8 +24,8 @@ all_digits_from radix (d ∷ digits) all =
     let first : nat_lt (digit_value d) radix ≡ true = grind (arith, nat_tests, all.0) in
     rw first (all_digits_from radix digits all.1)
 
-AreDigits-read : (radix most : ℕ) (digits : List ℕ) (number : ℕ) → radix ≤ 16 → numeral_of radix most digits ≡ Some number → AreDigits radix most digits number
-AreDigits-read radix most digits number low e =
+AreDigits-read : (radix most : ℕ) (digits : List ℕ) (number : ℕ) → numeral_of radix most digits ≡ Some number → AreDigits radix most digits number
+AreDigits-read radix most digits number e =
     let tests = when (are_digits radix most digits && nat_lt (digits_value radix digits) (2 ^ 64)) (digits_value radix digits) number e in
     let both = and_true (are_digits radix most digits) (nat_lt (digits_value radix digits) (2 ^ 64)) tests.0 in
     let lengths = and_true (nat_lt 0 (length digits)) (nat_le (length digits) most && all_digits_in radix digits) both.0 in
@@ -33,7 +33,7 @@ AreDigits-read radix most digits number low e =
     record {
       some = grind (arith, nat_tests, lengths.0);
       few = grind (arith, nat_tests, rest.0);
-      all = (all_digits_are radix digits low rest.1).0;
+      all = all_digits_are radix digits rest.1;
       value = tests.1;
       fits = grind (arith, nat_tests, both.1, tests.1);
     }
@@ -59,8 +59,8 @@ pub IsNumber-read : (word : List ℕ) (number : ℕ) → number_of word ≡ Some
 IsNumber-read word number e = go (bytes_eq (take 2 word) (codes "0x")) refl e where
   go : (t : Bool) → bytes_eq (take 2 word) (codes "0x") ≡ t → cond t (numeral_of 16 16 (drop 2 word)) (numeral_of 10 20 word) ≡ Some number → IsNumber word number
   go true is h =
-      inr (drop 2 word, sym (take-append-drop 2 word) ∙ ap (λ xs. xs ++ drop 2 word) (same_bytes (take 2 word) (codes "0x") is), AreDigits-read 16 16 (drop 2 word) number (omega arith) h)
-  go false is h = inl (AreDigits-read 10 20 word number (omega arith) h)
+      inr (drop 2 word, sym (take-append-drop 2 word) ∙ ap (λ xs. xs ++ drop 2 word) (same_bytes (take 2 word) (codes "0x") is), AreDigits-read 16 16 (drop 2 word) number h)
+  go false is h = inl (AreDigits-read 10 20 word number h)
 
 no_letter : (word : List ℕ) → AllDigits 10 word → bytes_eq (take 2 word) (codes "0x") ≡ false
 no_letter [] all = refl
@@ -99,7 +99,7 @@ IsRegister-read word register e = go (bytes_eq (take 1 word) (codes "c")) (not (
   go : (t u : Bool) → bytes_eq (take 1 word) (codes "c") ≡ t → not (has_leading_zero (drop 1 word)) ≡ u → cond (t && u) (below 32 (numeral_of 10 2 (drop 1 word))) None ≡ Some register → IsRegister word register
   go true true is plain h =
       let found = below-some 32 (numeral_of 10 2 (drop 1 word)) register h in
-      let digits = AreDigits-read 10 2 (drop 1 word) register (omega arith) found.0 in
+      let digits = AreDigits-read 10 2 (drop 1 word) register found.0 in
       let value : digits_value 10 (drop 1 word) < 2 ^ 64 = omega (arith, digits.value, digits.fits) in
       let text : decimal (digits_value 10 (drop 1 word)) ≡ drop 1 word = decimal-digits_value own (drop 1 word) digits.all (omega (arith, digits.some)) (only_zero (drop 1 word) plain (omega (arith, digits.some))) value in
       (found.1, sym (take-append-drop 1 word) ∙ ap (λ xs. xs ++ drop 1 word) (same_bytes (take 1 word) (codes "c") is) ∙ ap (λ xs. codes "c" ++ xs) (sym text ∙ ap decimal digits.value))

@@ -1,21 +1,13 @@
 //! Registers, numbers, masks and data.
 
 ghost use Rattle.std.specs.Prelude.{◌≡◌, ◌<◌, ◌≤◌, IfOk, IfSome};
-ghost use Rattle.trace_text.specs.Reading.{all_digits_in, data_in, mask_in, number_in, number_of, numeral_of, register_in, register_of};
+ghost use Rattle.trace_text.specs.Reading.{data_in, mask_in, number_in, number_of, numeral_of, register_in, register_of};
 
 use crate::fault::LineFault;
 use hex::FromHex;
 use tag_memory::REGISTERS;
 
-fn all_digits(digits: &[u8], radix: u32) -> bool
-    requires low { 2 ≤ radix }
-    requires high { radix ≤ 16 }
-    ensures { result ≡ all_digits_in radix digits.now }
-{
-    digits.iter().all(|byte| char::from(*byte).is_digit(radix))
-}
-
-// The value of 1 to `most` digits.
+// The value of 1 to `most` digits, where 64 bits have room for it.
 fn numeral(digits: &[u8], radix: u32, most: usize) -> Option<u64>
     requires low { 2 ≤ radix }
     requires high { radix ≤ 16 }
@@ -24,11 +16,13 @@ fn numeral(digits: &[u8], radix: u32, most: usize) -> Option<u64>
     if digits.is_empty() || digits.len() > most {
         return None;
     }
-    if !all_digits(digits, radix) {
-        return None;
+    let mut value: u64 = 0;
+    for byte in digits {
+        let digit = char::from(*byte).to_digit(radix)?;
+        let shifted = value.checked_mul(u64::from(radix))?;
+        value = shifted.checked_add(u64::from(digit))?;
     }
-    let text = str::from_utf8(digits).ok()?;
-    u64::from_str_radix(text, radix).ok()
+    Some(value)
 }
 
 /// The number that a word writes, in decimal or after `0x` in hexadecimal.

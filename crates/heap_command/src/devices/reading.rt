@@ -7,14 +7,14 @@ ghost use Rattle.heap_command.specs.Answer.{most_read};
 ghost use Rattle.heap_command.specs.Device.{FailsByError, ReadsMore, ReadsUpTo};
 
 use crate::devices::Failed;
-use std::alloc::Global;
+use std::alloc::{AllocError, Global};
 use std::io::Read;
 
 // The most bytes that are read: one more than a trace has, so that a longer one is told.
 const MOST_READ: usize = 4_194_305;
 
-// How many bytes are read at once.
-const CHUNK: usize = 8192;
+// The most bytes that are read at once.
+const CHUNK: usize = 65_536;
 
 /// What bytes are read from.
 pub trait Source {
@@ -51,24 +51,38 @@ pub fn read_text<I: Source>(alloc: Global, reader: &mut I) -> Result<Vec<u8>, Re
         ReadsUpTo most_read (I.remaining reader.old) (I.remaining reader.new) text.items) }
     ensures failed { (result ≡ Err ReadFault.Failed) ↔ (I.failed reader.new ≡ true) }
 {
+    let Ok(mut chunk) = new_chunk(alloc) else {
+        return Err(ReadFault::Memory);
+    };
     let mut text = Vec::new(alloc);
     let mut is_at_end = false;
     while !is_at_end && text.len() < MOST_READ {
-        is_at_end = read_more(&mut text, reader)?;
+        is_at_end = read_more(&mut text, reader, &mut chunk)?;
     }
     Ok(text)
 }
 
-// Reads once more, and says whether that was the end.
-fn read_more<I: Source>(text: &mut Vec<u8>, reader: &mut I) -> Result<bool, ReadFault>
+// The buffer by way of which all reads go.
+fn new_chunk(alloc: Global) -> Result<Vec<u8>, AllocError>
+    ensures { IfOk result (λ chunk. 0 < length chunk.items) }
+{
+    vec![in alloc; 0; CHUNK]
+}
+
+// Reads once more, by way of this buffer, and says whether that was the end.
+fn read_more<I: Source>(
+    text: &mut Vec<u8>,
+    reader: &mut I,
+    chunk: &mut [u8],
+) -> Result<bool, ReadFault>
     requires whole { I.failed reader.old ≡ false }
     requires room { length text.old.items < most_read }
+    requires some { 0 < length chunk.old }
     ensures ok { IfOk result (λ is_at_end. ReadsMore most_read
         (I.remaining reader.old) (I.remaining reader.new) text.old.items text.new.items is_at_end) }
     ensures failed { (result ≡ Err ReadFault.Failed) ↔ (I.failed reader.new ≡ true) }
 {
-    let mut chunk = [0; CHUNK];
-    let room = CHUNK.min(MOST_READ - text.len());
+    let room = chunk.len().min(MOST_READ - text.len());
     let buffer = &mut chunk[..room];
     let Ok(count) = reader.read(buffer) else {
         return Err(ReadFault::Failed);
