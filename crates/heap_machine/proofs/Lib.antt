@@ -2,7 +2,6 @@ mod BlockLists
 mod ClearedRegisters
 mod FreedBlock
 mod GuardLaws
-mod HexadecimalLaws
 mod NewBlock
 mod OnePlace
 pub mod OneStep

@@ -1,5 +1,6 @@
 pub mod Answer
 pub mod Display
+pub mod HexadecimalLaws
 pub mod Safety
 pub mod Sound
 pub mod State

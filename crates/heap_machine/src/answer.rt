@@ -1,24 +1,28 @@
 //! The texts of replies.
 
-ghost use Rattle.std.specs.Prelude.{◌≡◌, Some};
+ghost use Rattle.std.specs.Prelude.{◌≡◌, ◌≤◌, Some, length};
 ghost use Rattle.heap_machine.specs.Answer.{answer_text, shown_text, trap_name};
 
 use crate::display::{Hexadecimal, Place, bit};
 use crate::reply::{Reply, Shown, Trap};
 use std::fmt;
 
-fn name_of_trap(trap: Trap) -> &'static str
-    ensures { result.now ≡ trap_name trap }
-{
-    match trap {
-        Trap::Tag => "tag",
-        Trap::Perm => "perm",
-        Trap::Bounds => "bounds",
-        Trap::Align => "align",
-        Trap::Empty => "empty",
-        Trap::Inexact => "inexact",
-        Trap::Freed => "freed",
-        Trap::NotBlock => "notblock",
+impl Trap {
+    /// The word that names it, of 8 bytes at most.
+    pub fn name(self) -> &'static str
+        ensures name { result.now ≡ trap_name self }
+        ensures short { length result.now ≤ 8 }
+    {
+        match self {
+            Trap::Tag => "tag",
+            Trap::Perm => "perm",
+            Trap::Bounds => "bounds",
+            Trap::Align => "align",
+            Trap::Empty => "empty",
+            Trap::Inexact => "inexact",
+            Trap::Freed => "freed",
+            Trap::NotBlock => "notblock",
+        }
     }
 }
 
@@ -61,7 +65,7 @@ impl fmt::Display for Reply {
             ),
             Reply::Shown(shown) => write!(f, "{shown}"),
             Reply::Trap(trap) => {
-                let name = name_of_trap(trap);
+                let name = trap.name();
                 write!(f, "trap {name}")
             }
         }

@@ -1,3 +1,6 @@
+mod DigitLaws
 mod ImageLaws
+mod JoinedPieces
+mod LineLaws
 mod LongerRuns
 pub mod OneRun

@@ -3,6 +3,7 @@
 ghost use Rattle.std.specs.Prelude.{◌≡◌, ◌++◌, IfErr, IfOk, OnOk};
 ghost use Rattle.heap_trace.specs.Image.{granule_text, image_line, image_of};
 
+use crate::line::Line;
 use cap_codec::{Word, to_bytes};
 use heap_machine::{MachineFault, bit};
 use std::alloc::{AllocError, Global};
@@ -26,39 +27,32 @@ fn lines(alloc: Global, memory: &Memory) -> Result<Vec<u8>, AllocError>
     let mut text = Vec::new(alloc);
     let base = memory.base();
     for i in 0..memory.granules() {
-        push_granule(&mut text, alloc, base + GRANULE * i as u64, memory.cell(i))?;
+        push_granule(&mut text, base + GRANULE * i as u64, memory.cell(i))?;
     }
     Ok(text)
 }
 
 // Adds what the image shows of a granule.
-fn push_granule(
-    text: &mut Vec<u8>,
-    alloc: Global,
-    address: u64,
-    granule: (u128, bool),
-) -> Result<(), AllocError>
+fn push_granule(text: &mut Vec<u8>, address: u64, granule: (u128, bool)) -> Result<(), AllocError>
     ensures { OnOk result (text.new.items ≡ text.old.items ++ granule_text address granule) }
 {
     let (bits, tag) = granule;
     if !tag && bits == 0 {
         return Ok(());
     }
-    push_line(text, alloc, address, bits, tag)
+    push_line(text, address, bits, tag)
 }
 
 // Adds the line of a granule.
-fn push_line(
-    text: &mut Vec<u8>,
-    alloc: Global,
-    address: u64,
-    bits: u128,
-    tag: bool,
-) -> Result<(), AllocError>
+fn push_line(text: &mut Vec<u8>, address: u64, bits: u128, tag: bool) -> Result<(), AllocError>
     ensures { OnOk result (text.new.items ≡ text.old.items ++ image_line address (bits, tag)) }
 {
-    let tag = bit(tag);
-    let bytes = hex::encode(alloc, to_bytes(Word { bits }))?;
-    let line = format!(in alloc; "0x{address:x} {tag} {bytes}\n")?;
-    text.extend_from_slice(line.as_bytes())
+    let mut line = Line::new();
+    line.put_text(b"\n");
+    line.put_bytes(to_bytes(Word { bits }));
+    line.put_text(b" ");
+    line.put_decimal(u64::from(bit(tag)));
+    line.put_text(b" ");
+    line.put_hexadecimal(address);
+    text.extend_from_slice(line.text())
 }

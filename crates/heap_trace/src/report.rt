@@ -1,15 +1,17 @@
 //! The text of a report.
 
-ghost use Rattle.std.specs.Prelude.{◌≡◌, ◌++◌, OnErr, OnOk};
+ghost use Rattle.std.specs.Prelude.{◌≡◌, ◌≤◌, ◌+◌, ◌++◌, OnErr, OnOk, length};
 ghost use Rattle.heap_machine.specs.State.{tags_of};
-ghost use Rattle.heap_trace.specs.Report.{end_text, line_text, name_of};
+ghost use Rattle.heap_trace.specs.Report.{answer_text, end_text, line_text, name_of, shown_text};
 
-use heap_machine::{Machine, Reply};
+use crate::line::Line;
+use heap_machine::{Machine, Reply, Shown, bit};
 use std::alloc::{AllocError, Global};
 use trace_text::Command;
 
 fn name(command: Command) -> &'static str
-    ensures { result.now ≡ name_of command }
+    ensures name { result.now ≡ name_of command }
+    ensures short { length result.now ≤ 8 }
 {
     match command {
         Command::Malloc { .. } => "malloc",
@@ -26,20 +28,78 @@ fn name(command: Command) -> &'static str
     }
 }
 
+// Puts what is shown of a register before what stands in the line.
+#[inline(always)]
+fn put_shown(line: &mut Line, shown: Shown)
+    requires room { 200 + length line.old ≤ 256 }
+    ensures text { line.new ≡ shown_text shown ++ line.old }
+    ensures length { length line.new ≤ 200 + length line.old }
+{
+    line.put_decimal(u64::from(shown.exponent));
+    line.put_text(b" exponent ");
+    line.put_hexadecimal(u64::from(shown.otype));
+    line.put_text(b" type ");
+    line.put_hexadecimal(u64::from(shown.perms));
+    line.put_text(b" perms ");
+    line.put_place(shown.address, shown.base, shown.top);
+    line.put_text(b" ");
+    line.put_decimal(u64::from(bit(shown.tag)));
+    line.put_text(b"tag ");
+}
+
+// The same of an answer.
+#[inline(always)]
+fn put_reply(line: &mut Line, reply: Reply)
+    requires room { 200 + length line.old ≤ 256 }
+    ensures text { line.new ≡ answer_text reply ++ line.old }
+    ensures length { length line.new ≤ 200 + length line.old }
+{
+    match reply {
+        Reply::Block { base, top } => {
+            line.put_wide_hexadecimal(top);
+            line.put_text(b" ");
+            line.put_hexadecimal(base);
+            line.put_text(b"block ");
+        }
+        Reply::NoSpace => line.put_text(b"nospace"),
+        Reply::Held(bytes) => {
+            line.put_decimal(bytes);
+            line.put_text(b"held ");
+        }
+        Reply::Done => line.put_text(b"ok"),
+        Reply::Cleared => line.put_text(b"cleared"),
+        Reply::Swept { cleared, released } => {
+            line.put_decimal(released);
+            line.put_text(b" released ");
+            line.put_decimal(u64::from(cleared));
+            line.put_text(b"cleared ");
+        }
+        Reply::Shown(shown) => put_shown(line, shown),
+        Reply::Trap(trap) => {
+            line.put_text(trap.name().as_bytes());
+            line.put_text(b"trap ");
+        }
+    }
+}
+
 // Adds the line of a command and its answer.
 pub fn push_line(
     report: &mut Vec<u8>,
-    alloc: Global,
-    line: u32,
+    number: u32,
     command: Command,
     reply: Reply,
 ) -> Result<(), AllocError>
-    ensures ok { OnOk result (report.new.items ≡ report.old.items ++ line_text line command reply) }
+    ensures ok { OnOk result (report.new.items ≡ report.old.items ++ line_text number command reply) }
     ensures err { OnErr result (report.new.items ≡ report.old.items) }
 {
-    let name = name(command);
-    let text = format!(in alloc; "{line} {name} {reply}\n")?;
-    report.extend_from_slice(text.as_bytes())
+    let mut line = Line::new();
+    line.put_text(b"\n");
+    put_reply(&mut line, reply);
+    line.put_text(b" ");
+    line.put_text(name(command).as_bytes());
+    line.put_text(b" ");
+    line.put_decimal(u64::from(number));
+    report.extend_from_slice(line.text())
 }
 
 // Adds the last line: the bytes in live blocks, in held blocks and in neither, and the tags.

@@ -99,7 +99,7 @@ fn run_commands<R: Threads + Sync>(
         let Ok(reply) = machine.step(rt, alloc, *command, &Open) else {
             return None;
         };
-        let Ok(()) = push_line(&mut report, alloc, *line, *command, reply) else {
+        let Ok(()) = push_line(&mut report, *line, *command, reply) else {
             return None;
         };
     }

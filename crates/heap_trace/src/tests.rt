@@ -1,5 +1,6 @@
 //! Traces with their reports.
 
 mod image;
+mod line;
 mod runs;
 mod sweeps;

@@ -1,4 +1,4 @@
--- The digits of a number, from those of its upper and its lower part.
+-- The digits of a number: those of its upper and its lower part, its last digit, and how many there are.
 use Rattle.std.proofs.Common.{◌≡◌, ℕ, zero, suc, ◌+◌, ◌-◌, ◌*◌, ◌/◌, ◌%◌, ◌^◌, ◌<◌, ◌≤◌, inl, inr, Bool, false, List, [], ◌∷◌, ◌++◌, length, refl, sym, ap, ◌∙◌, arith, append_assoc, append-nil, add-zero}
 use Rattle.std.proofs.Math.ListN.{replicate}
 use Rattle.std.proofs.Math.Arith.{mod-mul}
@@ -127,3 +127,27 @@ module _ (base : ℕ) (upper : Bool) (two_or_more : 2 ≤ base) where
   digits-parts k n positive room small some =
       digits_onto-split k 64 n [] room some ∙ digits_onto-front k 64 n _ room small some
       ∙ ap (λ text. digits base upper (n / base ^ k) ++ text) (all_digits_onto-zero_padded k 64 n positive room small)
+
+  -- the last digit stands behind the others
+  pub digits_step : (n : ℕ) → 0 < n / base → n < base ^ 64
+      → digits base upper n ≡ digits base upper (n / base) ++ (digit_glyph upper (n % base) ∷ [])
+  unfolding digits
+  digits_step n some small =
+      let last = digit_glyph upper (n % base) ∷ [] in
+      let within : IsWithin 63 (n / base) = IsWithin-front 63 n (omega arith, small) some in
+      let by_64 : IsWithin 64 (n / base) = IsWithin_positive 64 (n / base) some (omega (arith, div-le_self n base)) in
+      rw (ne_eqb (n / base) 0 (omega arith))
+      (digits_onto-append 63 (n / base) last ∙ ap (λ text. text ++ last) (digits_onto_within 63 64 (n / base) [] within by_64))
+
+  digits_onto-length : (k n : ℕ) (rest : List ℕ) → length (digits_onto k base upper n rest) ≤ k + length rest
+  digits_onto-length zero n rest = omega arith
+  digits_onto-length (suc k) n rest = elim (eq-zero-or-pos (n / base)) [
+    | inl none ↦ rw (eq-eqb (n / base) 0 none) (omega arith)
+    | inr some ↦ rw (ne_eqb (n / base) 0 (omega arith)) (omega (arith, digits_onto-length k (n / base) (digit_glyph upper (n % base) ∷ rest)))
+  ]
+
+  -- k digits at most
+  pub digits_length : (k n : ℕ) → 0 < k → n < base ^ k → n < base ^ 64 → length (digits base upper n) ≤ k
+  unfolding digits
+  digits_length k n positive small wide =
+      rw (digits_onto_within 64 k n [] (omega arith, wide) (positive, small)) (omega (arith, digits_onto-length k n []))
