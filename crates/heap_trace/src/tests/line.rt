@@ -43,7 +43,9 @@ fn hexadecimal_has_no_leading_zeros(rt: HostRuntime) {
 #[test]
 fn bytes_are_two_digits_each(rt: HostRuntime) {
     let mut line = Line::new();
-    line.put_bytes([0, 1, 2, 3, 4, 5, 6, 7, 8, 9, 10, 0x7f, 0x80, 0xab, 0xf0, 0xff]);
+    line.put_bytes([
+        0, 1, 2, 3, 4, 5, 6, 7, 8, 9, 10, 0x7f, 0x80, 0xab, 0xf0, 0xff,
+    ]);
     let text = "000102030405060708090a7f80abf0ff";
     assert_eq!(rt; line.text(), text.as_bytes());
 }
