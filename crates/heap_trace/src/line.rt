@@ -42,6 +42,14 @@ impl Line {
         }
     }
 
+    /// Takes away all that was put.
+    #[inline(always)]
+    pub fn clear(&mut self)
+        ensures { self.new ≡ [] }
+    {
+        self.start = ROOM;
+    }
+
     /// The text put so far.
     #[inline(always)]
     pub fn text(&self) -> &[u8]

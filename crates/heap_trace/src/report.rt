@@ -1,12 +1,13 @@
 //! The text of a report.
 
-ghost use Rattle.std.specs.Prelude.{◌≡◌, ◌≤◌, ◌+◌, ◌++◌, OnErr, OnOk, length};
+ghost use Rattle.std.specs.Prelude.{◌≡◌, ◌≤◌, ◌+◌, ◌++◌, [], IfOk, OnErr, OnOk, length};
 ghost use Rattle.heap_machine.specs.State.{tags_of};
 ghost use Rattle.heap_trace.specs.Report.{answer_text, end_text, line_text, name_of, shown_text};
 
 use crate::line::Line;
 use heap_machine::{Machine, Reply, Shown, bit};
 use std::alloc::{AllocError, Global};
+use std::marker::Model;
 use trace_text::Command;
 
 fn name(command: Command) -> &'static str
@@ -82,36 +83,73 @@ fn put_reply(line: &mut Line, reply: Reply)
     }
 }
 
-// Adds the line of a command and its answer.
-pub fn push_line(
-    report: &mut Vec<u8>,
-    number: u32,
-    command: Command,
-    reply: Reply,
-) -> Result<(), AllocError>
-    ensures ok { OnOk result (report.new.items ≡ report.old.items ++ line_text number command reply) }
-    ensures err { OnErr result (report.new.items ≡ report.old.items) }
+// Makes the line of a command and its answer.
+#[inline(always)]
+fn put_line(line: &mut Line, number: u32, command: Command, reply: Reply)
+    requires { line.old ≡ [] }
+    ensures { line.new ≡ line_text number command reply }
 {
-    let mut line = Line::new();
     line.put_text(b"\n");
-    put_reply(&mut line, reply);
+    put_reply(line, reply);
     line.put_text(b" ");
     line.put_text(name(command).as_bytes());
     line.put_text(b" ");
     line.put_decimal(u64::from(number));
-    report.extend_from_slice(line.text())
 }
 
-// Adds the last line: the bytes in live blocks, in held blocks and in neither, and the tags.
-pub fn push_end(report: &mut Vec<u8>, alloc: Global, machine: &Machine) -> Result<(), AllocError>
-    ensures { OnOk result (report.new.items ≡ report.old.items ++ end_text machine.now) }
-{
-    let live = machine.live_bytes();
-    let held = machine.held_bytes();
-    let free = machine.free_bytes();
-    let tags = tagged(machine);
-    let text = format!(in alloc; "end live {live} held {held} free {free} tags {tags}\n")?;
-    report.extend_from_slice(text.as_bytes())
+/// A report as it grows, line by line. The last line stands apart until the next one is made: its
+/// bytes were written one by one, and a copy of many at once waits until they are in the cache.
+#[derive(Drop)]
+pub struct Report {
+    text: Vec<u8>,
+    last: Line,
+}
+
+impl Model for Report {
+    ghost use Rattle.std.specs.Prelude.{ℕ, ◌++◌, List};
+
+    ghost Value = { List ℕ };
+
+    ghost view = { λ report. report.text.items ++ report.last };
+}
+
+impl Report {
+    /// A report without a line.
+    pub fn new(alloc: Global) -> Report
+        ensures { result ≡ [] }
+    {
+        Report {
+            text: Vec::new(alloc),
+            last: Line::new(),
+        }
+    }
+
+    /// Adds the line of a command and its answer.
+    pub fn push(&mut self, number: u32, command: Command, reply: Reply) -> Result<(), AllocError>
+        ensures ok { OnOk result (self.new ≡ self.old ++ line_text number command reply) }
+        ensures err { OnErr result (self.new ≡ self.old) }
+    {
+        self.text.extend_from_slice(self.last.text())?;
+        self.last.clear();
+        put_line(&mut self.last, number, command, reply);
+        Ok(())
+    }
+
+    /// The whole text, with a last line: the bytes in live blocks, in held blocks and in neither, and
+    /// the tags.
+    pub fn end(self, alloc: Global, machine: &Machine) -> Result<Vec<u8>, AllocError>
+        ensures { IfOk result (λ text. text.items ≡ self ++ end_text machine.now) }
+    {
+        let Report { mut text, last } = self;
+        let live = machine.live_bytes();
+        let held = machine.held_bytes();
+        let free = machine.free_bytes();
+        let tags = tagged(machine);
+        let end = format!(in alloc; "end live {live} held {held} free {free} tags {tags}\n")?;
+        text.extend_from_slice(last.text())?;
+        text.extend_from_slice(end.as_bytes())?;
+        Ok(text)
+    }
 }
 
 // How many granules and registers are tagged.

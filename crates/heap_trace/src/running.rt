@@ -10,7 +10,7 @@ ghost use Rattle.heap_trace.specs.Report.{end_text};
 ghost use Rattle.heap_trace.specs.Run.{Told};
 ghost use Rattle.heap_machine.specs.Safety.{IsSafe};
 
-use crate::report::{push_end, push_line};
+use crate::report::Report;
 use heap_machine::Machine;
 use std::alloc::{AllocError, Global};
 use std::thread::Threads;
@@ -71,8 +71,8 @@ fn run_trace<R: Threads + Sync>(
     let Ok(mut machine) = Machine::new(alloc, trace.base, trace.pages, cutting) else {
         return None;
     };
-    let mut report = run_commands(rt, alloc, &mut machine, &trace.commands)?;
-    let Ok(()) = push_end(&mut report, alloc, &machine) else {
+    let lines = run_commands(rt, alloc, &mut machine, &trace.commands)?;
+    let Ok(report) = lines.end(alloc, &machine) else {
         return None;
     };
     let (memory, registers) = machine.finish();
@@ -89,17 +89,17 @@ fn run_commands<R: Threads + Sync>(
     alloc: Global,
     machine: &mut Machine,
     commands: &[(u32, Command)],
-) -> Option<Vec<u8>>
+) -> Option<Report>
     requires valid { All IsListed commands.now }
     requires safe { IsSafe machine.old }
-    ensures { IfSome result (λ report. Told machine.old commands.now machine.new report.items) }
+    ensures { IfSome result (λ report. Told machine.old commands.now machine.new report) }
 {
-    let mut report = Vec::new(alloc);
+    let mut report = Report::new(alloc);
     for (line, command) in commands {
         let Ok(reply) = machine.step(rt, alloc, *command, &Open) else {
             return None;
         };
-        let Ok(()) = push_line(&mut report, *line, *command, reply) else {
+        let Ok(()) = report.push(*line, *command, reply) else {
             return None;
         };
     }
