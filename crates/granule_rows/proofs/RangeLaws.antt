@@ -1,11 +1,11 @@
 -- Bits of a row set and cleared by ranges.
-use Rattle.std.proofs.Common.{◌≡◌, ◌<◌, ◌≤◌, ◌+◌, ◌*◌, ◌-◌, ◌/◌, ◌%◌, ◌^◌, ◌==◌, inl, inr, nat_le, nat_lt, ◌&&◌, ◌||◌, not, min, max, ℕ, zero, suc, Bool, true, false, List, length, get_or, set, bit_and, bit_or, w64, refl, sym, ap, ◌∙◌, subst, arith}
+use Rattle.std.proofs.Common.{◌≡◌, ◌<◌, ◌≤◌, ◌+◌, ◌*◌, ◌-◌, ◌/◌, ◌%◌, ◌^◌, inl, inr, nat_le, nat_lt, ◌&&◌, not, min, ℕ, Bool, true, false, List, length, get_or, set, bit_and, refl, sym, ap, ◌∙◌, subst, arith}
 use Rattle.std.proofs.lemmas.Bool.{cases_lt}
 use Rattle.std.proofs.lemmas.Bool.Decides.{nat_tests}
 use Rattle.std.proofs.lemmas.List.{get_or-set_other, get_or-set_same}
 use Rattle.std.proofs.lemmas.Nat.{mod_low, pow-add, pow_below, pow_pos, shr_high}
-use Rattle.std.proofs.lemmas.Nat.Bits.{bit_at-lt, bit_at_and, bit_at_mask_below, bit_at_mask_inside, bit_at_not, bit_at_ones, bit_at_ones_above, bit_at_or}
-use Rattle.std.specs.Int.{bit_at, bit_not}
+use Rattle.std.proofs.lemmas.Nat.Bits.{bit_at_and, bit_at_mask_below, bit_at_mask_inside, bit_at_ones, bit_at_ones_above}
+use Rattle.std.specs.Int.{bit_at}
 use Rattle.granule_rows.specs.Runs.{is_within}
 use Rattle.tag_memory.specs.Laws.{is_set_for-at, same_test}
 use Rattle.tag_memory.specs.Tags.{is_set, is_set_for}
