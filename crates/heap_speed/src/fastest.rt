@@ -19,18 +19,18 @@ impl Fastest {
     };
 
     /// Takes in a round that has ended now.
-    pub fn take_round(&mut self, rt: &impl CpuClock, start: Duration) -> io::Result<()> {
+    pub(crate) fn take_round(&mut self, rt: &impl CpuClock, start: Duration) -> io::Result<()> {
         let time = rt.thread_cpu_time()?.saturating_sub(start);
         self.least = self.least.min(time);
         Ok(())
     }
 
-    pub fn microseconds(self) -> u128 {
+    pub(crate) fn microseconds(self) -> u128 {
         self.least.as_micros()
     }
 
     /// Nanoseconds for one of so many steps of a round.
-    pub fn nanoseconds_a_step(self, steps: u64) -> u128 {
+    pub(crate) fn nanoseconds_a_step(self, steps: u64) -> u128 {
         self.least.as_nanos() / u128::from(steps.max(1))
     }
 }

@@ -11,7 +11,7 @@ use std::time::CpuClock;
 const REPLACED: u64 = 1000;
 
 /// The heap full of live blocks, of which one after the other is replaced.
-pub fn report_full(rt: &HostRuntime) -> io::Result<()> {
+pub(crate) fn report_full(rt: &HostRuntime) -> io::Result<()> {
     let Ok(mut heap) = full_heap(rt.alloc()) else {
         return println!(rt; "want of memory");
     };
@@ -49,7 +49,7 @@ fn replace_blocks(heap: &mut Heap) -> Result<u64, HeapFault> {
 }
 
 /// The heap with every second block live, and the others reserved, released and given back.
-pub fn report_halves(rt: &HostRuntime) -> io::Result<()> {
+pub(crate) fn report_halves(rt: &HostRuntime) -> io::Result<()> {
     let Ok(mut heap) = half_full_heap(rt.alloc()) else {
         return println!(rt; "want of memory");
     };

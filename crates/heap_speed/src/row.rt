@@ -12,7 +12,7 @@ use std::time::CpuClock;
 const STEPS: u64 = 200_000;
 
 /// A row of so many words.
-pub fn report_row(rt: &HostRuntime, words: usize) -> io::Result<()>
+pub(crate) fn report_row(rt: &HostRuntime, words: usize) -> io::Result<()>
     requires some { 0 < words }
     requires limit { words ≤ 2 ^ 24 }
 {

@@ -29,7 +29,7 @@ struct Sums {
     again: u64,
 }
 
-pub fn report_whole(rt: &HostRuntime) -> io::Result<()> {
+pub(crate) fn report_whole(rt: &HostRuntime) -> io::Result<()> {
     let mut fastest = Fastest::NONE;
     let mut last = Sums::default();
     for _ in 0..ROUNDS {
@@ -70,7 +70,7 @@ fn work(alloc: Global) -> Result<Sums, HeapFault> {
 }
 
 /// A heap full of live blocks of 16 bytes.
-pub fn full_heap(alloc: Global) -> Result<Heap, HeapFault> {
+pub(crate) fn full_heap(alloc: Global) -> Result<Heap, HeapFault> {
     let mut heap = Heap::new(alloc, BASE, PAGES)?;
     fill(&mut heap)?;
     Ok(heap)
@@ -93,7 +93,7 @@ fn release_all(heap: &mut Heap) -> Result<(), HeapFault> {
 }
 
 /// Releases one block of 16 bytes, by a number of which each block has one.
-pub fn release_block(heap: &mut Heap, k: u64) -> Result<(), HeapFault> {
+pub(crate) fn release_block(heap: &mut Heap, k: u64) -> Result<(), HeapFault> {
     let base = BASE + 16 * (k.wrapping_mul(STEP) % BLOCKS);
     let _ = heap.release(base, u128::from(base) + 16)?;
     Ok(())

@@ -46,7 +46,7 @@ impl Draws {
     }
 
     /// The command for this turn.
-    pub fn command(&mut self, turn: u32, plain: &Plain) -> Command {
+    pub(crate) fn command(&mut self, turn: u32, plain: &Plain) -> Command {
         let reserves = if (turn / SEASON).is_multiple_of(2) {
             600
         } else {

@@ -40,7 +40,7 @@ pub struct Pair {
 }
 
 impl Pair {
-    pub fn new(alloc: Global) -> Result<Pair, HeapFault> {
+    pub(crate) fn new(alloc: Global) -> Result<Pair, HeapFault> {
         let heap = Heap::new(alloc, BASE, PAGES)?;
         Ok(Pair {
             heap,
@@ -50,7 +50,7 @@ impl Pair {
     }
 
     /// Gives a command to both, and counts what they answer.
-    pub fn obey(&mut self, command: Command) -> Result<(), HeapFault> {
+    pub(crate) fn obey(&mut self, command: Command) -> Result<(), HeapFault> {
         match command {
             Command::Reserve(size) => self.reserve(size),
             Command::Release(bounds) => self.release(bounds),
@@ -97,7 +97,7 @@ impl Pair {
     }
 
     /// Compares all sums of bytes and all granules.
-    pub fn look(&mut self, alloc: Global) -> Result<(), HeapFault> {
+    pub(crate) fn look(&mut self, alloc: Global) -> Result<(), HeapFault> {
         let (gaps, same) = self.looks_same(alloc)?;
         self.compare(same);
         count(&mut self.counts.looks, 1);

@@ -1,6 +1,6 @@
 //! A heap as a plain list of its blocks, which is gone through from its start.
 
-ghost use Rattle.std.specs.Prelude.{◌≤◌, IfSome, length};
+ghost use Rattle.std.specs.Prelude.{◌≡◌, ◌≤◌, ◌+◌, [], IfOk, IfSome, length};
 
 use cap_codec::{alignment_mask, representable_length};
 use heap_core::{Block, Freed};
@@ -37,7 +37,12 @@ impl Kept {
 }
 
 impl Plain {
-    pub fn new(alloc: Global, base: u64, end: u64) -> Plain {
+    /// Without a block, from the address `base` on, before `end`.
+    pub(crate) fn new(alloc: Global, base: u64, end: u64) -> Plain
+        ensures base { result.base ≡ base }
+        ensures end { result.end ≡ end }
+        ensures none { result.blocks.items ≡ [] }
+    {
         Plain {
             base,
             end,
@@ -46,17 +51,23 @@ impl Plain {
     }
 
     /// How many blocks there are, live and held.
-    pub fn len(&self) -> usize {
+    pub(crate) fn len(&self) -> usize
+        ensures { result ≡ length self.now.blocks.items }
+    {
         self.blocks.len()
     }
 
     /// The bounds of a block, counted from 0.
-    pub fn bounds_at(&self, index: usize) -> Option<Block> {
+    pub(crate) fn bounds_at(&self, index: usize) -> Option<Block> {
         self.blocks.get(index).map(|block| block.bounds())
     }
 
     /// Makes a block for `size` bytes live, at the least address where it can lie.
-    pub fn reserve(&mut self, size: u64) -> Result<Option<Block>, AllocError> {
+    pub(crate) fn reserve(&mut self, size: u64) -> Result<Option<Block>, AllocError>
+        ensures none { result ≡ Ok None → self.new ≡ self.old }
+        ensures one { IfOk result (λ block. IfSome block
+            (λ _. length self.new.blocks.items ≡ length self.old.blocks.items + 1)) }
+    {
         let Some((index, block)) = self.first_place(size) else {
             return Ok(None);
         };
@@ -85,7 +96,7 @@ impl Plain {
     }
 
     /// Makes the live block with just these bounds held.
-    pub fn release(&mut self, bounds: Block) -> Freed {
+    pub(crate) fn release(&mut self, bounds: Block) -> Freed {
         for block in self.blocks.iter_mut() {
             if block.bounds() == bounds {
                 if block.held {
@@ -99,14 +110,14 @@ impl Plain {
     }
 
     /// Takes the held blocks away, and answers their bytes.
-    pub fn give_back(&mut self) -> u64 {
+    pub(crate) fn give_back(&mut self) -> u64 {
         let bytes = self.held_bytes();
         self.blocks.retain(|block| !block.held);
         bytes
     }
 
     /// The bytes of the held blocks.
-    pub fn held_bytes(&self) -> u64 {
+    pub(crate) fn held_bytes(&self) -> u64 {
         self.blocks
             .iter()
             .filter(|block| block.held)
@@ -114,7 +125,7 @@ impl Plain {
     }
 
     /// The bytes of the live blocks.
-    pub fn live_bytes(&self) -> u64 {
+    pub(crate) fn live_bytes(&self) -> u64 {
         self.blocks
             .iter()
             .filter(|block| !block.held)
@@ -122,7 +133,7 @@ impl Plain {
     }
 
     /// The gaps before, between and after the blocks: how many there are, and their bytes.
-    pub fn gaps(&self) -> (u64, u64) {
+    pub(crate) fn gaps(&self) -> (u64, u64) {
         let mut count = 0u64;
         let mut bytes = 0u64;
         let mut after = self.base;
@@ -137,7 +148,7 @@ impl Plain {
     }
 
     /// For each granule of the heap whether it lies in a held block.
-    pub fn held_granules(&self, alloc: Global) -> Result<Vec<bool>, AllocError> {
+    pub(crate) fn held_granules(&self, alloc: Global) -> Result<Vec<bool>, AllocError> {
         let mut granules = Vec::new(alloc);
         let mut after = self.base;
         for block in &self.blocks {
