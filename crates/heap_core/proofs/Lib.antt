@@ -9,5 +9,6 @@ pub mod ShadowLaws
 pub mod SizeLaws
 pub mod SoundLaws
 pub mod SpanLaws
+pub mod StateLaws
 pub mod StoredLaws
 pub mod SumLaws

@@ -2,7 +2,7 @@
 -- long the block is, and what its start is a multiple of, follow from what a capability can hold.
 use Rattle.std.specs.Prelude.{◌≡◌, ◌≤◌, ◌+◌, ◌%◌, ℕ, max, All, Option, Result, IfOk, IfSome}
 use Rattle.cap_codec.specs.Rounding.{length_for, round_up, unit_for}
-use Rattle.heap_core.specs.Blocks.{IsApart}
+use Rattle.heap_core.specs.Blocks.{IsApart, blocks_with}
 use Rattle.heap_core.specs.Heap.{HeapState}
 
 -- A size in bytes, up to whole granules of 16 bytes. A size of 0 counts as 1.
@@ -31,6 +31,10 @@ pub record IsFree (s : HeapState) (size a : ℕ) : Type 0 where
 pub record IsPlace (s : HeapState) (size a : ℕ) : Type 0 where
   pub free : IsFree s size a
   pub least : (b : ℕ) → IsFree s size b → a ≤ b
+
+-- The heap with a live block of that size more, at a.
+abbrev pub with_live : HeapState → ℕ → ℕ → HeapState
+with_live s size a = record s { live = blocks_with (a, block_length size) s.live }
 
 -- P of the value in an `Ok (Some ..)`.
 abbrev pub IfOkSome : {T E : Type 0} → Result (Option T) E → (T → Type 0) → Type 0

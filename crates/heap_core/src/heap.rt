@@ -2,9 +2,9 @@
 
 ghost use Rattle.std.specs.Prelude.{◌≡◌, ◌↔◌, ◌≤◌, ◌+◌, ℕ, IfOk, IsOk, IsOkUnless, false, true};
 ghost use Rattle.cap_codec.specs.Rounding.{IsExact};
-ghost use Rattle.heap_core.specs.Blocks.{blocks_with, bytes_of};
+ghost use Rattle.heap_core.specs.Blocks.{bytes_of};
 ghost use Rattle.heap_core.specs.Heap.{IsSound, empty_heap};
-ghost use Rattle.heap_core.specs.Place.{IfOkSome, IsFree, IsPlace, block_length};
+ghost use Rattle.heap_core.specs.Place.{IfOkSome, IsFree, IsPlace, block_length, with_live};
 ghost use Rattle.tag_memory.specs.Span as span;
 
 mod quarantine;
@@ -90,9 +90,7 @@ impl Heap {
         ensures place { IfOkSome result (λ block. IsPlace self.old size block.base) }
         ensures top { IfOkSome result (λ block. block.top ≡ block.base + block_length size) }
         ensures exact { IfOkSome result (λ block. IsExact block.base block.top) }
-        ensures live { IfOkSome result (λ block. self.new ≡ record self.old {
-          live = blocks_with (block.base, block_length size) self.old.live;
-        }) }
+        ensures live { IfOkSome result (λ block. self.new ≡ with_live self.old size block.base) }
         ensures sound { IsSound self.new }
     {
         let asked = granules_for(size);

@@ -4,6 +4,7 @@
 mod block;
 mod fault;
 mod heap;
+mod laws;
 mod rows;
 mod shadow;
 mod table;
@@ -13,4 +14,5 @@ mod tests;
 pub use crate::block::{Block, Freed};
 pub use crate::fault::HeapFault;
 pub use crate::heap::Heap;
+pub use crate::laws::changes;
 pub use crate::shadow::Shadow;

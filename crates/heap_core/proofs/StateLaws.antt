@@ -1,0 +1,162 @@
+-- What keeps a heap sound, seen from its blocks alone.
+use Rattle.std.proofs.Common.{◌≡◌, ◌<◌, ◌≤◌, ◌+◌, ◌-◌, ◌*◌, ◌%◌, ◌==◌, inl, inr, nat_lt, nat_le, not, ℕ, zero, suc, Bool, true, false, List, [], ◌∷◌, ap, sym, ◌∙◌, subst, arith}
+use Rattle.std.proofs.Math.Nat.{le-max_left}
+use Rattle.std.proofs.lemmas.Bool.{and_parts, cases_Bool, eqb-true, ltb-true}
+use Rattle.std.proofs.lemmas.Bool.Decides.{nat_tests}
+use Rattle.std.proofs.lemmas.List.Elements.{All-cons, All-contains, All-filter, All-head, All-nil, All-tail, All-weaker}
+use Rattle.std.proofs.lemmas.List.Folds.{Any-from_list_any}
+use Rattle.std.proofs.lemmas.List.Kept.{AllPairs-cons, AllPairs-filter}
+use Rattle.std.specs.List.{Contains}
+use Rattle.std.specs.Prelude.{◌||◌, All, AllPairs, max}
+use Rattle.heap_core.specs.Blocks.{IsApart, IsBefore, Span, blocks_with, blocks_without, end_of, has_bounds, is_block, length_of, start_of}
+use Rattle.heap_core.specs.Heap.{HeapState, IsInside, IsSound}
+use Rattle.heap_core.specs.Place.{IsFree, block_length, granule_size, with_live}
+use Rattle.heap_core.specs.Quarantine.{with_held, without_held}
+use Rattle.heap_core.proofs.SizeLaws.{le-length_for, length_for_granules}
+
+-- ---- lists of blocks
+
+AllPairs-head : (b : Span) (blocks : List Span) → AllPairs IsBefore (b ∷ blocks) → All (IsBefore b) blocks
+AllPairs-head b blocks h = λ k d within. h zero (suc k) d (omega arith) (omega arith)
+
+AllPairs-tail : (b : Span) (blocks : List Span) → AllPairs IsBefore (b ∷ blocks) → AllPairs IsBefore blocks
+AllPairs-tail b blocks h = λ j k d less within. h (suc j) (suc k) d (omega arith) (omega arith)
+
+-- What holds of each block and of one more holds of each with that one.
+All-blocks_with : (P : Span → Type 0) (block : Span) (blocks : List Span) → P block → All P blocks → All P (blocks_with block blocks)
+All-blocks_with P block [] here all = All-cons P block [] here (All-nil P)
+All-blocks_with P block (b ∷ blocks) here all =
+    elim (cases_Bool (nat_lt (start_of block) (start_of b))) [
+      | inl first ↦ rw first (All-cons P block (b ∷ blocks) here all)
+      | inr later ↦ rw later (All-cons P b (blocks_with block blocks) (All-head P b blocks all) (All-blocks_with P block blocks here (All-tail P b blocks all)))
+    ]
+
+-- A block that shares no address with others has its place in their order.
+AllPairs-blocks_with : (block : Span) (blocks : List Span) → 0 < length_of block → All (IsApart block) blocks → AllPairs IsBefore blocks
+    → AllPairs IsBefore (blocks_with block blocks)
+AllPairs-blocks_with block [] some apart order = AllPairs-cons IsBefore block [] (All-nil (IsBefore block)) order
+AllPairs-blocks_with block (b ∷ blocks) some apart order =
+    let tail = AllPairs-tail b blocks order in
+    let head = AllPairs-head b blocks order in
+    elim (cases_Bool (nat_lt (start_of block) (start_of b))) [
+      | inl first ↦
+          let less : start_of block < start_of b = ltb-true (start_of block) (start_of b) first in
+          let before : IsBefore block b = elim (All-head (IsApart block) b blocks apart) [ inl left ↦ left | inr right ↦ absurd (omega arith) ] in
+          let all = All-weaker (IsBefore b) (IsBefore block) (λ c after. omega (arith, before, after)) blocks head in
+          rw first (AllPairs-cons IsBefore block (b ∷ blocks) (All-cons (IsBefore block) b blocks before all) order)
+      | inr later ↦
+          let least : start_of b ≤ start_of block = grind (arith, nat_tests, later) in
+          let before : IsBefore b block = elim (All-head (IsApart block) b blocks apart) [ inl left ↦ absurd (omega arith) | inr right ↦ right ] in
+          rw later (AllPairs-cons IsBefore b (blocks_with block blocks) (All-blocks_with (IsBefore b) block blocks before head)
+          (AllPairs-blocks_with block blocks some (All-tail (IsApart block) b blocks apart) tail))
+    ]
+
+-- ---- a block more
+
+-- A block of a free place lies inside the heap.
+IsInside-free : (s : HeapState) (size a : ℕ) → IsFree s size a → IsInside s (a, block_length size)
+IsInside-free s size a free =
+    let whole : granule_size size % 16 ≡ 0 = omega arith in
+    let one : 1 ≤ max 1 size = le-max_left 1 size in
+    record {
+      start = free.granule;
+      length = length_for_granules (granule_size size) whole;
+      some = omega (arith, le-length_for (granule_size size), one);
+      from = free.from;
+      end = free.end;
+    }
+
+IsApart-turned : (b c : Span) → IsApart b c → IsApart c b
+IsApart-turned b c (inl before) = inr before
+IsApart-turned b c (inr after) = inl after
+
+pub IsSound-live : (s : HeapState) (size a : ℕ) → IsSound s → IsFree s size a → IsSound (with_live s size a)
+IsSound-live s size a sound free =
+    let block : Span = (a, block_length size) in
+    let inside = IsInside-free s size a free in
+    record {
+      pages = sound.pages;
+      bytes = sound.bytes;
+      size = sound.size;
+      place = sound.place;
+      live_inside = All-blocks_with (IsInside (with_live s size a)) block s.live (still block inside)
+      (All-weaker (IsInside s) (IsInside (with_live s size a)) still s.live sound.live_inside);
+      held_inside = All-weaker (IsInside s) (IsInside (with_live s size a)) still s.held sound.held_inside;
+      live_order = AllPairs-blocks_with block s.live inside.some free.live sound.live_order;
+      held_order = sound.held_order;
+      apart = All-blocks_with (λ b. All (IsApart b) s.held) block s.live free.held sound.apart;
+    } where
+  still : (b : Span) → IsInside s b → IsInside (with_live s size a) b
+  still b inside = record { start = inside.start; length = inside.length; some = inside.some; from = inside.from; end = inside.end }
+
+-- ---- a block held
+
+has_bounds-is : (base top : ℕ) (block : Span) → has_bounds base top block ≡ true → (start_of block ≡ base) × (end_of block ≡ top)
+has_bounds-is base top block is =
+    let both = and_parts (start_of block == base) (end_of block == top) is in
+    (eqb-true (start_of block) base both.0, eqb-true (end_of block) top both.1)
+
+-- Blocks in order share no address with the one that is taken out.
+apart-without : (base top : ℕ) (blocks : List Span) → AllPairs IsBefore blocks → is_block blocks base top ≡ true
+    → All (λ b. IsApart b (base, top - base)) (blocks_without base top blocks)
+apart-without base top [] order there = absurd cc
+apart-without base top (b ∷ blocks) order there =
+    let tail = AllPairs-tail b blocks order in
+    let head = AllPairs-head b blocks order in
+    let P : Span → Type 0 = λ c. IsApart c (base, top - base) in
+    elim (cases_Bool (has_bounds base top b)) [
+      | inl is ↦
+          let bounds = has_bounds-is base top b is in
+          let rest : All P blocks = All-weaker (IsBefore b) P (λ c after. inr (omega (arith, after, bounds.0, bounds.1))) blocks head in
+          rw is (All-filter (λ c. not (has_bounds base top c)) P blocks rest)
+      | inr is ↦
+          let later : is_block blocks base top ≡ true = rw is at there in
+          let found = Any-from_list_any (has_bounds base top) blocks later in
+          let bounds = has_bounds-is base top found.1 found.4 in
+          let before = All-contains (IsBefore b) blocks found.1 head (found.0, found.2, found.3) in
+          rw is (All-cons P b (blocks_without base top blocks) (inl (omega (arith, before, bounds.0))) (apart-without base top blocks tail later))
+    ]
+
+pub IsSound-held : (s : HeapState) (base top : ℕ) → IsSound s → is_block s.live base top ≡ true → IsSound (with_held s base top)
+IsSound-held s base top sound there =
+    let new = with_held s base top in
+    let block : Span = (base, top - base) in
+    let keeps : Span → Bool = λ b. not (has_bounds base top b) in
+    let found = Any-from_list_any (has_bounds base top) s.live there in
+    let bounds = has_bounds-is base top found.1 found.4 in
+    let in_live : Contains s.live found.1 = (found.0, found.2, found.3) in
+    let old = All-contains (IsInside s) s.live found.1 sound.live_inside in_live in
+    let length : length_of found.1 ≡ top - base = omega (arith, bounds.0, bounds.1) in
+    let same : found.1 ≡ block = (λ i. (bounds.0 i, length i)) in
+    let inside : IsInside s block = subst (IsInside s) same old in
+    let apart : All (IsApart block) s.held = subst (λ (b : Span). All (IsApart b) s.held) same (All-contains (λ b. All (IsApart b) s.held) s.live found.1 sound.apart in_live) in
+    let others = apart-without base top s.live sound.live_order there in
+    record {
+      pages = sound.pages;
+      bytes = sound.bytes;
+      size = sound.size;
+      place = sound.place;
+      live_inside = All-filter keeps (IsInside new) s.live (All-weaker (IsInside s) (IsInside new) still s.live sound.live_inside);
+      held_inside = All-blocks_with (IsInside new) block s.held (still block inside) (All-weaker (IsInside s) (IsInside new) still s.held sound.held_inside);
+      live_order = AllPairs-filter IsBefore keeps s.live sound.live_order;
+      held_order = AllPairs-blocks_with block s.held inside.some apart sound.held_order;
+      apart = λ k d within. All-blocks_with (IsApart _) block s.held (others k d within) (All-filter keeps (λ b. All (IsApart b) s.held) s.live sound.apart k d within);
+    } where
+  still : (b : Span) → IsInside s b → IsInside (with_held s base top) b
+  still b inside = record { start = inside.start; length = inside.length; some = inside.some; from = inside.from; end = inside.end }
+
+-- ---- the held blocks given back
+
+pub IsSound-free : (s : HeapState) → IsSound s → IsSound (without_held s)
+IsSound-free s sound = record {
+  pages = sound.pages;
+  bytes = sound.bytes;
+  size = sound.size;
+  place = sound.place;
+  live_inside = All-weaker (IsInside s) (IsInside (without_held s))
+  (λ b inside. record { start = inside.start; length = inside.length; some = inside.some; from = inside.from; end = inside.end }) s.live sound.live_inside;
+  held_inside = All-nil (IsInside (without_held s));
+  live_order = sound.live_order;
+  held_order = λ j k d less within. absurd (omega arith);
+  apart = All-weaker (λ b. All (IsApart b) s.held) (λ b. All (IsApart b) []) (λ b _. All-nil (IsApart b)) s.live sound.apart;
+}
