@@ -1,23 +1,21 @@
--- A block that goes from live to held keeps a state sound.
+-- A block that goes from live to held keeps a state safe.
 use Rattle.std.proofs.Common.{◌≡◌, ◌∙◌, ◌-◌, ◌==◌, ℕ, Bool, true, false, cond, not, inl, inr, List, [], ◌∷◌, refl, sym, ap, subst, arith}
 use Rattle.std.specs.Prelude.{All, filter}
 use Rattle.std.specs.List.{Contains}
 use Rattle.std.proofs.lemmas.Bool.{and_parts, cases_Bool, eqb-true, false_from_ne_true}
-use Rattle.std.proofs.lemmas.List.Elements.{All-contains, All-weaker}
+use Rattle.std.proofs.lemmas.List.Elements.{All-contains}
 use Rattle.std.proofs.lemmas.List.Folds.{Any-from_list_any}
 use Rattle.heap_core.specs.Blocks.{IsApart, Span, blocks_with, end_of, has_bounds, is_block, start_of}
 use Rattle.heap_core.specs.Heap.{HeapState, IsInside, IsSound as IsSoundHeap}
 use Rattle.heap_core.specs.Quarantine.{freed_of, with_held}
 use Rattle.heap_core.specs.declared.block.Freed.TheVariants as TheFreed
-use Rattle.tag_memory.specs.Cells.{cell_of}
 use Rattle.trace_text.specs.declared.trace.Command.TheVariants.{Free}
-use Rattle.heap_machine.specs.Safety.{HoldsGuarded, IsGuarded, IsLiveOrHeld}
+use Rattle.heap_machine.specs.Safety.{IsLiveOrHeld, IsSafe}
 use Rattle.heap_machine.specs.declared.reply.Reply.TheVariants.{Held}
-use Rattle.heap_machine.specs.Sound.{IsSound}
 use Rattle.heap_machine.specs.State.{State, register}
 use Rattle.heap_machine.specs.Step.{Step, bounds_in}
 use Rattle.heap_machine.proofs.BlockLists.{Contains-later, Contains-cases, Contains-new, Contains-still}
-use Rattle.heap_machine.proofs.GuardLaws.{IsGuarded-in}
+use Rattle.heap_machine.proofs.SoundLaws.{IsSafe-in}
 
 -- ---- bounds
 
@@ -78,21 +76,8 @@ still_there heap base top block (inl live) =
 
 -- ---- the state
 
-pub IsSound-held : (s : State) (heap : HeapState) (base top : ℕ) → IsSound s → heap ≡ with_held s.heap base top → IsSoundHeap heap → IsSound (record s { heap = heap })
-IsSound-held s heap base top sound same sound_heap =
-    let still : (block : Span) → IsLiveOrHeld s.heap block → IsLiveOrHeld heap block =
-    λ block there. subst (λ (h : HeapState). IsLiveOrHeld h block) (sym same) (still_there s.heap base top block there) in
-    let size : heap.size ≡ s.heap.size = ap (λ (h : HeapState). h.size) same in
-    record {
-      granules = sound.granules ∙ sym size;
-      count = sound.count;
-      zero = sound.zero;
-      safe = record {
-        heap = sound_heap;
-        registers = All-weaker (IsGuarded s.heap) (IsGuarded heap) (λ c. IsGuarded-in s.heap heap c still) s.registers sound.safe.registers;
-        cells = All-weaker (HoldsGuarded s.heap) (HoldsGuarded heap) (λ granule. IsGuarded-in s.heap heap (cell_of granule) still) s.cells sound.safe.cells;
-      };
-    }
+pub IsSafe-held : (s : State) (base top : ℕ) → IsSafe s → IsSoundHeap (with_held s.heap base top) → IsSafe (record s { heap = with_held s.heap base top })
+IsSafe-held s base top safe sound = IsSafe-in s (with_held s.heap base top) sound (still_there s.heap base top) safe
 
 -- ---- the step
 

@@ -2,10 +2,12 @@ mod BlockLists
 mod ClearedRegisters
 mod FreedBlock
 mod GuardLaws
+mod KeptSizes
 mod NewBlock
 mod OnePlace
 pub mod OneStep
 mod RevokedLaws
+mod SafeSteps
 mod SoundLaws
 mod SweepStep
 mod SweptState

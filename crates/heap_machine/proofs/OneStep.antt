@@ -1,7 +1,6 @@
 -- In each state a command has one answer and leaves one state.
 use Rattle.std.proofs.Common.{◌≡◌, ◌+◌, ◌∙◌, ℕ, Option, Some, None, inl, inr, true, refl, sym, ap}
-use Rattle.heap_core.specs.Blocks.{blocks_with}
-use Rattle.heap_core.specs.Place.{block_length}
+use Rattle.heap_core.specs.Place.{block_length, with_live}
 use Rattle.tag_memory.specs.Cells.{null_cell}
 use Rattle.trace_text.specs.declared.trace.Command.{Command}
 use Rattle.trace_text.specs.declared.trace.Command.TheVariants.{Malloc, Free, Copy, SetAddr, Narrow, AndPerm, StoreCap, LoadCap, Write, Show, Sweep}
@@ -16,7 +15,7 @@ use Rattle.heap_machine.proofs.OnePlace.{IsPlace-only, IsPlace-some}
 -- The state after a block.
 abbrev with_block : State → ℕ → ℕ → ℕ → ℕ → State
 with_block old rd size base top =
-    record (with_cell old rd (capability_of base top, true)) { heap = record old.heap { live = blocks_with (base, block_length size) old.heap.live } }
+    record (with_cell old rd (capability_of base top, true)) { heap = with_live old.heap size base }
 
 -- ---- no other
 

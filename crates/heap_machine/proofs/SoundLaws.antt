@@ -1,17 +1,19 @@
--- The state of every machine is sound.
-use Rattle.std.proofs.Common.{◌≡◌, ◌∙◌, ℕ, ◌<◌, ◌≤◌, ◌+◌, ◌*◌, ◌%◌, ◌^◌, Bool, true, false, cond, eqb, List, length, get_or, set, refl, sym, ap, subst, arith}
-use Rattle.std.specs.Prelude.{◌==◌, All, Some, nat_le, replicate, slice_get}
+-- What holds of a sound state, and the first one.
+use Rattle.std.proofs.Common.{◌≡◌, ◌∙◌, ℕ, ◌≤◌, ◌+◌, ◌*◌, ◌%◌, ◌^◌, Bool, true, false, cond, eqb, inl, inr, List, length, get_or, set, sym, ap, subst, arith}
+use Rattle.std.specs.Prelude.{◌==◌, All, nat_le, replicate}
 use Rattle.std.proofs.lemmas.Bool.Decides.{nat_tests}
-use Rattle.std.proofs.lemmas.Bool.{and_parts, eq-eqb, true≢false}
-use Rattle.std.proofs.lemmas.List.{get_or-set_other, length-replicate, length-set}
-use Rattle.std.proofs.lemmas.List.Elements.{All-get_or, All-replicate, All-set}
-use Rattle.std.proofs.lemmas.Option.{get_or_from_slice_get, slice_get_within}
+use Rattle.std.proofs.lemmas.Bool.{and_parts, cases_lt}
+use Rattle.std.proofs.lemmas.List.{get_or_past, length-replicate}
+use Rattle.std.proofs.lemmas.List.Elements.{All-get_or, All-replicate, All-set, All-weaker}
 use Rattle.heap_core.specs.Heap.{HeapState, IsSound as IsSoundHeap, empty_heap}
-use Rattle.tag_memory.specs.Cells.{Cell, Granule, new_registers, null_cell}
-use Rattle.heap_machine.specs.Safety.{HoldsGuarded, IsGuarded}
+use Rattle.cap_codec.specs.declared.word.Word.{Word}
+use Rattle.heap_core.specs.Blocks.{Span}
+use Rattle.tag_memory.specs.Cells.{Cell, Granule, cell_of, new_registers, null_cell}
+use Rattle.heap_machine.specs.Safety.{HoldsGuarded, IsGuarded, IsLiveOrHeld, IsSafe}
 use Rattle.heap_machine.specs.Sound.{IsSound}
 use Rattle.heap_machine.specs.State.{State, register, with_cell}
-use Rattle.heap_machine.proofs.GuardLaws.{IsGuarded-untagged, LiesInside, LiesInside-guarded}
+use Rattle.heap_machine.specs.Step.{granule_at, index_in, with_granule}
+use Rattle.heap_machine.proofs.GuardLaws.{IsGuarded-in, IsGuarded-untagged, LiesInside, LiesInside-guarded}
 
 either : {A : Type 0} (P : A → Type 0) (b : Bool) (x y : A) → P x → P y → P (cond b x y)
 either P true x y p q = p
@@ -31,53 +33,54 @@ FitsAddresses-heap heap sound =
     let end : heap.base + 4096 * sound.pages ≤ 2 ^ 64 = grind (arith, nat_tests, both.1) in
     record { aligned = omega (arith, whole); end = omega (arith, end, sound.bytes) }
 
-pub FitsAddresses-state : (s : State) → IsSound s → FitsAddresses s.heap
-FitsAddresses-state s sound = FitsAddresses-heap s.heap sound.safe.heap
+pub FitsAddresses-state : (s : State) → IsSafe s → FitsAddresses s.heap
+FitsAddresses-state s safe = FitsAddresses-heap s.heap safe.heap
 
 -- ---- cells
 
-pub IsGuarded-register : (s : State) (r : ℕ) → IsSound s → r < 32 → IsGuarded s.heap (register s r)
-IsGuarded-register s r sound lt =
-    either (IsGuarded s.heap) (eqb r 0) null_cell (get_or s.registers r null_cell) (IsGuarded-untagged s.heap _) (All-get_or (IsGuarded s.heap) s.registers r null_cell (omega (arith, sound.count, lt)) sound.safe.registers)
+pub IsGuarded-register : (s : State) (r : ℕ) → IsSafe s → IsGuarded s.heap (register s r)
+IsGuarded-register s r safe =
+    either (IsGuarded s.heap) (eqb r 0) null_cell (get_or s.registers r null_cell) (IsGuarded-untagged s.heap _)
+    (elim (cases_lt r (length s.registers)) [
+      | inl lt ↦ All-get_or (IsGuarded s.heap) s.registers r null_cell lt safe.registers
+      | inr out ↦ subst (IsGuarded s.heap) (sym (get_or_past s.registers r null_cell out)) (IsGuarded-untagged s.heap _)
+    ])
 
-pub HoldsGuarded-granule : (s : State) (i : ℕ) (granule : Granule) → IsSound s → slice_get s.cells i ≡ Some granule → HoldsGuarded s.heap granule
-HoldsGuarded-granule s i granule sound there =
-    let lt = slice_get_within s.cells i granule there in
-    let read = get_or_from_slice_get s.cells i granule (0, false) there in
-    subst (HoldsGuarded s.heap) read (All-get_or (HoldsGuarded s.heap) s.cells i (0, false) lt sound.safe.cells)
+pub HoldsGuarded-at : (s : State) (w : Word) → IsSafe s → HoldsGuarded s.heap (granule_at s w)
+HoldsGuarded-at s w safe =
+    elim (cases_lt (index_in s w) (length s.cells)) [
+      | inl lt ↦ All-get_or (HoldsGuarded s.heap) s.cells (index_in s w) (0, false) lt safe.cells
+      | inr out ↦ subst (HoldsGuarded s.heap) (sym (get_or_past s.cells (index_in s w) (0, false) out)) (IsGuarded-untagged s.heap _)
+    ]
 
-pub LiesInside-register : (s : State) (r : ℕ) → IsSound s → r < 32 → LiesInside s.heap.base s.heap.size (register s r)
-LiesInside-register s r sound lt = LiesInside-guarded s.heap (register s r) sound.safe.heap (IsGuarded-register s r sound lt)
+pub LiesInside-register : (s : State) (r : ℕ) → IsSafe s → LiesInside s.heap.base s.heap.size (register s r)
+LiesInside-register s r safe = LiesInside-guarded s.heap (register s r) safe.heap (IsGuarded-register s r safe)
 
 -- ---- states
 
 -- A register may be written with a guarded word.
-pub IsSound-with : (s : State) (r : ℕ) (c : Cell) → IsSound s → IsGuarded s.heap c → IsSound (with_cell s r c)
-IsSound-with s r c sound guarded = record {
-  granules = sound.granules;
-  count = either (λ (xs : List Cell). length xs ≡ 32) (eqb r 0) s.registers (set s.registers r c) sound.count (length-set s.registers r c ∙ sound.count);
-  zero = zero_kept (eqb r 0) refl;
-  safe = record {
-    heap = sound.safe.heap;
-    registers = either (All (IsGuarded s.heap)) (eqb r 0) s.registers (set s.registers r c) sound.safe.registers (All-set (IsGuarded s.heap) s.registers r c guarded sound.safe.registers);
-    cells = sound.safe.cells;
-  };
-} where
-  zero_kept : (first : Bool) → eqb r 0 ≡ first → get_or (cond first s.registers (set s.registers r c)) 0 null_cell ≡ null_cell
-  zero_kept true is = sound.zero
-  zero_kept false is = get_or-set_other s.registers r 0 c null_cell (λ e. absurd (true≢false (sym (eq-eqb r 0 (sym e)) ∙ is))) ∙ sound.zero
+pub IsSafe-with : (s : State) (r : ℕ) (c : Cell) → IsSafe s → IsGuarded s.heap c → IsSafe (with_cell s r c)
+IsSafe-with s r c safe guarded = record {
+  heap = safe.heap;
+  registers = either (All (IsGuarded s.heap)) (eqb r 0) s.registers (set s.registers r c) safe.registers (All-set (IsGuarded s.heap) s.registers r c guarded safe.registers);
+  cells = safe.cells;
+}
 
 -- So may a granule.
-pub IsSound-put : (s : State) (i : ℕ) (granule : Granule) → IsSound s → HoldsGuarded s.heap granule → IsSound (record s { cells = set s.cells i granule })
-IsSound-put s i granule sound guarded = record {
-  granules = ap (λ n. 16 * n) (length-set s.cells i granule) ∙ sound.granules;
-  count = sound.count;
-  zero = sound.zero;
-  safe = record {
-    heap = sound.safe.heap;
-    registers = sound.safe.registers;
-    cells = All-set (HoldsGuarded s.heap) s.cells i granule guarded sound.safe.cells;
-  };
+pub IsSafe-put : (s : State) (w : Word) (granule : Granule) → IsSafe s → HoldsGuarded s.heap granule → IsSafe (with_granule s w granule)
+IsSafe-put s w granule safe guarded = record {
+  heap = safe.heap;
+  registers = safe.registers;
+  cells = All-set (HoldsGuarded s.heap) s.cells (index_in s w) granule guarded safe.cells;
+}
+
+-- Another heap has the same cells guarded where each of its blocks is one still.
+pub IsSafe-in : (s : State) (heap : HeapState) → IsSoundHeap heap → ((block : Span) → IsLiveOrHeld s.heap block → IsLiveOrHeld heap block)
+    → IsSafe s → IsSafe (record s { heap = heap })
+IsSafe-in s heap sound still safe = record {
+  heap = sound;
+  registers = All-weaker (IsGuarded s.heap) (IsGuarded heap) (λ c. IsGuarded-in s.heap heap c still) s.registers safe.registers;
+  cells = All-weaker (HoldsGuarded s.heap) (HoldsGuarded heap) (λ granule. IsGuarded-in s.heap heap (cell_of granule) still) s.cells safe.cells;
 }
 
 -- The first state of a machine has no tagged word.

@@ -1,5 +1,5 @@
 -- The state after a sweep: each tagged word whose base lies in a held block has lost its tag.
-use Rattle.std.proofs.Common.{◌≡◌, ◌∙◌, ◌<◌, ◌≤◌, ◌+◌, ◌-◌, ◌*◌, ◌&&◌, ℕ, Bool, true, false, cond, not, inl, inr, All, List, [], ◌∷◌, length, get_or, drop, refl, sym, ap, subst, arith}
+use Rattle.std.proofs.Common.{◌≡◌, ◌∙◌, ◌<◌, ◌≤◌, ◌+◌, ◌-◌, ◌&&◌, ℕ, Bool, true, false, cond, not, inl, inr, All, List, [], ◌∷◌, length, get_or, drop, refl, sym, ap, subst, arith}
 use Rattle.std.proofs.Math.Bool.{and-true}
 use Rattle.std.specs.Prelude.{count_by}
 use Rattle.std.specs.List.{Contains, enumerate_from}
@@ -15,10 +15,9 @@ use Rattle.heap_core.specs.Blocks.{Span, bytes_of, end_of, has_address, length_o
 use Rattle.heap_core.specs.Heap.{HeapState, IsInside, IsSound as IsSoundHeap}
 use Rattle.heap_core.specs.Quarantine.{without_held}
 use Rattle.sweep_pool.specs.Sweep.{TakeTags, base_of, is_revoked, swept_cell, swept_granule, swept_granules, swept_registers, tags_taken}
-use Rattle.tag_memory.specs.Cells.{Cell, Granule, MemoryState, cell_of, null_cell}
+use Rattle.tag_memory.specs.Cells.{Cell, Granule, MemoryState, cell_of}
 use Rattle.tag_memory.specs.Tags.{is_set_for, without_tags}
-use Rattle.heap_machine.specs.Safety.{HoldsGuarded, IsGuarded, LieIn}
-use Rattle.heap_machine.specs.Sound.{IsSound}
+use Rattle.heap_machine.specs.Safety.{HoldsGuarded, IsGuarded, IsSafe, LieIn}
 use Rattle.heap_machine.specs.State.{State, tags_of}
 use Rattle.heap_machine.specs.Step.{bounds_in, swept}
 
@@ -138,20 +137,14 @@ IsGuarded-swept heap c guarded = record {
       ];
 }
 
-pub IsSound-swept : (s : State) (heap : HeapState) → IsSound s → heap ≡ without_held s.heap → IsSoundHeap heap → IsSound (record (swept s) { heap = heap })
-IsSound-swept s heap sound same sound_heap =
-    let size : heap.size ≡ s.heap.size = ap (λ (h : HeapState). h.size) same in
-    let guarded : (c : Cell) → IsGuarded s.heap c → IsGuarded heap (swept_cell s.heap.held c) =
-    λ c g. subst (λ (h : HeapState). IsGuarded h (swept_cell s.heap.held c)) (sym same) (IsGuarded-swept s.heap c g) in
+pub IsSafe-swept : (s : State) → IsSafe s → IsSoundHeap (without_held s.heap) → IsSafe (swept s)
+IsSafe-swept s safe sound =
+    let heap = without_held s.heap in
+    let held = s.heap.held in
     record {
-      granules = ap (λ n. 16 * n) (length-map s.cells (swept_granule s.heap.held)) ∙ (sound.granules ∙ sym size);
-      count = length-map s.registers (swept_cell s.heap.held) ∙ sound.count;
-      zero = get_or-map (swept_cell s.heap.held) s.registers 0 null_cell null_cell (omega (arith, sound.count)) ∙ ap (swept_cell s.heap.held) sound.zero;
-      safe = record {
-        heap = sound_heap;
-        registers = All-map (IsGuarded heap) (swept_cell s.heap.held) s.registers (All-weaker (IsGuarded s.heap) (λ c. IsGuarded heap (swept_cell s.heap.held c)) guarded s.registers sound.safe.registers);
-        cells = All-map (HoldsGuarded heap) (swept_granule s.heap.held) s.cells (All-weaker (HoldsGuarded s.heap) (λ granule. HoldsGuarded heap (swept_granule s.heap.held granule)) (λ granule. guarded (cell_of granule)) s.cells sound.safe.cells);
-      };
+      heap = sound;
+      registers = All-map (IsGuarded heap) (swept_cell held) s.registers (All-weaker (IsGuarded s.heap) (λ c. IsGuarded heap (swept_cell held c)) (IsGuarded-swept s.heap) s.registers safe.registers);
+      cells = All-map (HoldsGuarded heap) (swept_granule held) s.cells (All-weaker (HoldsGuarded s.heap) (λ granule. HoldsGuarded heap (swept_granule held granule)) (λ granule. IsGuarded-swept s.heap (cell_of granule)) s.cells safe.cells);
     }
 
 -- ---- where nothing is held

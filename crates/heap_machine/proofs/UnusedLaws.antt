@@ -1,5 +1,5 @@
 -- A block is handed out only where no tagged word has its base in it.
-use Rattle.std.proofs.Common.{◌≡◌, ◌∙◌, ◌<◌, ◌≤◌, ◌+◌, ℕ, Bool, true, false, cond, Option, Some, None, inl, inr, refl, ap, sym, subst, arith}
+use Rattle.std.proofs.Common.{◌≡◌, ◌<◌, ◌≤◌, ◌+◌, ℕ, Bool, true, false, cond, Option, Some, None, inl, inr, sym, subst, arith}
 use Rattle.std.proofs.lemmas.List.Elements.{All-contains, All-weaker}
 use Rattle.cap_codec.specs.declared.word.Bounds.{Bounds}
 use Rattle.heap_core.specs.Blocks.{IsApart, Span}
@@ -9,10 +9,9 @@ use Rattle.tag_memory.specs.Cells.{Cell, cell_of}
 use Rattle.trace_text.specs.declared.trace.Command.{Command}
 use Rattle.trace_text.specs.declared.trace.Command.TheVariants.{Malloc, Free, Copy, SetAddr, Narrow, AndPerm, StoreCap, LoadCap, Write, Show, Sweep}
 use Rattle.heap_machine.specs.declared.reply.Reply.{Reply}
-use Rattle.heap_machine.specs.declared.reply.Reply.TheVariants.{Block, NoSpace, Done, Cleared}
-use Rattle.heap_machine.specs.declared.reply.Reply.TheVariants as reply
-use Rattle.heap_machine.specs.declared.reply.Trap.{Trap}
-use Rattle.heap_machine.specs.Safety.{HasBaseIn, HoldsGuarded, IsGuarded, IsLiveOrHeld, IsSafe, IsUnused, LieIn}
+use Rattle.heap_machine.specs.declared.reply.Reply.TheVariants.{Block, NoSpace, Held, Done, Cleared, Swept, Shown, Trap}
+use Rattle.heap_machine.specs.declared.reply.Trap.{Trap as TheTrap}
+use Rattle.heap_machine.specs.Safety.{HandsOutNothing, HasBaseIn, HasNoBase, HoldsGuarded, IsGuarded, IsLiveOrHeld, IsSafe, IsUnused, IsUnusedBlock, LieIn}
 use Rattle.heap_machine.specs.State.{State}
 use Rattle.heap_machine.specs.Step.{Effect, Step, StepAfter, bounds_in, checks, first_failed}
 
@@ -33,49 +32,49 @@ no_guarded heap size a c free guarded has =
     let x = guarded.within has.tagged in
     no_base a (block_length size) (bounds_in c.0) x.0 (IsApart-block heap size a x.0 free x.1) x.2 has.from has.before
 
-IsUnused-free : (s : State) (size base top : ℕ) → IsSafe s → IsFree s.heap size base → top ≡ base + block_length size → IsUnused s (Block base top)
-IsUnused-free s size base top safe free end =
+pub HasNoBase-free : (s : State) (size base top : ℕ) → IsSafe s → IsFree s.heap size base → top ≡ base + block_length size → HasNoBase s base top
+HasNoBase-free s size base top safe free end =
     let high = base + block_length size in
-    subst (λ (t : ℕ). IsUnused s (Block base t)) (sym end) (
+    subst (λ (t : ℕ). HasNoBase s base t) (sym end) (
       All-weaker (IsGuarded s.heap) (λ c. HasBaseIn base high c → ⊥) (λ c. no_guarded s.heap size base c free) s.registers safe.registers,
       All-weaker (HoldsGuarded s.heap) (λ granule. HasBaseIn base high (cell_of granule) → ⊥) (λ granule. no_guarded s.heap size base (cell_of granule) free) s.cells safe.cells,
     )
 
 -- ---- steps
 
-abbrev is_block : Reply → Bool
-is_block (Block base top) = true
-is_block other = false
+-- A reply that is one of those.
+nothing : (r answer : Reply) → HandsOutNothing answer → r ≡ answer → HandsOutNothing r
+nothing r answer is same = subst HandsOutNothing (sym same) is
 
--- A reply that is no block hands out nothing.
-IsUnused-other : (s : State) (r : Reply) → is_block r ≡ false → IsUnused s r
-IsUnused-other s (Block base top) e = absurd cc
-IsUnused-other s other e = tt
+either_way : (t : Bool) → HandsOutNothing (cond t Cleared Done)
+either_way true = tt
+either_way false = tt
 
-IsUnused-same : (s : State) (r answer : Reply) → is_block answer ≡ false → r ≡ answer → IsUnused s r
-IsUnused-same s r answer e same = IsUnused-other s r (ap is_block same ∙ e)
+Malloc-unused : (old : State) (rd size : ℕ) (r : Reply) (new : State) → IsSafe old → Effect old (Malloc rd size) r new → IsUnusedBlock old r
+Malloc-unused old rd size (Block base top) new safe effect = HasNoBase-free old size base top safe effect.0.free effect.1
+Malloc-unused old rd size NoSpace new safe effect = tt
+Malloc-unused old rd size (Held bytes) new safe effect = effect
+Malloc-unused old rd size Done new safe effect = effect
+Malloc-unused old rd size Cleared new safe effect = effect
+Malloc-unused old rd size (Swept cleared released) new safe effect = effect
+Malloc-unused old rd size (Shown shown) new safe effect = effect
+Malloc-unused old rd size (Trap trap) new safe effect = absurd effect
 
-neither : (t : Bool) → is_block (cond t Cleared Done) ≡ false
-neither true = refl
-neither false = refl
+-- Where the command's checks pass, and where one fails.
+After-nothing : (t : Option TheTrap) (old : State) (c : Command) (r : Reply) (new : State)
+    → (Effect old c r new → HandsOutNothing r) → StepAfter t old c r new → HandsOutNothing r
+After-nothing None old c r new effect step = effect step
+After-nothing (Some t) old c r new effect step = nothing r (Trap t) tt step.0
 
-Effect-unused : (old : State) (c : Command) (r : Reply) (new : State) → IsSafe old → Effect old c r new → IsUnused old r
-Effect-unused old (Malloc rd size) (Block base top) new safe effect = IsUnused-free old size base top safe effect.0.free effect.1
-Effect-unused old (Malloc rd size) other new safe effect = tt
-Effect-unused old (Free rs) r new safe effect = IsUnused-same old r _ refl effect.0
-Effect-unused old (Copy rd rs) r new safe effect = IsUnused-same old r Done refl effect.0
-Effect-unused old (SetAddr rd rs a) r new safe effect = IsUnused-same old r _ (neither _) effect.0
-Effect-unused old (Narrow rd rs n) r new safe effect = IsUnused-same old r Done refl effect.0
-Effect-unused old (AndPerm rd rs mask) r new safe effect = IsUnused-same old r Done refl effect.0
-Effect-unused old (StoreCap ra rs) r new safe effect = IsUnused-same old r Done refl effect.0
-Effect-unused old (LoadCap rd ra) r new safe effect = IsUnused-same old r Done refl effect.0
-Effect-unused old (Write ra bytes) r new safe effect = IsUnused-same old r Done refl effect.0
-Effect-unused old (Show rs) r new safe effect = IsUnused-same old r _ refl effect.0
-Effect-unused old Sweep r new safe effect = IsUnused-same old r _ refl effect.0
-
-StepAfter-unused : (t : Option Trap) (old : State) (c : Command) (r : Reply) (new : State) → IsSafe old → StepAfter t old c r new → IsUnused old r
-StepAfter-unused None old c r new safe step = Effect-unused old c r new safe step
-StepAfter-unused (Some t) old c r new safe step = IsUnused-same old r (reply.Trap t) refl step.0
-
-pub Step-unused : (old : State) (c : Command) (r : Reply) (new : State) → IsSafe old → Step old c r new → IsUnused old r
-Step-unused old c r new safe step = StepAfter-unused (first_failed (checks old c)) old c r new safe step
+pub Step-unused : (old : State) (c : Command) (r : Reply) (new : State) → IsSafe old → Step old c r new → IsUnused old c r
+Step-unused old (Malloc rd size) r new safe step = Malloc-unused old rd size r new safe step
+Step-unused old (Free rs) r new safe step = After-nothing (first_failed (checks old (Free rs))) old (Free rs) r new (λ e. nothing r _ tt e.0) step
+Step-unused old (Copy rd rs) r new safe step = nothing r Done tt step.0
+Step-unused old (SetAddr rd rs a) r new safe step = nothing r _ (either_way _) step.0
+Step-unused old (Narrow rd rs n) r new safe step = After-nothing (first_failed (checks old (Narrow rd rs n))) old (Narrow rd rs n) r new (λ e. nothing r Done tt e.0) step
+Step-unused old (AndPerm rd rs mask) r new safe step = nothing r Done tt step.0
+Step-unused old (StoreCap ra rs) r new safe step = After-nothing (first_failed (checks old (StoreCap ra rs))) old (StoreCap ra rs) r new (λ e. nothing r Done tt e.0) step
+Step-unused old (LoadCap rd ra) r new safe step = After-nothing (first_failed (checks old (LoadCap rd ra))) old (LoadCap rd ra) r new (λ e. nothing r Done tt e.0) step
+Step-unused old (Write ra bytes) r new safe step = After-nothing (first_failed (checks old (Write ra bytes))) old (Write ra bytes) r new (λ e. nothing r Done tt e.0) step
+Step-unused old (Show rs) r new safe step = nothing r _ tt step.0
+Step-unused old Sweep r new safe step = nothing r _ tt step.0

@@ -1,14 +1,16 @@
 -- Safe reuse (Filardo et al. 2020, Cornucopia: heap temporal safety): bytes are handed out again only when
 -- no capability for them is left. So each tagged word keeps within one block, which is in use or in
 -- quarantine, and a new block shares no address with these.
-use Rattle.std.specs.Prelude.{◌<◌, ◌≤◌, ◌⊎◌, ℕ, All, IsTrue}
+use Rattle.std.specs.Prelude.{◌<◌, ◌≤◌, ◌⊎◌, ◌^◌, ℕ, All, IsTrue}
 use Rattle.std.specs.List.{Contains}
 use Rattle.cap_codec.specs.declared.word.Bounds.{Bounds}
 use Rattle.heap_core.specs.Blocks.{Span, end_of, start_of}
 use Rattle.heap_core.specs.Heap.{HeapState, IsSound as IsSoundHeap}
 use Rattle.tag_memory.specs.Cells.{Cell, Granule, cell_of}
+use Rattle.trace_text.specs.declared.trace.Command.{Command}
+use Rattle.trace_text.specs.declared.trace.Command.TheVariants.{Malloc, Free, Copy, SetAddr, Narrow, AndPerm, StoreCap, LoadCap, Write, Show, Sweep}
 use Rattle.heap_machine.specs.declared.reply.Reply.{Reply}
-use Rattle.heap_machine.specs.declared.reply.Reply.TheVariants.{Block, Swept}
+use Rattle.heap_machine.specs.declared.reply.Reply.TheVariants.{Block, NoSpace, Held, Done, Cleared, Swept, Shown, Trap}
 use Rattle.heap_machine.specs.State.{State}
 use Rattle.heap_machine.specs.Step.{bounds_in}
 
@@ -42,22 +44,96 @@ pub record HasBaseIn (base top : ℕ) (c : Cell) : Type 0 where
   pub from : base ≤ (bounds_in c.0).base
   pub before : (bounds_in c.0).base < top
 
--- Where the reply hands out a block, no tagged word of the state has its base in it.
-abbrev pub IsUnused : State → Reply → Type 0
-IsUnused s (Block base top) =
+-- No tagged word of the state, in a register or in memory, has its base there.
+abbrev pub HasNoBase : State → ℕ → ℕ → Type 0
+HasNoBase s base top =
     All (λ c. HasBaseIn base top c → ⊥) s.registers × All (λ granule. HasBaseIn base top (cell_of granule) → ⊥) s.cells
-IsUnused s other = Unit {0}
+
+-- The block that a malloc is answered with is unused: before it no tagged word has its base there.
+abbrev pub IsUnusedBlock : State → Reply → Type 0
+IsUnusedBlock s (Block base top) = HasNoBase s base top
+IsUnusedBlock s NoSpace = Unit {0}
+IsUnusedBlock s (Held bytes) = ⊥
+IsUnusedBlock s Done = ⊥
+IsUnusedBlock s Cleared = ⊥
+IsUnusedBlock s (Swept cleared released) = ⊥
+IsUnusedBlock s (Shown shown) = ⊥
+IsUnusedBlock s (Trap trap) = ⊥
+
+-- The reply hands out no block.
+abbrev pub HandsOutNothing : Reply → Type 0
+HandsOutNothing (Block base top) = ⊥
+HandsOutNothing NoSpace = Unit {0}
+HandsOutNothing (Held bytes) = Unit {0}
+HandsOutNothing Done = Unit {0}
+HandsOutNothing Cleared = Unit {0}
+HandsOutNothing (Swept cleared released) = Unit {0}
+HandsOutNothing (Shown shown) = Unit {0}
+HandsOutNothing (Trap trap) = Unit {0}
+
+-- What the command hands out, so answered in this state, is unused. Only a malloc hands out.
+abbrev pub IsUnused : State → Command → Reply → Type 0
+IsUnused s (Malloc rd size) r = IsUnusedBlock s r
+IsUnused s (Free rs) r = HandsOutNothing r
+IsUnused s (Copy rd rs) r = HandsOutNothing r
+IsUnused s (SetAddr rd rs address) r = HandsOutNothing r
+IsUnused s (Narrow rd rs length) r = HandsOutNothing r
+IsUnused s (AndPerm rd rs mask) r = HandsOutNothing r
+IsUnused s (StoreCap ra rs) r = HandsOutNothing r
+IsUnused s (LoadCap rd ra) r = HandsOutNothing r
+IsUnused s (Write ra bytes) r = HandsOutNothing r
+IsUnused s (Show rs) r = HandsOutNothing r
+IsUnused s Sweep r = HandsOutNothing r
 
 -- The cell is in use: where it is tagged, its bounds lie in one live block.
 pub record IsInUse (heap : HeapState) (c : Cell) : Type 0 where
   pub within : IsTrue c.1 → (block : Span) × Contains heap.live block × LieIn (bounds_in c.0) block
 
--- After a sweep no tagged word is left that points into a block that was given up: each is in use.
-abbrev pub IsRevoked : Reply → State → Type 0
-IsRevoked (Swept cleared released) s = All (IsInUse s.heap) s.registers × All (λ granule. IsInUse s.heap (cell_of granule)) s.cells
-IsRevoked other s = Unit {0}
+-- Each tagged word of the state is in use.
+abbrev pub AreInUse : State → Type 0
+AreInUse s = All (IsInUse s.heap) s.registers × All (λ granule. IsInUse s.heap (cell_of granule)) s.cells
+
+-- The reply tells of no sweep.
+abbrev pub TellsNoSweep : Reply → Type 0
+TellsNoSweep (Block base top) = Unit {0}
+TellsNoSweep NoSpace = Unit {0}
+TellsNoSweep (Held bytes) = Unit {0}
+TellsNoSweep Done = Unit {0}
+TellsNoSweep Cleared = Unit {0}
+TellsNoSweep (Swept cleared released) = ⊥
+TellsNoSweep (Shown shown) = Unit {0}
+TellsNoSweep (Trap trap) = Unit {0}
+
+-- After a sweep no tagged word is left that points into a block that was given up: each is in use. No other
+-- command tells of a sweep.
+abbrev pub IsRevoked : Command → Reply → State → Type 0
+IsRevoked (Malloc rd size) r s = TellsNoSweep r
+IsRevoked (Free rs) r s = TellsNoSweep r
+IsRevoked (Copy rd rs) r s = TellsNoSweep r
+IsRevoked (SetAddr rd rs address) r s = TellsNoSweep r
+IsRevoked (Narrow rd rs length) r s = TellsNoSweep r
+IsRevoked (AndPerm rd rs mask) r s = TellsNoSweep r
+IsRevoked (StoreCap ra rs) r s = TellsNoSweep r
+IsRevoked (LoadCap rd ra) r s = TellsNoSweep r
+IsRevoked (Write ra bytes) r s = TellsNoSweep r
+IsRevoked (Show rs) r s = TellsNoSweep r
+IsRevoked Sweep r s = AreInUse s
 
 -- A command so answered hands out bytes safely: what it hands out is unused before, and what a sweep leaves is in use.
-pub record IsReuseSafe (old : State) (r : Reply) (new : State) : Type 0 where
-  pub unused : IsUnused old r
-  pub revoked : IsRevoked r new
+pub record IsReuseSafe (old : State) (c : Command) (r : Reply) (new : State) : Type 0 where
+  pub unused : IsUnused old c r
+  pub revoked : IsRevoked c r new
+
+-- The numbers of the command fit their types, as those of every command of the program do.
+abbrev pub FitsTypes : Command → Type 0
+FitsTypes (Malloc rd size) = size < 2 ^ 64
+FitsTypes (Free rs) = Unit {0}
+FitsTypes (Copy rd rs) = Unit {0}
+FitsTypes (SetAddr rd rs address) = address < 2 ^ 64
+FitsTypes (Narrow rd rs length) = length < 2 ^ 64
+FitsTypes (AndPerm rd rs mask) = mask < 2 ^ 16
+FitsTypes (StoreCap ra rs) = Unit {0}
+FitsTypes (LoadCap rd ra) = Unit {0}
+FitsTypes (Write ra bytes) = Unit {0}
+FitsTypes (Show rs) = Unit {0}
+FitsTypes Sweep = Unit {0}

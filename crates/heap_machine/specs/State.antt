@@ -1,7 +1,7 @@
 -- The state of a machine: one heap, its memory and 32 registers (this project's own profile).
 use Rattle.std.specs.Prelude.{ℕ, ◌+◌, List, count_by, drop}
 use Rattle.heap_core.specs.Heap.{HeapState, empty_heap}
-use Rattle.tag_memory.specs.Cells.{Cell, Granule, MemoryState, new_memory, new_registers, register_in, with_register}
+use Rattle.tag_memory.specs.Cells.{Cell, Granule, new_memory, new_registers, register_in, with_register}
 
 pub record State : Type 0 where
   pub heap : HeapState
@@ -11,10 +11,6 @@ pub record State : Type 0 where
 -- The first state of a heap of so many pages at base: zero, untagged, without a block.
 abbrev pub first_state : ℕ → ℕ → State
 first_state base pages = record { heap = empty_heap base pages; cells = (new_memory base pages).cells; registers = new_registers }
-
--- The memory of a state.
-abbrev pub memory_of : State → MemoryState
-memory_of s = record { base = s.heap.base; cells = s.cells }
 
 -- What a register reads as.
 abbrev pub register : State → ℕ → Cell

@@ -11,8 +11,8 @@ use Rattle.cap_codec.specs.Fields.{bits_with, fields_of}
 use Rattle.cap_codec.specs.Mantissas.{exponent_of}
 use Rattle.cap_codec.specs.Representable.{is_representable}
 use Rattle.cap_codec.specs.Rounding.{outward_base, outward_top, with_bounds_of}
-use Rattle.heap_core.specs.Blocks.{blocks_with, bytes_of, is_block}
-use Rattle.heap_core.specs.Place.{IsFree, IsPlace, block_length}
+use Rattle.heap_core.specs.Blocks.{bytes_of, is_block}
+use Rattle.heap_core.specs.Place.{IsFree, IsPlace, block_length, with_live}
 use Rattle.heap_core.specs.Quarantine.{with_held, without_held}
 use Rattle.sweep_pool.specs.Sweep.{swept_granules, swept_registers, tags_taken}
 use Rattle.tag_memory.specs.Cells.{Cell, Granule, null_cell}
@@ -132,6 +132,12 @@ swept s = record s {
 
 -- The checks of a command in order, each with the trap where it fails.
 abbrev pub checks : State → Command → List (Bool × Trap)
+checks s (Malloc rd size) = []
+checks s (Copy rd rs) = []
+checks s (SetAddr rd rs address) = []
+checks s (AndPerm rd rs mask) = []
+checks s (Show rs) = []
+checks s Sweep = []
 checks s (Free rs) =
     let c = register s rs in
     let b = bounds_in c.0 in
@@ -150,7 +156,6 @@ checks s (StoreCap ra rs) =
     access (register s ra) (allows store w && (not (register s rs).1 || allows store_capability w))
 checks s (LoadCap rd ra) = access (register s ra) (allows load (register s ra).0)
 checks s (Write ra bytes) = access (register s ra) (allows store (register s ra).0)
-checks s command = []
 
 -- The trap of the first check that fails.
 abbrev pub first_failed : List (Bool × Trap) → Option Trap
@@ -161,9 +166,14 @@ first_failed (c ∷ cs) = if c.0 then first_failed cs else Some c.1
 abbrev pub Effect : State → Command → Reply → State → Type 0
 Effect old (Malloc rd size) (Block base top) new =
     IsPlace old.heap size base × (top ≡ base + block_length size)
-    × (new ≡ record (with_cell old rd (capability_of base top, true)) { heap = record old.heap { live = blocks_with (base, block_length size) old.heap.live } })
+    × (new ≡ record (with_cell old rd (capability_of base top, true)) { heap = with_live old.heap size base })
 Effect old (Malloc rd size) NoSpace new = ((a : ℕ) → IsFree old.heap size a → ⊥) × (new ≡ with_cell old rd null_cell)
-Effect old (Malloc rd size) other new = ⊥
+Effect old (Malloc rd size) (Held bytes) new = ⊥
+Effect old (Malloc rd size) Done new = ⊥
+Effect old (Malloc rd size) Cleared new = ⊥
+Effect old (Malloc rd size) (Swept cleared released) new = ⊥
+Effect old (Malloc rd size) (reply.Shown shown) new = ⊥
+Effect old (Malloc rd size) (reply.Trap trap) new = ⊥
 Effect old (Free rs) answer new =
     let w = (register old rs).0 in
     (answer ≡ Held ((bounds_in w).top - (bounds_in w).base)) × (new ≡ freed old w)
@@ -202,5 +212,13 @@ Step old command answer new = StepAfter (first_failed (checks old command)) old 
 -- The commands that need no memory.
 abbrev pub TakesNoMemory : Command → Type 0
 TakesNoMemory (Malloc rd size) = ⊥
+TakesNoMemory (Free rs) = Unit {0}
+TakesNoMemory (Copy rd rs) = Unit {0}
+TakesNoMemory (SetAddr rd rs address) = Unit {0}
+TakesNoMemory (Narrow rd rs length) = Unit {0}
+TakesNoMemory (AndPerm rd rs mask) = Unit {0}
+TakesNoMemory (StoreCap ra rs) = Unit {0}
+TakesNoMemory (LoadCap rd ra) = Unit {0}
+TakesNoMemory (Write ra bytes) = Unit {0}
+TakesNoMemory (Show rs) = Unit {0}
 TakesNoMemory Sweep = ⊥
-TakesNoMemory other = Unit {0}

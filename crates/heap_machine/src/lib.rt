@@ -6,6 +6,7 @@ mod capability;
 mod display;
 mod laws;
 mod machine;
+mod parts;
 mod reply;
 #[cfg(test)]
 mod tests;

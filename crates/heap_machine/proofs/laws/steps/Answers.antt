@@ -1,4 +1,7 @@
 use Rattle.heap_machine.proofs.OneStep.{Step-only, Step-some}
+use Rattle.heap_machine.proofs.RevokedLaws.{Step-revoked}
+use Rattle.heap_machine.proofs.SafeSteps.{Laws, Step-safe}
+use Rattle.heap_machine.proofs.UnusedLaws.{Step-unused}
 use Rattle.heap_machine.proofs.laws.steps.Goals as goal
 
 pub returns-clause-one : goal.returns-clause-one
@@ -6,3 +9,25 @@ returns-clause-one c = λ old command. Step-some old command
 
 pub returns-clause-only : goal.returns-clause-only
 returns-clause-only c = λ old command reply other new left p q. Step-only old command reply other new left p q
+
+pub returns-clause-safe : goal.returns-clause-safe
+returns-clause-safe c =
+    let words = c.derivations.ensures in
+    let heaps = c.changes.ensures in
+    let laws : Laws = record {
+      live = heaps.live;
+      held = heaps.held;
+      free = heaps.free;
+      exact = heaps.exact;
+      bounded = words.bounded;
+      moved = words.moved;
+      masked = words.masked;
+      valid = words.valid;
+    } in
+    λ old command reply new safe fits step. Step-safe laws old command reply new safe fits step
+
+pub returns-clause-unused : goal.returns-clause-unused
+returns-clause-unused c = λ old command reply new safe step. Step-unused old command reply new safe step
+
+pub returns-clause-revoked : goal.returns-clause-revoked
+returns-clause-revoked c = λ old command reply new safe fits step. Step-revoked old command reply new (returns-clause-safe c old command reply new safe fits step) step

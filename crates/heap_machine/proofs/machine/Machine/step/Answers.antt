@@ -1,5 +1,12 @@
-use Rattle.heap_machine.proofs.RevokedLaws.{IfOk-revoked}
+use Rattle.std.proofs.Common.{rules}
+use Rattle.heap_machine.specs.Safety.{FitsTypes}
+use Rattle.heap_machine.proofs.KeptSizes.{AreParts-after}
 use Rattle.heap_machine.proofs.machine.Machine.step.Goals as goal
 
-pub returns-clause-revoked : goal.returns-clause-revoked
-returns-clause-revoked g c = IfOk-revoked c.args.self.now c.args.command c.serve-result.result _ (rw c.self-2.view_is at c.self-2.invariant.1.safe) c.serve-result.ensures.step
+pub invariant_of-self : goal.invariant_of-self
+invariant_of-self g c =
+    let fits : FitsTypes c.args.command = search rules in
+    AreParts-after c.steps.ensures.safe c.self.inside.parts c.serve.new.self c.args.command c.serve.result c.self.invariant fits c.serve.ensures.step c.serve.ensures.err c.serve.ensures.base
+
+pub returns-clause-safe : goal.returns-clause-safe
+returns-clause-safe g c = (invariant_of-self g c).sound.safe

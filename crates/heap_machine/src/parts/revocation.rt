@@ -2,12 +2,13 @@
 
 ghost use Rattle.std.specs.Prelude.{◌≡◌, ◌<◌, ◌≤◌, ◌&&◌, ℕ, IfErr, IfOk, IsOk, OnErr, length, not, slice_index_or};
 ghost use Rattle.trace_text.specs.Command.{IsValid};
+ghost use Rattle.heap_machine.specs.Parts.{AreParts, state_of};
 ghost use Rattle.heap_machine.specs.Step.{Step};
 ghost use Rattle.tag_memory.specs.Cells.{null_cell};
 ghost use Rattle.tag_memory.specs.Tags.{is_set};
 
 use crate::capability::bounds_of_word;
-use crate::machine::Machine;
+use crate::parts::Parts;
 use crate::reply::{MachineFault, Reply, Trap};
 use cap_codec::Bounds;
 use heap_core::Freed;
@@ -49,11 +50,13 @@ fn clear_registers(registers: &mut Registers, mask: u32)
     }
 }
 
-impl Machine {
+impl Parts {
     // The block with just a register's bounds goes into quarantine.
     pub(super) fn free(&mut self, rs: u8) -> Result<Reply, MachineFault>
-        requires { IsValid (Command.Free rs) }
-        ensures step { IfOk result (λ reply. Step self.old (Command.Free rs) reply self.new) }
+        requires parts { AreParts self.old }
+        requires valid { IsValid (Command.Free rs) }
+        ensures step { IfOk result (λ reply. Step (state_of self.old) (Command.Free rs) reply (state_of self.new)) }
+        ensures base { self.new.memory.base ≡ self.new.heap.base }
         ensures ok { IsOk result }
     {
         let (word, tag) = self.registers.get(rs);
@@ -81,7 +84,9 @@ impl Machine {
         alloc: Global,
         gate: &G,
     ) -> Result<Reply, MachineFault>
-        ensures step { IfOk result (λ reply. Step self.old Command.Sweep reply self.new) }
+        requires { AreParts self.old }
+        ensures step { IfOk result (λ reply. Step (state_of self.old) Command.Sweep reply (state_of self.new)) }
+        ensures base { self.new.memory.base ≡ self.new.heap.base }
         ensures err { OnErr result (self.new ≡ self.old) }
         ensures memory { IfErr result (λ fault. fault ≡ MachineFault.Memory) }
     {
@@ -101,7 +106,9 @@ impl Machine {
         alloc: Global,
         gate: &G,
     ) -> Result<Reply, MachineFault>
-        ensures step { IfOk result (λ reply. Step self.old Command.Sweep reply self.new) }
+        requires { AreParts self.old }
+        ensures step { IfOk result (λ reply. Step (state_of self.old) Command.Sweep reply (state_of self.new)) }
+        ensures base { self.new.memory.base ≡ self.new.heap.base }
         ensures err { OnErr result (self.new ≡ self.old) }
         ensures memory { IfErr result (λ fault. fault ≡ MachineFault.Memory) }
     {

@@ -1,0 +1,97 @@
+-- The sizes of a state's parts, which no step changes.
+use Rattle.std.proofs.Common.{◌≡◌, ◌∙◌, ◌*◌, ℕ, Bool, true, false, Option, Some, None, length, set, get_or, cond, eqb, refl, sym, ap, subst, arith}
+use Rattle.std.specs.Prelude.{Result, Ok, Err, IfOk, OnErr}
+use Rattle.std.proofs.lemmas.Bool.{eq-eqb, true≢false}
+use Rattle.std.proofs.lemmas.List.{get_or-map, get_or-set_other, length-map, length-set}
+use Rattle.cap_codec.specs.declared.word.Word.{Word}
+use Rattle.heap_core.specs.Place.{with_live}
+use Rattle.sweep_pool.specs.Sweep.{swept_cell, swept_granule}
+use Rattle.tag_memory.specs.Cells.{Cell, Granule, null_cell}
+use Rattle.trace_text.specs.declared.trace.Command.{Command}
+use Rattle.trace_text.specs.declared.trace.Command.TheVariants.{Malloc, Free, Copy, SetAddr, Narrow, AndPerm, StoreCap, LoadCap, Write, Show, Sweep}
+use Rattle.heap_machine.specs.declared.parts.Parts.{Parts}
+use Rattle.heap_machine.specs.declared.reply.MachineFault.{MachineFault}
+use Rattle.heap_machine.specs.declared.reply.Reply.{Reply}
+use Rattle.heap_machine.specs.declared.reply.Reply.TheVariants.{Block, NoSpace, Held, Done, Cleared, Swept, Shown, Trap}
+use Rattle.heap_machine.specs.declared.reply.Trap.{Trap as TheTrap}
+use Rattle.heap_machine.specs.Parts.{AreParts, state_of}
+use Rattle.heap_machine.specs.Safety.{FitsTypes, IsSafe}
+use Rattle.heap_machine.specs.Sound.{IsSound}
+use Rattle.heap_machine.specs.State.{State, with_cell}
+use Rattle.heap_machine.specs.Step.{Effect, Step, StepAfter, checks, first_failed, index_in, swept, with_granule}
+
+record HasSizes (s : State) : Type 0 where
+  pub granules : 16 * length s.cells ≡ s.heap.size
+  pub count : length s.registers ≡ 32
+  pub zero : get_or s.registers 0 null_cell ≡ null_cell
+
+HasSizes-with : (s : State) (r : ℕ) (c : Cell) → HasSizes s → HasSizes (with_cell s r c)
+HasSizes-with s r c sizes = go (eqb r 0) refl where
+  go : (first : Bool) → eqb r 0 ≡ first → HasSizes (record s { registers = cond first s.registers (set s.registers r c) })
+  go true is = sizes
+  go false is = record {
+    granules = sizes.granules;
+    count = length-set s.registers r c ∙ sizes.count;
+    zero = get_or-set_other s.registers r 0 c null_cell (λ e. absurd (true≢false (sym (eq-eqb r 0 (sym e)) ∙ is))) ∙ sizes.zero;
+  }
+
+HasSizes-put : (s : State) (w : Word) (granule : Granule) → HasSizes s → HasSizes (with_granule s w granule)
+HasSizes-put s w granule sizes = record {
+  granules = ap (λ n. 16 * n) (length-set s.cells (index_in s w) granule) ∙ sizes.granules;
+  count = sizes.count;
+  zero = sizes.zero;
+}
+
+HasSizes-swept : (s : State) → HasSizes s → HasSizes (swept s)
+HasSizes-swept s sizes = record {
+  granules = ap (λ n. 16 * n) (length-map s.cells (swept_granule s.heap.held)) ∙ sizes.granules;
+  count = length-map s.registers (swept_cell s.heap.held) ∙ sizes.count;
+  zero = get_or-map (swept_cell s.heap.held) s.registers 0 null_cell null_cell (omega (arith, sizes.count)) ∙ ap (swept_cell s.heap.held) sizes.zero;
+}
+
+HasSizes-live : (s : State) (size a : ℕ) → HasSizes s → HasSizes (record s { heap = with_live s.heap size a })
+HasSizes-live s size a sizes = record { granules = sizes.granules; count = sizes.count; zero = sizes.zero }
+
+Malloc-sizes : (old : State) (rd size : ℕ) (r : Reply) (new : State) → HasSizes old → Effect old (Malloc rd size) r new → HasSizes new
+Malloc-sizes old rd size (Block base top) new sizes effect =
+    subst HasSizes (sym effect.2) (HasSizes-with (record old { heap = with_live old.heap size base }) rd _ (HasSizes-live old size base sizes))
+Malloc-sizes old rd size NoSpace new sizes effect = subst HasSizes (sym effect.1) (HasSizes-with old rd null_cell sizes)
+Malloc-sizes old rd size (Held bytes) new sizes effect = absurd effect
+Malloc-sizes old rd size Done new sizes effect = absurd effect
+Malloc-sizes old rd size Cleared new sizes effect = absurd effect
+Malloc-sizes old rd size (Swept cleared released) new sizes effect = absurd effect
+Malloc-sizes old rd size (Shown shown) new sizes effect = absurd effect
+Malloc-sizes old rd size (Trap trap) new sizes effect = absurd effect
+
+Effect-sizes : (old : State) (c : Command) (r : Reply) (new : State) → HasSizes old → Effect old c r new → HasSizes new
+Effect-sizes old (Malloc rd size) r new sizes effect = Malloc-sizes old rd size r new sizes effect
+Effect-sizes old (Free rs) r new sizes effect = subst HasSizes (sym effect.1) (record { granules = sizes.granules; count = sizes.count; zero = sizes.zero })
+Effect-sizes old (Copy rd rs) r new sizes effect = subst HasSizes (sym effect.1) (HasSizes-with old rd _ sizes)
+Effect-sizes old (SetAddr rd rs a) r new sizes effect = subst HasSizes (sym effect.1) (HasSizes-with old rd _ sizes)
+Effect-sizes old (Narrow rd rs n) r new sizes effect = subst HasSizes (sym effect.1) (HasSizes-with old rd _ sizes)
+Effect-sizes old (AndPerm rd rs mask) r new sizes effect = subst HasSizes (sym effect.1) (HasSizes-with old rd _ sizes)
+Effect-sizes old (StoreCap ra rs) r new sizes effect = subst HasSizes (sym effect.1) (HasSizes-put old _ _ sizes)
+Effect-sizes old (LoadCap rd ra) r new sizes effect = subst HasSizes (sym effect.1) (HasSizes-with old rd _ sizes)
+Effect-sizes old (Write ra bytes) r new sizes effect = subst HasSizes (sym effect.1) (HasSizes-put old _ _ sizes)
+Effect-sizes old (Show rs) r new sizes effect = subst HasSizes (sym effect.1) sizes
+Effect-sizes old Sweep r new sizes effect = subst HasSizes (sym effect.1) (HasSizes-swept old sizes)
+
+StepAfter-sizes : (t : Option TheTrap) (old : State) (c : Command) (r : Reply) (new : State) → HasSizes old → StepAfter t old c r new → HasSizes new
+StepAfter-sizes None old c r new sizes step = Effect-sizes old c r new sizes step
+StepAfter-sizes (Some t) old c r new sizes step = subst HasSizes (sym step.1) sizes
+
+-- A step to a safe state is one to a sound state.
+Step-sound : (old : State) (c : Command) (r : Reply) (new : State) → IsSound old → IsSafe new → Step old c r new → IsSound new
+Step-sound old c r new sound safe step =
+    let before : HasSizes old = record { granules = sound.granules; count = sound.count; zero = sound.zero } in
+    let sizes = StepAfter-sizes (first_failed (checks old c)) old c r new before step in
+    record { granules = sizes.granules; count = sizes.count; zero = sizes.zero; safe = safe }
+
+-- The parts of a machine after a command, or after want of memory.
+pub AreParts-after : ((s : State) (c : Command) (r : Reply) (t : State) → IsSafe s → FitsTypes c → Step s c r t → IsSafe t)
+    → (old new : Parts) (c : Command) (result : Result Reply MachineFault) → AreParts old → FitsTypes c
+    → IfOk result (λ r. Step (state_of old) c r (state_of new)) → OnErr result (new ≡ old) → new.memory.base ≡ new.heap.base → AreParts new
+AreParts-after law old new c (Ok r) parts fits step err base =
+    let safe = law (state_of old) c r (state_of new) parts.sound.safe fits step in
+    record { base = base; sound = Step-sound (state_of old) c r (state_of new) parts.sound safe step }
+AreParts-after law old new c (Err fault) parts fits step err base = subst AreParts (sym err) parts

@@ -1,0 +1,188 @@
+-- From a safe state each step leads to a safe one.
+use Rattle.std.proofs.Common.{◌≡◌, ◌∙◌, ◌<◌, ◌≤◌, ◌+◌, ◌&&◌, ◌^◌, ℕ, Bool, true, false, Option, Some, None, inl, cond, refl, sym, ap, subst, arith}
+use Rattle.std.specs.Prelude.{◌==◌, bit_and, nat_le, not}
+use Rattle.std.proofs.lemmas.Bool.{and_parts, eqb-true, leb-true}
+use Rattle.cap_codec.specs.declared.word.Bounds.{Bounds}
+use Rattle.cap_codec.specs.declared.word.Fields.{Fields}
+use Rattle.cap_codec.specs.declared.word.Word.{Word}
+use Rattle.cap_codec.specs.Bounds.{bounds_of}
+use Rattle.cap_codec.specs.Fields.{IsValid as IsValidFields, bits_with, fields_of}
+use Rattle.cap_codec.specs.Representable.{is_representable}
+use Rattle.cap_codec.specs.Rounding.{IsExact, outward, with_bounds_of}
+use Rattle.heap_core.specs.Blocks.{is_block}
+use Rattle.heap_core.specs.Heap.{HeapState, IsSound as IsSoundHeap}
+use Rattle.heap_core.specs.Place.{IsFree, block_length, with_live}
+use Rattle.heap_core.specs.Quarantine.{with_held, without_held}
+use Rattle.tag_memory.specs.Cells.{null_cell}
+use Rattle.trace_text.specs.declared.trace.Command.{Command}
+use Rattle.trace_text.specs.declared.trace.Command.TheVariants.{Malloc, Free, Copy, SetAddr, Narrow, AndPerm, StoreCap, LoadCap, Write, Show, Sweep}
+use Rattle.heap_machine.specs.declared.reply.Reply.{Reply}
+use Rattle.heap_machine.specs.declared.reply.Reply.TheVariants.{Block, NoSpace, Held, Done, Cleared, Swept, Shown, Trap}
+use Rattle.heap_machine.specs.declared.reply.Trap.{Trap as TheTrap}
+use Rattle.heap_machine.specs.Safety.{FitsTypes, IsSafe}
+use Rattle.heap_machine.specs.State.{State, register}
+use Rattle.heap_machine.specs.Step.{Effect, Step, StepAfter, address_in, allows, block_fields, bounds_in, capability_of, checks, first_failed, granule_at, is_exact, keeps_bounds, load_capability, narrowed, with_address, with_perms}
+use Rattle.heap_machine.proofs.BlockLists.{Contains-new}
+use Rattle.heap_machine.proofs.FreedBlock.{IsSafe-held}
+use Rattle.heap_machine.proofs.GuardLaws.{IsGuarded-kept, IsGuarded-narrowed, IsGuarded-untagged, IsInside-block}
+use Rattle.heap_machine.proofs.NewBlock.{IsSafe-new}
+use Rattle.heap_machine.proofs.SoundLaws.{FitsAddresses-state, HoldsGuarded-at, IsGuarded-register, IsSafe-put, IsSafe-with, LiesInside-register}
+use Rattle.heap_machine.proofs.SweptState.{IsSafe-swept}
+
+-- What the crates below say of words and of heaps.
+pub record Laws : Type 0 where
+  pub live : (s : HeapState) (size a : ℕ) → IsSoundHeap s → IsFree s size a → IsSoundHeap (with_live s size a)
+  pub held : (s : HeapState) (base top : ℕ) → IsSoundHeap s → is_block s.live base top ≡ true → IsSoundHeap (with_held s base top)
+  pub free : (s : HeapState) → IsSoundHeap s → IsSoundHeap (without_held s)
+  pub exact : (s : HeapState) (size a : ℕ) → IsSoundHeap s → IsFree s size a → IsExact a (a + block_length size)
+  pub bounded : (f : Fields) (base top : ℕ) → IsValidFields f → f.perms < 2 ^ 16 → base < 2 ^ 64 → base ≤ top → top ≤ 2 ^ 64
+      → bounds_of (fields_of (record { bits = bits_with (with_bounds_of f base top) })) ≡ outward base top
+  pub moved : (w : Word) (a : ℕ) → a < 2 ^ 64
+      → fields_of (record { bits = bits_with (record (fields_of w) { address = a }) }) ≡ record (fields_of w) { address = a }
+  pub masked : (w : Word) (mask : ℕ)
+      → fields_of (record { bits = bits_with (record (fields_of w) { perms = bit_and (fields_of w).perms mask }) })
+      ≡ record (fields_of w) { perms = bit_and (fields_of w).perms mask }
+  pub valid : (w : Word) → IsValidFields (fields_of w)
+
+-- ---- words
+
+perms_fit : (w : Word) → (fields_of w).perms < 2 ^ 16
+unfolding fields_of
+perms_fit w = omega arith
+
+bounds_in-capability : Laws → (base top : ℕ) → base < 2 ^ 64 → base ≤ top → top ≤ 2 ^ 64 → IsExact base top → bounds_in (capability_of base top) ≡ record { base = base; top = top }
+unfolding bounds_in capability_of
+bounds_in-capability laws base top small order room exact =
+    let v = laws.valid (record { bits = 0 }) in
+    let valid : IsValidFields block_fields = record { reserved = v.reserved; otype = v.otype; top12 = v.top12; base14 = v.base14 } in
+    laws.bounded block_fields base top valid (omega arith) small order room ∙ exact
+
+-- Bounds with both ends the same are the same.
+same_bounds : (b c : Bounds) → ((b.base == c.base) && (b.top == c.top)) ≡ true → b ≡ c
+same_bounds b c is =
+    let both = and_parts (b.base == c.base) (b.top == c.top) is in
+    let base : b.base ≡ c.base = eqb-true b.base c.base both.0 in
+    let top : b.top ≡ c.top = eqb-true b.top c.top both.1 in
+    λ i. record { base = base i; top = top i }
+
+bounds_in-moved : Laws → (w : Word) (a : ℕ) → a < 2 ^ 64 → keeps_bounds w a ≡ true → bounds_in (with_address w a) ≡ bounds_in w
+unfolding bounds_in with_address keeps_bounds is_representable
+bounds_in-moved laws w a small keeps =
+    let moved : Fields = record (fields_of w) { address = a } in
+    ap bounds_of (laws.moved w a small) ∙ same_bounds (bounds_of moved) (bounds_of (fields_of w)) keeps
+
+-- Bounds don't depend on permissions.
+any_perms : (f : Fields) (perms : ℕ) → bounds_of (record f { perms = perms }) ≡ bounds_of f
+unfolding bounds_of
+any_perms f perms = refl
+
+bounds_in-masked : Laws → (w : Word) (mask : ℕ) → bounds_in (with_perms w mask) ≡ bounds_in w
+unfolding bounds_in with_perms
+bounds_in-masked laws w mask = ap bounds_of (laws.masked w mask) ∙ any_perms (fields_of w) (bit_and (fields_of w).perms mask)
+
+bounds_in-narrowed : Laws → (w : Word) (base top : ℕ) → base < 2 ^ 64 → base ≤ top → top ≤ 2 ^ 64 → is_exact base top ≡ true
+    → bounds_in (narrowed w base top) ≡ record { base = base; top = top }
+unfolding bounds_in narrowed is_exact
+bounds_in-narrowed laws w base top small order room exact =
+    let bounds : Bounds = record { base = base; top = top } in
+    laws.bounded (fields_of w) base top (laws.valid w) (perms_fit w) small order room ∙ same_bounds (outward base top) bounds exact
+
+-- ---- checks that pass
+
+all_three : (a b c : Bool) (x y z : TheTrap) → (if_failed : cond a (cond b (cond c None (Some z)) (Some y)) (Some x) ≡ None) → (a ≡ true) × (b ≡ true) × (c ≡ true)
+all_three true true true x y z e = (refl, refl, refl)
+all_three true true false x y z e = absurd cc
+all_three true false c x y z e = absurd cc
+all_three false b c x y z e = absurd cc
+
+all_four : (a b c d : Bool) (x y z t : TheTrap) → cond a (cond b (cond c (cond d None (Some t)) (Some z)) (Some y)) (Some x) ≡ None
+    → (a ≡ true) × (b ≡ true) × (c ≡ true) × (d ≡ true)
+all_four true true true true x y z t e = (refl, refl, refl, refl)
+all_four true true true false x y z t e = absurd cc
+all_four true true false d x y z t e = absurd cc
+all_four true false c d x y z t e = absurd cc
+all_four false b c d x y z t e = absurd cc
+
+-- ---- commands
+
+-- A new block is not empty.
+some_bytes : (heap : HeapState) (size a : ℕ) → IsSoundHeap (with_live heap size a) → 0 < block_length size
+some_bytes heap size a sound = (IsInside-block (with_live heap size a) (a, block_length size) sound (inl (Contains-new (a, block_length size) heap.live))).some
+
+Malloc-safe : Laws → (old : State) (rd size : ℕ) (r : Reply) (new : State) → IsSafe old → Effect old (Malloc rd size) r new → IsSafe new
+Malloc-safe laws old rd size (Block base top) new safe effect =
+    let free = effect.0.free in
+    let heap = laws.live old.heap size base safe.heap free in
+    let fits = FitsAddresses-state old safe in
+    let room : base + block_length size ≤ 2 ^ 64 = omega (arith, free.end, fits.end) in
+    let some = some_bytes old.heap size base heap in
+    let is = bounds_in-capability laws base (base + block_length size) (omega (arith, room, some)) (omega arith) room (laws.exact old.heap size base safe.heap free) in
+    let word : bounds_in (capability_of base top) ≡ record { base = base; top = base + block_length size } =
+    subst (λ (t : ℕ). bounds_in (capability_of base t) ≡ record { base = base; top = base + block_length size }) (sym effect.1) is in
+    subst IsSafe (sym effect.2) (IsSafe-new old rd size base (capability_of base top) safe heap word)
+Malloc-safe laws old rd size NoSpace new safe effect = subst IsSafe (sym effect.1) (IsSafe-with old rd null_cell safe (IsGuarded-untagged old.heap _))
+Malloc-safe laws old rd size (Held bytes) new safe effect = absurd effect
+Malloc-safe laws old rd size Done new safe effect = absurd effect
+Malloc-safe laws old rd size Cleared new safe effect = absurd effect
+Malloc-safe laws old rd size (Swept cleared released) new safe effect = absurd effect
+Malloc-safe laws old rd size (Shown shown) new safe effect = absurd effect
+Malloc-safe laws old rd size (Trap trap) new safe effect = absurd effect
+
+Narrow-safe : Laws → (old : State) (rd rs n : ℕ) (r : Reply) (new : State) → IsSafe old → first_failed (checks old (Narrow rd rs n)) ≡ None
+    → Effect old (Narrow rd rs n) r new → IsSafe new
+Narrow-safe laws old rd rs n r new safe passed effect =
+    let c = register old rs in
+    let a = address_in c.0 in
+    let within = bounds_in c.0 in
+    let all = all_four c.1 (nat_le 1 n) (nat_le within.base a && nat_le (a + n) within.top) (is_exact a (a + n)) _ _ _ _ passed in
+    let ends = and_parts (nat_le within.base a) (nat_le (a + n) within.top) all.2 in
+    let from : within.base ≤ a = leb-true within.base a ends.0 in
+    let end : a + n ≤ within.top = leb-true (a + n) within.top ends.1 in
+    let some : 1 ≤ n = leb-true 1 n all.1 in
+    let inside = LiesInside-register old rs safe in
+    let fits = FitsAddresses-state old safe in
+    let room : a + n ≤ 2 ^ 64 = omega (arith, end, inside.end all.0, fits.end) in
+    let is = bounds_in-narrowed laws c.0 a (a + n) (omega (arith, room, some)) (omega arith) room all.3 in
+    let guarded = IsGuarded-narrowed old.heap (narrowed c.0 a (a + n)) true c a (a + n) (IsGuarded-register old rs safe) all.0 is from (omega (arith, some)) end in
+    subst IsSafe (sym effect.1) (IsSafe-with old rd (narrowed c.0 a (a + n), true) safe guarded)
+
+Effect-safe : Laws → (old : State) (c : Command) (r : Reply) (new : State) → IsSafe old → FitsTypes c → first_failed (checks old c) ≡ None → Effect old c r new → IsSafe new
+Effect-safe laws old (Malloc rd size) r new safe fits passed effect = Malloc-safe laws old rd size r new safe effect
+Effect-safe laws old (Free rs) r new safe fits passed effect =
+    let c = register old rs in
+    let b = bounds_in c.0 in
+    let all = all_three c.1 (not (is_block old.heap.held b.base b.top)) (is_block old.heap.live b.base b.top) _ _ _ passed in
+    subst IsSafe (sym effect.1) (IsSafe-held old b.base b.top safe (laws.held old.heap b.base b.top safe.heap all.2))
+Effect-safe laws old (Copy rd rs) r new safe fits passed effect = subst IsSafe (sym effect.1) (IsSafe-with old rd (register old rs) safe (IsGuarded-register old rs safe))
+Effect-safe laws old (SetAddr rd rs a) r new safe fits passed effect =
+    let c = register old rs in
+    let keeps = keeps_bounds c.0 a in
+    let guarded = IsGuarded-kept old.heap (with_address c.0 a) (c.1 && keeps) c (IsGuarded-register old rs safe)
+    (λ e. (and_parts c.1 keeps e).0) (λ e. bounds_in-moved laws c.0 a fits (and_parts c.1 keeps e).1) in
+    subst IsSafe (sym effect.1) (IsSafe-with old rd (with_address c.0 a, c.1 && keeps) safe guarded)
+Effect-safe laws old (Narrow rd rs n) r new safe fits passed effect = Narrow-safe laws old rd rs n r new safe passed effect
+Effect-safe laws old (AndPerm rd rs mask) r new safe fits passed effect =
+    let c = register old rs in
+    let guarded = IsGuarded-kept old.heap (with_perms c.0 mask) c.1 c (IsGuarded-register old rs safe) (λ e. e) (λ _. bounds_in-masked laws c.0 mask) in
+    subst IsSafe (sym effect.1) (IsSafe-with old rd (with_perms c.0 mask, c.1) safe guarded)
+Effect-safe laws old (StoreCap ra rs) r new safe fits passed effect =
+    let c = register old rs in
+    subst IsSafe (sym effect.1) (IsSafe-put old (register old ra).0 (c.0.bits, c.1) safe (IsGuarded-register old rs safe))
+Effect-safe laws old (LoadCap rd ra) r new safe fits passed effect =
+    let w = (register old ra).0 in
+    let granule = granule_at old w in
+    let keeps = allows load_capability w in
+    let guarded = IsGuarded-kept old.heap (record { bits = granule.0 }) (granule.1 && keeps) (record { bits = granule.0 }, granule.1) (HoldsGuarded-at old w safe)
+    (λ e. (and_parts granule.1 keeps e).0) (λ _. refl) in
+    subst IsSafe (sym effect.1) (IsSafe-with old rd (record { bits = granule.0 }, granule.1 && keeps) safe guarded)
+Effect-safe laws old (Write ra bytes) r new safe fits passed effect = subst IsSafe (sym effect.1) (IsSafe-put old (register old ra).0 _ safe (IsGuarded-untagged old.heap _))
+Effect-safe laws old (Show rs) r new safe fits passed effect = subst IsSafe (sym effect.1) safe
+Effect-safe laws old Sweep r new safe fits passed effect = subst IsSafe (sym effect.1) (IsSafe-swept old safe (laws.free old.heap safe.heap))
+
+StepAfter-safe : Laws → (t : Option TheTrap) (old : State) (c : Command) (r : Reply) (new : State) → IsSafe old → FitsTypes c → first_failed (checks old c) ≡ t
+    → StepAfter t old c r new → IsSafe new
+StepAfter-safe laws None old c r new safe fits passed step = Effect-safe laws old c r new safe fits passed step
+StepAfter-safe laws (Some t) old c r new safe fits failed step = subst IsSafe (sym step.1) safe
+
+pub Step-safe : Laws → (old : State) (c : Command) (r : Reply) (new : State) → IsSafe old → FitsTypes c → Step old c r new → IsSafe new
+Step-safe laws old c r new safe fits step = StepAfter-safe laws (first_failed (checks old c)) old c r new safe fits refl step

@@ -1,0 +1,237 @@
+//! The parts of a machine, and what each command does to them.
+
+ghost use Rattle.std.specs.Prelude.{◌≡◌, ◌<◌, IfErr, IfOk, IsOk, None, OnErr, OnOk, Some, length};
+ghost use Rattle.tag_memory.specs.Cells.{register_in};
+ghost use Rattle.trace_text.specs.Command.{IsValid};
+ghost use Rattle.heap_machine.specs.Parts.{AreParts, state_of};
+ghost use Rattle.heap_machine.specs.Step.{Step, TakesNoMemory, access, first_failed, index_in};
+
+mod revocation;
+
+use crate::capability::{
+    LOAD, LOAD_CAPABILITY, STORE, STORE_CAPABILITY, address_of, allowed_by, bounded,
+    bounds_of_word, capability, masked, moved, shown,
+};
+use crate::reply::{MachineFault, Reply, Trap};
+use cap_codec::{Word, from_bytes};
+use heap_core::Heap;
+use std::alloc::Global;
+use std::thread::Threads;
+use sweep_pool::{Cutting, Gate};
+use tag_memory::{GRANULE, Memory, Registers};
+use trace_text::Command;
+
+/// One heap with its memory, 32 registers, and how its sweeps are cut. Each command takes parts whose state
+/// is sound from one state to the next.
+#[derive(Drop)]
+pub struct Parts {
+    pub heap: Heap,
+    pub memory: Memory,
+    pub registers: Registers,
+    pub cutting: Cutting,
+}
+
+impl Parts {
+    /// Does one command.
+    pub fn serve<R: Threads + Sync, G: Gate + Sync>(
+        &mut self,
+        rt: &R,
+        alloc: Global,
+        command: Command,
+        gate: &G,
+    ) -> Result<Reply, MachineFault>
+        requires parts { AreParts self.old }
+        requires valid { IsValid command }
+        ensures step { IfOk result (λ reply. Step (state_of self.old) command reply (state_of self.new)) }
+        ensures base { self.new.memory.base ≡ self.new.heap.base }
+        ensures err { OnErr result (self.new ≡ self.old) }
+        ensures memory { IfErr result (λ fault. fault ≡ MachineFault.Memory) }
+        ensures ok { TakesNoMemory command → IsOk result }
+    {
+        match command {
+            Command::Malloc { rd, size } => self.malloc(rd, size),
+            Command::Free { rs } => self.free(rs),
+            Command::Copy { rd, rs } => Ok(self.copy(rd, rs)),
+            Command::SetAddr { rd, rs, address } => Ok(self.set_address(rd, rs, address)),
+            Command::Narrow { rd, rs, length } => Ok(self.narrow(rd, rs, length)),
+            Command::AndPerm { rd, rs, mask } => Ok(self.and_perms(rd, rs, mask)),
+            Command::StoreCap { ra, rs } => Ok(self.store_cap(ra, rs)),
+            Command::LoadCap { rd, ra } => Ok(self.load_cap(rd, ra)),
+            Command::Write { ra, bytes } => Ok(self.write(ra, bytes)),
+            Command::Show { rs } => Ok(self.show(rs)),
+            Command::Sweep => self.sweep(rt, alloc, gate),
+        }
+    }
+
+    fn malloc(&mut self, rd: u8, size: u64) -> Result<Reply, MachineFault>
+        requires parts { AreParts self.old }
+        requires valid { IsValid (Command.Malloc rd size) }
+        ensures step { IfOk result (λ reply. Step (state_of self.old) (Command.Malloc rd size) reply (state_of self.new)) }
+        ensures base { self.new.memory.base ≡ self.new.heap.base }
+        ensures err { OnErr result (self.new ≡ self.old) }
+        ensures memory { IfErr result (λ fault. fault ≡ MachineFault.Memory) }
+    {
+        let Ok(found) = self.heap.reserve(size) else {
+            return Err(MachineFault::Memory);
+        };
+        let Some(block) = found else {
+            self.registers.set(rd, Word::NULL, false);
+            return Ok(Reply::NoSpace);
+        };
+        self.registers.set(rd, capability(block), true);
+        Ok(Reply::Block {
+            base: block.base,
+            top: block.top,
+        })
+    }
+
+    fn copy(&mut self, rd: u8, rs: u8) -> Reply
+        requires parts { AreParts self.old }
+        requires valid { IsValid (Command.Copy rd rs) }
+        ensures step { Step (state_of self.old) (Command.Copy rd rs) result (state_of self.new) }
+        ensures base { self.new.memory.base ≡ self.new.heap.base }
+    {
+        let (word, tag) = self.registers.get(rs);
+        self.registers.set(rd, word, tag);
+        Reply::Done
+    }
+
+    fn set_address(&mut self, rd: u8, rs: u8, address: u64) -> Reply
+        requires parts { AreParts self.old }
+        requires valid { IsValid (Command.SetAddr rd rs address) }
+        ensures step { Step (state_of self.old) (Command.SetAddr rd rs address) result (state_of self.new) }
+        ensures base { self.new.memory.base ≡ self.new.heap.base }
+    {
+        let (word, tag) = self.registers.get(rs);
+        let (word, keeps) = moved(word, address);
+        self.registers.set(rd, word, tag & keeps);
+        if tag & !keeps {
+            return Reply::Cleared;
+        }
+        Reply::Done
+    }
+
+    fn narrow(&mut self, rd: u8, rs: u8, length: u64) -> Reply
+        requires parts { AreParts self.old }
+        requires valid { IsValid (Command.Narrow rd rs length) }
+        ensures step { Step (state_of self.old) (Command.Narrow rd rs length) result (state_of self.new) }
+        ensures base { self.new.memory.base ≡ self.new.heap.base }
+    {
+        let (word, tag) = self.registers.get(rs);
+        if !tag {
+            return Reply::Trap(Trap::Tag);
+        }
+        if length == 0 {
+            return Reply::Trap(Trap::Empty);
+        }
+        let within = bounds_of_word(word);
+        let base = address_of(word);
+        let top = u128::from(base) + u128::from(length);
+        if base < within.base || within.top < top {
+            return Reply::Trap(Trap::Bounds);
+        }
+        let (word, exact) = bounded(word, base, top);
+        if !exact {
+            return Reply::Trap(Trap::Inexact);
+        }
+        self.registers.set(rd, word, true);
+        Reply::Done
+    }
+
+    fn and_perms(&mut self, rd: u8, rs: u8, mask: u16) -> Reply
+        requires parts { AreParts self.old }
+        requires valid { IsValid (Command.AndPerm rd rs mask) }
+        ensures step { Step (state_of self.old) (Command.AndPerm rd rs mask) result (state_of self.new) }
+        ensures base { self.new.memory.base ≡ self.new.heap.base }
+    {
+        let (word, tag) = self.registers.get(rs);
+        self.registers.set(rd, masked(word, mask), tag);
+        Reply::Done
+    }
+
+    // The index of the granule at a register's address, for an access that is allowed so.
+    fn granule_index(&self, ra: u8, allowed: bool) -> Result<usize, Trap>
+        requires parts { AreParts self.now }
+        requires register { ra < 32 }
+        ensures passed { OnOk result (first_failed (access (register_in self.now.registers ra) allowed) ≡ None) }
+        ensures index { IfOk result (λ i. i ≡ index_in (state_of self.now) (register_in self.now.registers ra).0) }
+        ensures there { IfOk result (λ i. i < length self.now.memory.cells) }
+        ensures failed { IfErr result (λ trap. first_failed (access (register_in self.now.registers ra) allowed) ≡ Some trap) }
+    {
+        let (word, tag) = self.registers.get(ra);
+        if !tag {
+            return Err(Trap::Tag);
+        }
+        if !allowed {
+            return Err(Trap::Perm);
+        }
+        let within = bounds_of_word(word);
+        let address = address_of(word);
+        if address < within.base || within.top < u128::from(address) + u128::from(GRANULE) {
+            return Err(Trap::Bounds);
+        }
+        if !address.is_multiple_of(GRANULE) {
+            return Err(Trap::Align);
+        }
+        Ok(((address - self.memory.base()) / GRANULE) as usize)
+    }
+
+    fn store_cap(&mut self, ra: u8, rs: u8) -> Reply
+        requires parts { AreParts self.old }
+        requires valid { IsValid (Command.StoreCap ra rs) }
+        ensures step { Step (state_of self.old) (Command.StoreCap ra rs) result (state_of self.new) }
+        ensures base { self.new.memory.base ≡ self.new.heap.base }
+    {
+        let (word, tag) = self.registers.get(rs);
+        let (authority, _) = self.registers.get(ra);
+        let stores = allowed_by(authority, STORE);
+        let allowed = stores & (!tag | allowed_by(authority, STORE_CAPABILITY));
+        let i = match self.granule_index(ra, allowed) {
+            Ok(i) => i,
+            Err(trap) => return Reply::Trap(trap),
+        };
+        self.memory.put(i, word.bits, tag);
+        Reply::Done
+    }
+
+    fn load_cap(&mut self, rd: u8, ra: u8) -> Reply
+        requires parts { AreParts self.old }
+        requires valid { IsValid (Command.LoadCap rd ra) }
+        ensures step { Step (state_of self.old) (Command.LoadCap rd ra) result (state_of self.new) }
+        ensures base { self.new.memory.base ≡ self.new.heap.base }
+    {
+        let (authority, _) = self.registers.get(ra);
+        let i = match self.granule_index(ra, allowed_by(authority, LOAD)) {
+            Ok(i) => i,
+            Err(trap) => return Reply::Trap(trap),
+        };
+        let (bits, tag) = self.memory.cell(i);
+        let keeps = allowed_by(authority, LOAD_CAPABILITY);
+        self.registers.set(rd, Word { bits }, tag & keeps);
+        Reply::Done
+    }
+
+    fn write(&mut self, ra: u8, bytes: [u8; 16]) -> Reply
+        requires parts { AreParts self.old }
+        requires valid { IsValid (Command.Write ra bytes) }
+        ensures step { Step (state_of self.old) (Command.Write ra bytes) result (state_of self.new) }
+        ensures base { self.new.memory.base ≡ self.new.heap.base }
+    {
+        let (authority, _) = self.registers.get(ra);
+        let i = match self.granule_index(ra, allowed_by(authority, STORE)) {
+            Ok(i) => i,
+            Err(trap) => return Reply::Trap(trap),
+        };
+        self.memory.put(i, from_bytes(bytes).bits, false);
+        Reply::Done
+    }
+
+    fn show(&self, rs: u8) -> Reply
+        requires parts { AreParts self.now }
+        requires valid { IsValid (Command.Show rs) }
+        ensures { Step (state_of self.now) (Command.Show rs) result (state_of self.now) }
+    {
+        let (word, tag) = self.registers.get(rs);
+        Reply::Shown(shown(word, tag))
+    }
+}
