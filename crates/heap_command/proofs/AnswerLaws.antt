@@ -14,7 +14,6 @@ use Rattle.heap_trace.specs.Image.{image_of}
 use Rattle.heap_trace.specs.Outcome.{IsOutcome}
 use Rattle.heap_trace.specs.Reading.{Script, trace_of}
 use Rattle.heap_trace.specs.Report.{report_text}
-use Rattle.heap_trace.specs.State.{memory_of}
 use Rattle.heap_command.specs.declared.program.Answer.{Answer}
 use Rattle.heap_command.specs.Answer.{Answers, BeginsAnswer, IsAnswer, IsRunAnswer, image_shown, lacks_memory, most_read, names_fault, refusal_line, refusal_status, refuses, reports, shows_run, shows_word, status_of, text_of}
 use Rattle.heap_command.specs.Device.{AppendsBeginning, ReadsUpTo}
@@ -36,10 +35,10 @@ AskForNothing-text words hex named none = record {
 
 -- The report of a run, and the image of its memory if asked for, are its answer.
 pub IsRunAnswer-report : (input : List ℕ) (options : Options) (script : Script) (o : Outcome) (r : Result Answer Refusal) → trace_of input ≡ Ok script → IsOutcome script o
-    → IfOk r (λ answer. (answer.status ≡ 0) × (answer.text.items ≡ o.report.items ++ image_shown options (image_of o.memory))) → IfOk r (λ answer. IsRunAnswer input options answer.status answer.text.items)
+    → IfOk r (λ answer. (answer.status ≡ 0) × (answer.text.items ≡ o.report.items ++ image_shown options (image_of o.memory.base o.memory.cells))) → IfOk r (λ answer. IsRunAnswer input options answer.status answer.text.items)
 IsRunAnswer-report input options script o (Ok answer) reads is told =
-    let text : answer.text.items ≡ report_text script.commands is.replies is.last ++ image_shown options (image_of (memory_of is.last)) = told.1 ∙ ap₂ (λ xs m. xs ++ image_shown options (image_of m)) is.report is.memory in
-    let answers : IsRunAnswer input options 0 (report_text script.commands is.replies is.last ++ image_shown options (image_of (memory_of is.last))) = reports script is.replies is.last reads is.run in
+    let text : answer.text.items ≡ report_text script.commands is.replies is.last ++ image_shown options (image_of is.last.heap.base is.last.cells) = told.1 ∙ (ap (λ xs. xs ++ image_shown options (image_of o.memory.base o.memory.cells)) is.report ∙ ap₂ (λ base cells. report_text script.commands is.replies is.last ++ image_shown options (image_of base cells)) is.base is.cells) in
+    let answers : IsRunAnswer input options 0 (report_text script.commands is.replies is.last ++ image_shown options (image_of is.last.heap.base is.last.cells)) = reports script is.replies is.last reads is.run in
     subst (λ status. IsRunAnswer input options status answer.text.items) (sym told.0) (subst (IsRunAnswer input options 0) (sym text) answers)
 IsRunAnswer-report input options script o (Err refusal) reads is told = tt
 

@@ -1,9 +1,10 @@
 -- What several reads in turn do to the bytes that are known of a source.
-use Rattle.std.proofs.Common.{◌≡◌, ℕ, ◌+◌, ◌-◌, ◌≤◌, ◌<◌, Bool, true, false, List, [], length, sym, subst, Option, arith, refl}
+use Rattle.std.proofs.Common.{◌≡◌, ℕ, ◌+◌, ◌-◌, ◌≤◌, ◌<◌, Bool, true, false, List, [], ◌++◌, length, sym, subst, Option, arith, refl}
+use Rattle.std.proofs.lemmas.List.{length-append}
 use Rattle.std.proofs.KnownBytes.{Consumes-nil, Consumes-trans}
 use Rattle.std.specs.Io.KnownBytes.{Consumes, IsAtEnd}
 use Rattle.heap_command.specs.Answer.{most_read}
-use Rattle.heap_command.specs.Device.{ReadsMore, ReadsUpTo}
+use Rattle.heap_command.specs.Device.{ReadsFew, ReadsMore, ReadsUpTo}
 
 -- the text has all that was read of a source so far, which is at its end if so told
 pub record HasRead (old new : Option (List ℕ)) (text : List ℕ) (is_at_end : Bool) : Type 0 where
@@ -43,3 +44,22 @@ HasRead-whole old new text false h over = record {
 pub reads_left-falls : (before after : ℕ) (is : Bool) → before < most_read → after ≤ most_read → (is ≡ false → before < after) → reads_left is after < reads_left false before
 reads_left-falls before after true room few grows = omega arith
 reads_left-falls before after false room few grows = let more = grows refl in omega arith
+
+-- ---- how much was read
+
+-- nothing
+pub ReadsFew-none : (same : Option (List ℕ)) → ReadsFew most_read 0 same same
+ReadsFew-none same = record { bs = []; taken = Consumes-nil same; few = omega arith }
+
+-- what the text has
+pub ReadsFew-whole : (old new : Option (List ℕ)) (text : List ℕ) (is_at_end : Bool) → HasRead old new text is_at_end → ReadsFew most_read 0 old new
+ReadsFew-whole old new text is_at_end h = record { bs = text; taken = h.taken; few = omega (arith, h.few) }
+
+-- that, and what one more read took
+pub ReadsFew-more : (old mid new : Option (List ℕ)) (text : List ℕ) (is_at_end : Bool) → HasRead old mid text is_at_end → ReadsFew most_read (length text) mid new
+    → ReadsFew most_read 0 old new
+ReadsFew-more old mid new text is_at_end h more = record {
+  bs = text ++ more.bs;
+  taken = Consumes-trans old mid new text more.bs h.taken more.taken;
+  few = omega (arith, length-append text more.bs, more.few);
+}

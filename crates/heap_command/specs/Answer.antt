@@ -12,7 +12,7 @@ use Rattle.heap_trace.specs.Reading.{Script, trace_of}
 use Rattle.heap_trace.specs.Report.{report_text}
 use Rattle.heap_trace.specs.Run.{Run}
 use Rattle.heap_trace.specs.Image.{image_of}
-use Rattle.heap_trace.specs.State.{State, first_state, memory_of}
+use Rattle.heap_trace.specs.State.{State, first_state}
 use Rattle.heap_command.specs.declared.program.Answer.{Answer}
 use Rattle.heap_command.specs.Device.{AppendsBeginning, ReadsUpTo}
 use Rattle.heap_command.specs.Text.{fault_text, memory_line, usage_line, word_line}
@@ -46,7 +46,7 @@ image_shown options image = if options.image then image else []
 pub data IsRunAnswer (input : List ℕ) (options : Options) : ℕ → List ℕ → Type 0 where
   reports : (script : Script) (replies : List Reply) (last : State) → trace_of input ≡ Ok script
       → Run (first_state script.base script.pages) (map (λ c. c.1) script.commands) replies last
-      → IsRunAnswer input options 0 (report_text script.commands replies last ++ image_shown options (image_of (memory_of last)))
+      → IsRunAnswer input options 0 (report_text script.commands replies last ++ image_shown options (image_of last.heap.base last.cells))
   names_fault : (fault : TraceFault) → trace_of input ≡ Err fault → IsRunAnswer input options 3 (fault_text fault)
 
 -- The most bytes that are read: one more than a trace has.

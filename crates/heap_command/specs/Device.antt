@@ -1,5 +1,5 @@
 -- What reads and writes of a device do to the bytes that are known of it.
-use Rattle.std.specs.Prelude.{◌≡◌, ◌≢◌, ℕ, ◌≤◌, Bool, ◌||◌, true, false, List, ◌++◌, ◌<◌, length, take, Option, Result, is_err}
+use Rattle.std.specs.Prelude.{◌≡◌, ◌≢◌, ℕ, ◌≤◌, ◌+◌, Bool, ◌||◌, true, false, List, ◌++◌, ◌<◌, length, take, Option, Result, is_err}
 use Rattle.std.specs.Io.KnownBytes.{Appends, Consumes, IsAtEnd}
 
 -- known bytes grow by a beginning of bs
@@ -16,6 +16,12 @@ pub record ReadsUpTo (limit : ℕ) (old new : Option (List ℕ)) (bs : List ℕ)
   pub taken : Consumes old new bs
   pub few : length bs ≤ limit
   pub ends : length bs ≢ limit → IsAtEnd new
+
+-- Bytes were read of it, which with those before them are no more than `limit`.
+pub record ReadsFew (limit before : ℕ) (old new : Option (List ℕ)) : Type 0 where
+  pub bs : List ℕ
+  pub taken : Consumes old new bs
+  pub few : before + length bs ≤ limit
 
 -- One more read made text of what was read before, and says whether the device is at its end.
 pub record ReadsMore (limit : ℕ) (old new : Option (List ℕ)) (before text : List ℕ) (is_at_end : Bool) : Type 0 where

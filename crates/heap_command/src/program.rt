@@ -6,8 +6,8 @@ ghost use Rattle.cap_codec.specs.declared.word.Word.{Word};
 ghost use Rattle.command_line.specs.declared.words.Options.{Options as TheOptions};
 ghost use Rattle.command_line.specs.Words.{AreWithinLimits, NamesRun, texts};
 ghost use Rattle.heap_trace.specs.Image.{image_of};
-ghost use Rattle.heap_command.specs.Answer.{Answers, BeginsAnswer, IsRunAnswer, image_shown, refusal_line, refusal_status, status_of, text_of};
-ghost use Rattle.heap_command.specs.Device.{AppendsBeginning};
+ghost use Rattle.heap_command.specs.Answer.{Answers, BeginsAnswer, IsRunAnswer, image_shown, most_read, refusal_line, refusal_status, status_of, text_of};
+ghost use Rattle.heap_command.specs.Device.{AppendsBeginning, ReadsFew};
 ghost use Rattle.heap_command.specs.Text.{fault_text, word_line};
 ghost use Rattle.heap_command.specs.Words.{IsTextOf};
 
@@ -36,7 +36,7 @@ pub struct Answer {
 /// Runs the program on these words, of which the first is its name, and answers the exit status: 0
 /// where it is done, 1 for want of memory, 2 where the words are refused, 3 where the trace is faulty,
 /// and 4 where a device failed. The words are judged before the first read, and nothing is written
-/// before the last.
+/// before the last. No more than 4,194,305 bytes are read, whatever the status.
 pub fn tool<'a, R: Threads + Sync, I: Source, O: Sink>(
     rt: &R,
     alloc: Global,
@@ -51,6 +51,7 @@ pub fn tool<'a, R: Threads + Sync, I: Source, O: Sink>(
     ensures part { result ≡ 4 → BeginsAnswer (texts words.entry.now) (I.remaining reader.old) (I.remaining reader.new)
         (O.contents writer.old) (O.contents writer.new) }
     ensures failed { (result ≡ 4) ↔ ((I.failed reader.new || O.failed writer.new) ≡ true) }
+    ensures consumed { ReadsFew most_read 0 (I.remaining reader.old) (I.remaining reader.new) }
     ensures unread { ((options : TheOptions) → NamesRun (texts words.entry.now) options → ⊥) → reader.new ≡ reader.old }
     // Where a read failed nothing is written.
     ensures unwritten { I.failed reader.new ≡ true → writer.new ≡ writer.old }
@@ -146,7 +147,7 @@ fn run_answer<R: Threads + Sync>(
 // The report that a run leaves, and the image after it if asked for.
 fn outcome_answer(alloc: Global, outcome: Outcome, options: Options) -> Result<Answer, Refusal>
     ensures ok { IfOk result (λ answer. (answer.status ≡ 0)
-        × (answer.text.items ≡ outcome.report.items ++ image_shown options (image_of outcome.memory))) }
+        × (answer.text.items ≡ outcome.report.items ++ image_shown options (image_of outcome.memory.base outcome.memory.cells))) }
     ensures err { IfErr result (λ refusal. refusal ≡ Refusal.Memory) }
 {
     let mut text = outcome.report;

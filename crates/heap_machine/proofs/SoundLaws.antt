@@ -1,17 +1,18 @@
 -- What holds of a sound state, and the first one.
-use Rattle.std.proofs.Common.{◌≡◌, ◌∙◌, ℕ, ◌≤◌, ◌+◌, ◌*◌, ◌%◌, ◌^◌, Bool, true, false, cond, eqb, inl, inr, List, length, get_or, set, sym, ap, subst, arith}
+use Rattle.std.proofs.Common.{◌≡◌, ◌∙◌, ℕ, ◌≤◌, ◌+◌, ◌*◌, ◌%◌, ◌^◌, Bool, true, false, cond, eqb, inl, inr, List, [], length, get_or, set, refl, sym, ap, subst, arith}
 use Rattle.std.specs.Prelude.{◌==◌, All, nat_le, replicate}
 use Rattle.std.proofs.lemmas.Bool.Decides.{nat_tests}
 use Rattle.std.proofs.lemmas.Bool.{and_parts, cases_lt}
 use Rattle.std.proofs.lemmas.List.{get_or_past, length-replicate}
-use Rattle.std.proofs.lemmas.List.Elements.{All-get_or, All-replicate, All-set, All-weaker}
-use Rattle.heap_core.specs.Heap.{HeapState, IsSound as IsSoundHeap, empty_heap}
+use Rattle.std.proofs.lemmas.List.Elements.{All-get_or, All-nil, All-replicate, All-set, All-weaker}
+use Rattle.heap_core.specs.Heap.{HeapState, IsInside, IsSound as IsSoundHeap, empty_heap}
 use Rattle.cap_codec.specs.declared.word.Word.{Word}
-use Rattle.heap_core.specs.Blocks.{Span}
+use Rattle.heap_core.specs.Blocks.{IsApart, Span}
+use Rattle.tag_memory.specs.Span.{is_base, is_size}
 use Rattle.tag_memory.specs.Cells.{Cell, Granule, cell_of, new_registers, null_cell}
 use Rattle.heap_machine.specs.Safety.{HoldsGuarded, IsGuarded, IsLiveOrHeld, IsSafe}
 use Rattle.heap_machine.specs.Sound.{IsSound}
-use Rattle.heap_machine.specs.State.{State, register, with_cell}
+use Rattle.heap_machine.specs.State.{State, first_state, register, with_cell}
 use Rattle.heap_machine.specs.Step.{granule_at, index_in, with_granule}
 use Rattle.heap_machine.proofs.GuardLaws.{IsGuarded-in, IsGuarded-untagged, LiesInside, LiesInside-guarded}
 
@@ -98,3 +99,20 @@ IsSound-first s base pages sound heap cells registers =
         cells = subst (All (HoldsGuarded s.heap)) (sym cells) (All-replicate (HoldsGuarded s.heap) (256 * pages) (0, false) (IsGuarded-untagged s.heap _));
       };
     }
+
+-- A heap without blocks is sound.
+IsSound-empty : (base pages : ℕ) → is_size pages ≡ true → is_base base pages ≡ true → IsSoundHeap (empty_heap base pages)
+IsSound-empty base pages size place = record {
+  pages = pages;
+  bytes = refl;
+  size = size;
+  place = place;
+  live_inside = All-nil (IsInside (empty_heap base pages));
+  held_inside = All-nil (IsInside (empty_heap base pages));
+  live_order = λ j k d less within. absurd (omega arith);
+  held_order = λ j k d less within. absurd (omega arith);
+  apart = All-nil (λ block. All (IsApart block) []);
+}
+
+pub IsSafe-first : (base pages : ℕ) → is_size pages ≡ true → is_base base pages ≡ true → IsSafe (first_state base pages)
+IsSafe-first base pages size place = (IsSound-first (first_state base pages) base pages (IsSound-empty base pages size place) refl refl refl).safe

@@ -1,23 +1,26 @@
 //! The laws of commands: each has one reply and leaves one state, and from a safe state a safe one.
 
-ghost use Rattle.std.specs.Prelude.{◌≡◌};
+ghost use Rattle.std.specs.Prelude.{◌≡◌, ℕ, true};
+ghost use Rattle.tag_memory.specs.Span.{is_base, is_size};
 ghost use Rattle.trace_text.specs.declared.trace.Command.{Command as TheCommand};
 ghost use Rattle.heap_machine.specs.declared.reply.Reply.{Reply as TheReply};
 ghost use Rattle.heap_machine.specs.Safety.{FitsTypes, IsRevoked, IsSafe, IsUnused};
-ghost use Rattle.heap_machine.specs.State.{State};
+ghost use Rattle.heap_machine.specs.State.{State, first_state};
 ghost use Rattle.heap_machine.specs.Step.{Step};
 
 use cap_codec::derivations;
 use heap_core::changes;
 
-/// In each state a command has exactly one reply and leaves exactly one state. From a safe state it leaves a
-/// safe state, hands out only what is unused, and leaves after a sweep only words in use (Filardo et al.
+/// In each state a command has exactly one reply and leaves exactly one state. The first state is safe, and
+/// from a safe state a command leaves a safe state, hands out only what is unused, and leaves after a sweep only words in use (Filardo et al.
 /// 2020, Cornucopia: heap temporal safety).
 pub fn steps()
     ensures one { (old : State) (command : TheCommand) →
         (reply : TheReply) × (new : State) × Step old command reply new }
     ensures only { (old : State) (command : TheCommand) (reply other : TheReply) (new left : State) →
         Step old command reply new → Step old command other left → (reply ≡ other) × (new ≡ left) }
+    ensures first { (base pages : ℕ) → is_size pages ≡ true → is_base base pages ≡ true →
+        IsSafe (first_state base pages) }
     ensures safe { (old : State) (command : TheCommand) (reply : TheReply) (new : State) →
         IsSafe old → FitsTypes command → Step old command reply new → IsSafe new }
     ensures unused { (old : State) (command : TheCommand) (reply : TheReply) (new : State) →

@@ -4,6 +4,7 @@ ghost use Rattle.std.specs.Prelude.{◌≡◌, ◌<◌, IfErr, IfOk, IsOk, None,
 ghost use Rattle.tag_memory.specs.Cells.{register_in};
 ghost use Rattle.trace_text.specs.Command.{IsValid};
 ghost use Rattle.heap_machine.specs.Parts.{AreParts, state_of};
+ghost use Rattle.heap_machine.specs.Safety.{FitsTypes};
 ghost use Rattle.heap_machine.specs.Step.{Step, TakesNoMemory, access, first_failed, index_in};
 
 mod revocation;
@@ -47,6 +48,7 @@ impl Parts {
         ensures err { OnErr result (self.new ≡ self.old) }
         ensures memory { IfErr result (λ fault. fault ≡ MachineFault.Memory) }
         ensures ok { TakesNoMemory command → IsOk result }
+        ensures fits { FitsTypes command }
     {
         match command {
             Command::Malloc { rd, size } => self.malloc(rd, size),

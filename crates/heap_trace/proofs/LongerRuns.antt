@@ -9,7 +9,7 @@ use Rattle.heap_trace.specs.Outcome.{IsOutcome}
 use Rattle.heap_trace.specs.Report.{end_text, line_text, lines_text}
 use Rattle.heap_trace.specs.Run.{IsSafeRun, Run, Told}
 use Rattle.heap_machine.specs.Safety.{IsReuseSafe, IsSafe}
-use Rattle.heap_machine.specs.State.{State, first_state, memory_of}
+use Rattle.heap_machine.specs.State.{State, first_state}
 use Rattle.heap_machine.specs.Step.{Step}
 
 Run-push : (old : State) (cs : List Command) (rs : List Reply) (mid : State) (c : Command) (r : Reply) (new : State)
@@ -21,11 +21,11 @@ Run-push old (x ∷ cs) (y ∷ rs) mid c r new run step = (run.0, run.1, Run-pus
 
 -- Safe runs go on by a step that keeps the state safe.
 IsSafeRun-push : (old : State) (cs : List Command) (rs : List Reply) (mid : State) (c : Command) (r : Reply) (new : State)
-    → (run : Run old cs rs mid) → IsSafeRun old cs rs mid run → (step : Step mid c r new) → IsReuseSafe mid r new → IsSafe new
+    → (run : Run old cs rs mid) → IsSafeRun old cs rs mid run → (step : Step mid c r new) → IsReuseSafe mid c r new → IsSafe new
     → IsSafeRun old (cs ++ c ∷ []) (rs ++ r ∷ []) new (Run-push old cs rs mid c r new run step)
 unfolding Run-push
 IsSafeRun-push old [] [] mid c r new run safe step unused kept =
-    subst (λ (s : State). IsSafe s × IsReuseSafe s r new × IsSafe new) run (safe, unused, kept)
+    subst (λ (s : State). IsSafe s × IsReuseSafe s c r new × IsSafe new) run (safe, unused, kept)
 IsSafeRun-push old [] (y ∷ rs) mid c r new run safe step unused kept = absurd run
 IsSafeRun-push old (x ∷ cs) [] mid c r new run safe step unused kept = absurd run
 IsSafeRun-push old (x ∷ cs) (y ∷ rs) mid c r new run safe step unused kept =
@@ -54,7 +54,7 @@ pub Told-none : (first : State) → IsSafe first → Told first [] first []
 Told-none first safe = record { replies = []; run = refl; safe = safe; lines = refl }
 
 pub Told-push : (first : State) (items : List (ℕ × Command)) (mid new : State) (text more : List ℕ) (c : ℕ × Command) (r : Reply)
-    → Told first items mid text → Step mid c.1 r new → IsReuseSafe mid r new → IsSafe new → more ≡ text ++ line_text c.0 c.1 r → Told first (items ++ c ∷ []) new more
+    → Told first items mid text → Step mid c.1 r new → IsReuseSafe mid c.1 r new → IsSafe new → more ≡ text ++ line_text c.0 c.1 r → Told first (items ++ c ∷ []) new more
 Told-push first items mid new text more c r told step unused safe e =
     let cs : List Command = map (λ (x : ℕ × Command). x.1) items in
     let same : length told.replies ≡ length items = Run-length first cs told.replies mid told.run ∙ length-map items (λ (x : ℕ × Command). x.1) in
@@ -70,8 +70,8 @@ Told-push first items mid new text more c r told step unused safe e =
 
 -- A told run from the first state, with the last line, is an outcome.
 pub IsOutcome-told : (script : Script) (o : Outcome) (first last : State) (text : List ℕ) → Told first script.commands last text → first ≡ first_state script.base script.pages
-    → o.report.items ≡ text ++ end_text last → o.registers ≡ last.registers → o.memory ≡ memory_of last → IsOutcome script o
-IsOutcome-told script o first last text told from report registers memory =
+    → o.report.items ≡ text ++ end_text last → o.registers ≡ last.registers → o.memory.base ≡ last.heap.base → o.memory.cells ≡ last.cells → IsOutcome script o
+IsOutcome-told script o first last text told from report registers base cells =
     let whole = subst (λ (s : State). Told s script.commands last text) from told in
     record {
       replies = whole.replies;
@@ -80,5 +80,6 @@ IsOutcome-told script o first last text told from report registers memory =
       safe = whole.safe;
       report = report ∙ ap (λ (t : List ℕ). t ++ end_text last) whole.lines;
       registers = registers;
-      memory = memory;
+      base = base;
+      cells = cells;
     }

@@ -7,7 +7,7 @@ use Rattle.heap_machine.specs.declared.reply.Reply.{Reply}
 use Rattle.heap_trace.specs.Outcome.{Answers, IsOutcome}
 use Rattle.heap_trace.specs.Report.{report_text}
 use Rattle.heap_trace.specs.Run.{Run}
-use Rattle.heap_machine.specs.State.{State, memory_of}
+use Rattle.heap_machine.specs.State.{State}
 use Rattle.heap_machine.specs.Step.{Step}
 
 -- From each state each command has a step, and no other: the law `steps`.
@@ -37,16 +37,17 @@ Run-only one first (c ∷ cs) (r ∷ rs) (s ∷ ss) m n p q =
     (both, rest.1)
 
 pub IsOutcome-only : HaveOneStep → (script : Script) (a b : Outcome) → IsOutcome script a → IsOutcome script b
-    → (a.report.items ≡ b.report.items) × (a.registers ≡ b.registers) × (a.memory ≡ b.memory)
+    → (a.report.items ≡ b.report.items) × (a.registers ≡ b.registers) × (a.memory.base ≡ b.memory.base) × (a.memory.cells ≡ b.memory.cells)
 IsOutcome-only one script a b p q =
     let same = Run-only one _ _ p.replies q.replies p.last q.last p.run q.run in
     let text : report_text script.commands p.replies p.last ≡ report_text script.commands q.replies q.last = cc in
-    let memory : memory_of p.last ≡ memory_of q.last = cc in
+    let base : p.last.heap.base ≡ q.last.heap.base = cc in
+    let cells : p.last.cells ≡ q.last.cells = cc in
     let registers : p.last.registers ≡ q.last.registers = cc in
-    (p.report ∙ text ∙ sym q.report, p.registers ∙ registers ∙ sym q.registers, p.memory ∙ memory ∙ sym q.memory)
+    (p.report ∙ text ∙ sym q.report, p.registers ∙ registers ∙ sym q.registers, p.base ∙ base ∙ sym q.base, p.cells ∙ cells ∙ sym q.cells)
 
 pub Answers-only : HaveOneStep → (text : List ℕ) (a b : Outcome) → Answers text (Ok a) → Answers text (Ok b)
-    → (a.report.items ≡ b.report.items) × (a.registers ≡ b.registers) × (a.memory ≡ b.memory)
+    → (a.report.items ≡ b.report.items) × (a.registers ≡ b.registers) × (a.memory.base ≡ b.memory.base) × (a.memory.cells ≡ b.memory.cells)
 Answers-only one text a b p q =
     let read = p.1 in
     let read_again = q.1 in

@@ -4,7 +4,7 @@ use Rattle.std.specs.List.{concat}
 use Rattle.cap_codec.specs.Bytes.{bytes_of}
 use Rattle.hex.specs.Hex.{encode_lower}
 use Rattle.heap_machine.specs.Display.{bit_text, hexadecimal_text}
-use Rattle.tag_memory.specs.Cells.{Granule, MemoryState}
+use Rattle.tag_memory.specs.Cells.{Granule}
 
 -- A granule that is tagged or not all zero: these have a line, and no others.
 abbrev pub is_imaged : Granule → Bool
@@ -20,11 +20,7 @@ image_line address granule =
 abbrev pub granule_text : ℕ → Granule → List ℕ
 granule_text address granule = if is_imaged granule then image_line address granule else []
 
--- The lines of granules that lie one after the other from this address on.
-abbrev pub image_from : ℕ → List Granule → List ℕ
-image_from address [] = []
-image_from address (granule ∷ granules) = granule_text address granule ++ image_from (address + 16) granules
-
--- The image of a memory.
-abbrev pub image_of : MemoryState → List ℕ
-image_of memory = image_from memory.base memory.cells
+-- The image of granules that lie one after the other from this address on.
+abbrev pub image_of : ℕ → List Granule → List ℕ
+image_of address [] = []
+image_of address (granule ∷ granules) = granule_text address granule ++ image_of (address + 16) granules

@@ -8,7 +8,7 @@ use Rattle.std.specs.Prelude.{ℕ}
 use Rattle.trace_text.specs.Reading.{Script, trace_of}
 use Rattle.heap_trace.specs.Report.{report_text}
 use Rattle.heap_trace.specs.Run.{IsSafeRun, Run}
-use Rattle.heap_machine.specs.State.{State, first_state, memory_of}
+use Rattle.heap_machine.specs.State.{State, first_state}
 
 -- A run of these commands from the first state, safe throughout, leaves this report, these registers and
 -- this memory.
@@ -19,7 +19,8 @@ pub record IsOutcome (script : Script) (o : TheOutcome) : Type 0 where
   pub safe : IsSafeRun (first_state script.base script.pages) (map (λ c. c.1) script.commands) replies last run
   pub report : o.report.items ≡ report_text script.commands replies last
   pub registers : o.registers ≡ last.registers
-  pub memory : o.memory ≡ memory_of last
+  pub base : o.memory.base ≡ last.heap.base
+  pub cells : o.memory.cells ≡ last.cells
 
 -- The answer for a text: the outcome of the trace that it is, or its fault, or memory ran out.
 abbrev pub Answers : List ℕ → Result TheOutcome RunFault → Type 0

@@ -30,7 +30,8 @@ line_text n c r = concat (decimal n ∷ codes " " ∷ name_of c ∷ codes " " �
 
 abbrev pub lines_text : List (ℕ × Command) → List Reply → List ℕ
 lines_text (c ∷ cs) (r ∷ rs) = line_text c.0 c.1 r ++ lines_text cs rs
-lines_text _ _ = []
+lines_text [] rs = []
+lines_text (c ∷ cs) [] = []
 
 -- The bytes in no block.
 abbrev pub free_of : HeapState → ℕ

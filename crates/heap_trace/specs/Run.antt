@@ -17,7 +17,7 @@ Run old (c ∷ cs) [] new = ⊥
 -- Each state of this run is safe, the first and the last too, and each command hands out bytes safely.
 abbrev pub IsSafeRun : (old : State) (commands : List Command) (replies : List Reply) (new : State) → Run old commands replies new → Type 0
 IsSafeRun old [] [] new run = IsSafe new
-IsSafeRun old (c ∷ cs) (r ∷ rs) new run = IsSafe old × IsReuseSafe old r run.0 × IsSafeRun run.0 cs rs new run.2
+IsSafeRun old (c ∷ cs) (r ∷ rs) new run = IsSafe old × IsReuseSafe old c r run.0 × IsSafeRun run.0 cs rs new run.2
 IsSafeRun old [] (r ∷ rs) new run = ⊥
 IsSafeRun old (c ∷ cs) [] new run = ⊥
 

@@ -11,7 +11,7 @@ use tag_memory::{GRANULE, Memory};
 
 /// A line for each granule that is tagged or not all zero: its address, its tag and its bytes.
 pub fn image_text(alloc: Global, memory: &Memory) -> Result<Vec<u8>, MachineFault>
-    ensures ok { IfOk result (λ text. text.items ≡ image_of memory.now) }
+    ensures ok { IfOk result (λ text. text.items ≡ image_of memory.now.base memory.now.cells) }
     ensures err { IfErr result (λ fault. fault ≡ MachineFault.Memory) }
 {
     let Ok(text) = lines(alloc, memory) else {
@@ -22,7 +22,7 @@ pub fn image_text(alloc: Global, memory: &Memory) -> Result<Vec<u8>, MachineFaul
 
 // The lines of the granules, by rising address.
 fn lines(alloc: Global, memory: &Memory) -> Result<Vec<u8>, AllocError>
-    ensures { IfOk result (λ text. text.items ≡ image_of memory.now) }
+    ensures { IfOk result (λ text. text.items ≡ image_of memory.now.base memory.now.cells) }
 {
     let mut text = Vec::new(alloc);
     let base = memory.base();

@@ -1,10 +1,12 @@
 //! Runs of whole traces.
 
-ghost use Rattle.std.specs.Prelude.{◌≡◌, IfSome};
+ghost use Rattle.std.specs.Prelude.{◌≡◌, ◌≢◌, Err, IfOk, IfSome};
 ghost use Rattle.std.specs.List.{All};
+ghost use Rattle.trace_text.specs.declared.fault.TraceFault.{TraceFault as TheTraceFault};
 ghost use Rattle.trace_text.specs.Command.{IsListed};
+ghost use Rattle.trace_text.specs.Grammar.{IsFaulty, IsTrace};
 ghost use Rattle.trace_text.specs.Heap.{IsHeap};
-ghost use Rattle.trace_text.specs.Reading.{script_of};
+ghost use Rattle.trace_text.specs.Reading.{Script, script_of};
 ghost use Rattle.heap_trace.specs.Outcome.{Answers, IsOutcome};
 ghost use Rattle.heap_trace.specs.Report.{end_text};
 ghost use Rattle.heap_trace.specs.Run.{Told};
@@ -17,7 +19,7 @@ use std::thread::Threads;
 use sweep_pool::{Cutting, Open};
 use tag_memory::{Memory, Registers};
 use thiserror::Error;
-use trace_text::{Command, Trace, TraceFault, parse};
+use trace_text::{Command, Trace, TraceFault, parse, texts};
 
 /// What a run leaves.
 #[derive(Drop)]
@@ -38,15 +40,21 @@ pub enum RunFault {
     Trace(TraceFault),
 }
 
-/// Runs a trace from its text to its report. Nothing runs where the text is faulty.
+/// Runs a trace from its text to its report. Nothing runs where the text is faulty. Want of memory is
+/// `RunFault::Memory`, also while the text is read.
 pub fn run<R: Threads + Sync>(
     rt: &R,
     alloc: Global,
     text: &[u8],
     cutting: Cutting,
 ) -> Result<Outcome, RunFault>
-    ensures { Answers text.now result }
+    ensures answer { Answers text.now result }
+    // The same by the grammar.
+    ensures trace { IfOk result (λ outcome. (script : Script) × IsTrace text.now script × IsOutcome script outcome) }
+    ensures fault { (fault : TheTraceFault) → result ≡ Err (RunFault.Trace fault) → IsFaulty text.now fault }
+    ensures memory { result ≢ Err (RunFault.Trace TraceFault.Memory) }
 {
+    texts();
     match parse(alloc, text) {
         Err(TraceFault::Memory) => Err(RunFault::Memory),
         Err(fault) => Err(RunFault::Trace(fault)),

@@ -4,7 +4,7 @@ ghost use Rattle.std.specs.Prelude.{◌≡◌, ◌↔◌, ◌<◌, ℕ, Bool, If
 ghost use Rattle.std.specs.Io.{ReadsAtMost};
 ghost use Rattle.std.specs.Io.KnownBytes.{ReadConsumes};
 ghost use Rattle.heap_command.specs.Answer.{most_read};
-ghost use Rattle.heap_command.specs.Device.{FailsByError, ReadsMore, ReadsUpTo};
+ghost use Rattle.heap_command.specs.Device.{FailsByError, ReadsFew, ReadsMore, ReadsUpTo};
 
 use crate::devices::Failed;
 use std::alloc::{AllocError, Global};
@@ -44,11 +44,12 @@ pub enum ReadFault {
     Failed,
 }
 
-/// Reads to the end, but at most 4,194,305 bytes.
+/// Reads to the end, but at most 4,194,305 bytes, also where it errs.
 pub fn read_text<I: Source>(alloc: Global, reader: &mut I) -> Result<Vec<u8>, ReadFault>
     requires { I.failed reader.old ≡ false }
     ensures ok { IfOk result (λ text.
         ReadsUpTo most_read (I.remaining reader.old) (I.remaining reader.new) text.items) }
+    ensures few { ReadsFew most_read 0 (I.remaining reader.old) (I.remaining reader.new) }
     ensures failed { (result ≡ Err ReadFault.Failed) ↔ (I.failed reader.new ≡ true) }
 {
     let Ok(mut chunk) = new_chunk(alloc) else {
@@ -80,6 +81,7 @@ fn read_more<I: Source>(
     requires some { 0 < length chunk.old }
     ensures ok { IfOk result (λ is_at_end. ReadsMore most_read
         (I.remaining reader.old) (I.remaining reader.new) text.old.items text.new.items is_at_end) }
+    ensures few { ReadsFew most_read (length text.old.items) (I.remaining reader.old) (I.remaining reader.new) }
     ensures failed { (result ≡ Err ReadFault.Failed) ↔ (I.failed reader.new ≡ true) }
 {
     let room = chunk.len().min(MOST_READ - text.len());

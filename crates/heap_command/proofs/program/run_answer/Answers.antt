@@ -6,11 +6,11 @@ use Rattle.heap_command.proofs.program.run_answer.Goals as goal
 
 pub returns-in-Ok-clause-ok : goal.returns-in-Ok-clause-ok
 returns-in-Ok-clause-ok g c =
-    let (script, reads, is) = c.in-Ok.ensures in
+    let (script, reads, is) = c.in-Ok.ensures.answer in
     IsRunAnswer-report c.args.text.now c.args.options script c.in-Ok.outcome c.outcome_answer.result reads is c.outcome_answer.ensures.ok
 
 pub returns-in-Err-Trace-clause-ok : goal.returns-in-Err-Trace-clause-ok
 returns-in-Err-Trace-clause-ok g c =
-    let answers = subst (λ e. Answers c.args.text.now (Err e)) c.in-Err-Trace.field-0-is c.in-Err-Trace.ensures in
+    let answers = subst (λ e. Answers c.args.text.now (Err e)) c.in-Err-Trace.field-0-is c.in-Err-Trace.ensures.answer in
     let told = subst (λ f. IfOk c.fault_answer.result (λ answer. (answer.status ≡ 3) × (answer.text.items ≡ fault_text f))) c.in-Err-Trace.fault-is c.fault_answer.ensures.ok in
     IsRunAnswer-fault c.args.text.now c.args.options c.in-Err-Trace.fault c.fault_answer.result answers told

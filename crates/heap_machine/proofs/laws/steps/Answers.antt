@@ -1,6 +1,7 @@
 use Rattle.heap_machine.proofs.OneStep.{Step-only, Step-some}
 use Rattle.heap_machine.proofs.RevokedLaws.{Step-revoked}
 use Rattle.heap_machine.proofs.SafeSteps.{Laws, Step-safe}
+use Rattle.heap_machine.proofs.SoundLaws.{IsSafe-first}
 use Rattle.heap_machine.proofs.UnusedLaws.{Step-unused}
 use Rattle.heap_machine.proofs.laws.steps.Goals as goal
 
@@ -9,6 +10,9 @@ returns-clause-one c = λ old command. Step-some old command
 
 pub returns-clause-only : goal.returns-clause-only
 returns-clause-only c = λ old command reply other new left p q. Step-only old command reply other new left p q
+
+pub returns-clause-first : goal.returns-clause-first
+returns-clause-first c = λ base pages size place. IsSafe-first base pages size place
 
 pub returns-clause-safe : goal.returns-clause-safe
 returns-clause-safe c =

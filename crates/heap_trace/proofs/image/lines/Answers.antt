@@ -1,6 +1,6 @@
 use Rattle.std.proofs.Common.{◌+◌, ◌*◌, ◌∙◌, ◌++◌, ap, sym}
 use Rattle.heap_trace.specs.Image.{granule_text}
-use Rattle.heap_trace.proofs.ImageLaws.{image_from-more}
+use Rattle.heap_trace.proofs.ImageLaws.{image_of-more}
 use Rattle.heap_trace.proofs.image.lines.Goals as goal
 
 pub loop-i-preserved : goal.loop-i-preserved
@@ -10,4 +10,4 @@ loop-i-preserved c =
     let at = c.base-base.result + 16 * i in
     let lies = ap (λ base. base + 16 * i) c.base-base.ensures.value in
     c.in_ok-push_granule.ensures ∙ ap (λ text. text ++ granule_text at c.cell.result) c.loop-i.invariant
-    ∙ sym (image_from-more memory.base at memory.cells i c.cell.result c.cell.ensures lies)
+    ∙ sym (image_of-more memory.base at memory.cells i c.cell.result c.cell.ensures lies)
