@@ -14,4 +14,5 @@ pub mod MantissaLaws
 pub mod PlaceLaws
 pub mod RepresentLaws
 pub mod RoundingLaws
+pub mod WindowLaws
 pub mod WindowSizes
