@@ -26,7 +26,7 @@ pub fn bounds(w: Word) -> Bounds
     let f = fields(w);
     let exponent = exponent_in(f);
     let unit = unit_of(exponent);
-    let size = unit << 14;
+    let size = unit * (1 << 14);
     let base_mantissa = base_mantissa_in(f);
     let top_mantissa = top_mantissa_in(f);
     let mark = scaled((base_mantissa / 2048 + 7) % 8 * 2048, unit);
