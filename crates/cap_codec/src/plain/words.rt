@@ -1,6 +1,6 @@
 //! From a word to its fields and back, by division.
 
-ghost use Rattle.std.specs.Prelude.{◌≡◌, ◌<◌, ◌/◌, ◌%◌, ◌^◌};
+ghost use Rattle.std.specs.Prelude.{◌≡◌, ◌<◌, ◌^◌};
 ghost use Rattle.cap_codec.specs.Fields.{IsValid, bits_with, fields_of, metadata_with};
 
 use crate::decode::turned;
@@ -14,13 +14,13 @@ pub fn fields(w: Word) -> Fields
 {
     let metadata = turned((w.bits / (1 << 64)) as u64);
     Fields {
-        perms: part(metadata, 1 << 48, 1 << 16) as u16,
-        reserved: part(metadata, 1 << 46, 1 << 2) as u8,
-        flag: part(metadata, 1 << 45, 2) == 1,
-        otype: part(metadata, 1 << 27, 1 << 18) as u32,
-        internal: part(metadata, 1 << 26, 2) == 1,
-        top12: part(metadata, 1 << 14, 1 << 12) as u16,
-        base14: part(metadata, 1, 1 << 14) as u16,
+        perms: (metadata / (1 << 48) % (1 << 16)) as u16,
+        reserved: (metadata / (1 << 46) % (1 << 2)) as u8,
+        flag: metadata / (1 << 45) % 2 == 1,
+        otype: (metadata / (1 << 27) % (1 << 18)) as u32,
+        internal: metadata / (1 << 26) % 2 == 1,
+        top12: (metadata / (1 << 14) % (1 << 12)) as u16,
+        base14: (metadata % (1 << 14)) as u16,
         address: (w.bits % (1 << 64)) as u64,
     }
 }
@@ -36,16 +36,6 @@ pub fn word_of(f: Fields) -> Word
     Word {
         bits: u128::from(metadata) * (1 << 64) + u128::from(f.address),
     }
-}
-
-// The part of the metadata from this unit on that has so many values.
-fn part(metadata: u64, unit: u64, values: u64) -> u64
-    requires unit { 0 < unit }
-    requires values { 0 < values }
-    ensures value { result ≡ metadata / unit % values }
-    ensures limit { result < values }
-{
-    metadata / unit % values
 }
 
 // The metadata in register form that has these fields.
