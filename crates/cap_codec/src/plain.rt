@@ -1,5 +1,5 @@
 //! The same calls as at the crate's root, by plain integer arithmetic, as their definitions say them:
-//! by products, quotients and remainders, which the calls at the root don't share.
+//! by products, quotients and remainders. They share no arithmetic with those at the root.
 
 ghost use Rattle.std.specs.Prelude.{◌≡◌, ◌<◌, ◌≤◌, ◌+◌, ◌-◌, ◌*◌, ◌%◌, ◌^◌, ◌↔◌, IsTrue, ℕ};
 ghost use Rattle.cap_codec.specs.Bounds.{IsBounds, bounds_of, corrected, place_in};
