@@ -11,9 +11,10 @@ use Rattle.cap_codec.specs.Corrections.{place_with}
 use Rattle.cap_codec.specs.Fields.{bit_of}
 use Rattle.cap_codec.specs.Integers.{IsCongruent}
 use Rattle.cap_codec.specs.Mantissas.{exponent_of}
-use Rattle.cap_codec.specs.Representable.{IsInWindow, window_offset}
+use Rattle.cap_codec.specs.Representable.{IsInWindow}
 use Rattle.cap_codec.proofs.BoundsLaws.{IsWindowAt-window_start}
 use Rattle.cap_codec.proofs.IntegerCorrections.{start_eighth, window_start-corrected}
+use Rattle.cap_codec.proofs.WindowLaws.{in_window, near_start, window_offset}
 
 -- low is the window's start modulo 2 ^ 64, each part under a name of its own.
 pub start-congruent : (f : Fields) (e s n y low : ℕ) (z : ℤ) → e ≡ exponent_of f → s ≡ start_eighth f → n ≡ s * 2 ^ 11
@@ -62,7 +63,7 @@ in_window-test f e a low e_is h small c =
     let size : 2 ^ (e + 14) ≡ window_size f = ap (λ k. 2 ^ (k + 14)) e_is in
     let forth : IsTrue (x / 2 ^ e / 2 ^ 14 == 0) → IsInWindow f a = λ t.
     let zero : x / 2 ^ e / 2 ^ 14 ≡ 0 = grind (arith, nat_tests) in
-    inr (omega (arith, below_size e x zero)) in
+    in_window f a h (inr (omega (arith, below_size e x zero))) in
     let test : x < 2 ^ (e + 14) → IsTrue (x / 2 ^ e / 2 ^ 14 == 0) = λ l.
     let zero = no_bits_above e x l in
     grind (arith, nat_tests) in
@@ -70,7 +71,7 @@ in_window-test f e a low e_is h small c =
     let more : 64 ≤ e + 14 = omega arith in
     let p : 2 ^ 64 ≤ 2 ^ (e + 14) = pow-le-pow_right (omega arith) more in
     omega arith in
-    (forth, λ i. ⊎_elim (λ l. test (wide l)) (λ l. test (omega (arith, l))) i)
+    (forth, λ i. ⊎_elim (λ l. test (wide l)) (λ l. test (omega (arith, l))) (near_start f a h i))
 
 -- Tests that say the same are equal.
 pub same_tests : (p q : Bool) → (IsTrue p → IsTrue q) → (IsTrue q → IsTrue p) → p ≡ q

@@ -15,7 +15,7 @@ use Rattle.cap_codec.proofs.WindowSizes.{origin_is}
 use Rattle.cap_codec.proofs.RoundingLaws.{IsExponent-exponent_for, exponent_for-le, long_enough, round_down-le, round_down-near, round_up-room}
 
 -- A multiple of v modulo m times v.
-mul-mod-mul : (k m v : ℕ) → 0 < m → 0 < v → (k * v) % (m * v) ≡ k % m * v
+pub mul-mod-mul : (k m v : ℕ) → 0 < m → 0 < v → (k * v) % (m * v) ≡ k % m * v
 mul-mod-mul k m v hm hv =
     let d = div-add-mod k m in
     let r = mod-lt k hm in

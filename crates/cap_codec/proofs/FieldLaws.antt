@@ -28,7 +28,7 @@ bit_is_test : (b : Bool) → (bit_of b == 1) ≡ b
 bit_is_test true = refl
 bit_is_test false = refl
 
-bit_of-lt : (b : Bool) → bit_of b < 2
+pub bit_of-lt : (b : Bool) → bit_of b < 2
 bit_of-lt true = omega arith
 bit_of-lt false = omega arith
 
@@ -109,3 +109,15 @@ pub fields_of-with_address : (w v : Word) (a : ℕ) → v.bits / 2 ^ 64 ≡ w.bi
 unfolding fields_of
 fields_of-with_address w v a high low =
     ap (λ h. fields_in (bit_xor h null_metadata) (v.bits % 2 ^ 64)) high ∙ ap (λ n. fields_in (metadata_of w.bits) n) low
+
+-- The bits of a word with these fields are 128.
+pub bits_with-lt : (f : Fields) → IsValid f → IsInRange f → bits_with f < 2 ^ 128
+unfolding bits_with
+bits_with-lt f v r =
+    let metadata : metadata_with f < 2 ^ 64 = omega (arith, bit_of-lt f.flag, bit_of-lt f.internal) in
+    let turned : bit_xor (metadata_with f) null_metadata < 2 ^ 64 = xor_lt 64 (metadata_with f) null_metadata metadata (omega arith) in
+    omega arith
+
+pub IsValid-fields_of : (w : Word) → IsValid (fields_of w)
+unfolding fields_of
+IsValid-fields_of w = record { reserved = omega arith; otype = omega arith; top12 = omega arith; base14 = omega arith }

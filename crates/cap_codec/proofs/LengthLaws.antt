@@ -27,7 +27,7 @@ round_up-same k j n h z =
     omega (arith, d, le-round_up k n)
 
 -- Bounds that are multiples of a unit for which they are short enough stay as they are.
-outward-aligned : (base l e : ℕ) → base % 2 ^ (e + 3) ≡ 0 → l % 2 ^ (e + 3) ≡ 0 → l < 2 ^ (e + 13) → base + l ≤ 2 ^ 64
+pub outward-aligned : (base l e : ℕ) → base % 2 ^ (e + 3) ≡ 0 → l % 2 ^ (e + 3) ≡ 0 → l < 2 ^ (e + 13) → base + l ≤ 2 ^ 64
     → outward base (base + l) ≡ record { base = base; top = base + l }
 outward-aligned base l e zb zl short room =
     let unit = 2 ^ (e + 3) in
@@ -43,7 +43,7 @@ outward-aligned base l e zb zl short room =
     let high : outward_top base (base + l) ≡ base + l = ⊎_elim (λ t. rw t refl) (λ f. rw f up) (cases_Bool (is_short base (base + l))) in
     same_bounds (outward base (base + l)) (record { base = base; top = base + l }) low high
 
-outward-short : (base l : ℕ) → l < 2 ^ 12 → outward base (base + l) ≡ record { base = base; top = base + l }
+pub outward-short : (base l : ℕ) → l < 2 ^ 12 → outward base (base + l) ≡ record { base = base; top = base + l }
 outward-short base l h = let short : is_short base (base + l) ≡ true = grind (arith, nat_tests) in rw short refl
 
 -- ---- the representable length and its unit

@@ -5,6 +5,7 @@ pub mod CorrectedWindow
 pub mod CorrectionLaws
 pub mod CountedBounds
 pub mod EncodeLaws
+pub mod ExactLaws
 pub mod ExponentLaws
 pub mod FieldLaws
 pub mod IntegerCorrections
@@ -14,4 +15,6 @@ pub mod MantissaLaws
 pub mod PlaceLaws
 pub mod RepresentLaws
 pub mod RoundingLaws
+pub mod UnitLaws
+pub mod WindowLaws
 pub mod WindowSizes

@@ -8,9 +8,10 @@ use Rattle.cap_codec.specs.declared.word.Bounds.{Bounds}
 use Rattle.cap_codec.specs.declared.word.Fields.{Fields}
 use Rattle.cap_codec.specs.Mantissas.{base_mantissa, exponent_of, top_mantissa}
 use Rattle.cap_codec.specs.Bounds.{base_place, bounds_of, corrected, origin, place_in, top_place, window_size, window_start}
-use Rattle.cap_codec.specs.Representable.{IsInWindow, IsRepresentable, is_representable, window_offset}
+use Rattle.cap_codec.specs.Representable.{IsInWindow, IsRepresentable, is_representable}
 use Rattle.cap_codec.proofs.BoundsLaws.{IsTopAt-corrected, IsWindowAt-window_start, near_unique, same_bounds}
 use Rattle.cap_codec.proofs.CountedBounds.{IsWindowAt, IsWindowAt-unique}
+use Rattle.cap_codec.proofs.WindowLaws.{in_window, near_start, window_offset}
 
 -- The two windows' starts are congruent.
 starts-congruent : (f : Fields) (a : ℕ) → window_start (let r : Fields = record f { address = a } in r) % window_size f ≡ window_start f % window_size f
@@ -120,7 +121,7 @@ pub representable-inside : (f : Fields) (a : ℕ) → f.address < 2 ^ 64 → a <
 representable-inside f a h k i =
     ⊎_elim
     (λ below. ⊎_elim (λ l. same-from_50 f a l)
-    (λ o. same-below_51 f a (let r : exponent_of f < 51 = omega (arith, below) in r) (start-inside f a h k below o)) i)
+    (λ o. same-below_51 f a (let r : exponent_of f < 51 = omega (arith, below) in r) (start-inside f a h k below o)) (near_start f a h i))
     (λ above. same-from_50 f a above) (cases_lt (exponent_of f) 50)
 
 -- The law, the other way.
@@ -140,7 +141,7 @@ inside-representable f a h k r =
     let s : 2 ^ 64 + (origin + a) ≡ origin + 2 ^ 64 + a = omega arith in
     let o = offset-of (origin + a) low (window_start g) m (omega (arith, w.holds)) same v.holds v.ends small in
     subst (λ x. (x - low) % 2 ^ 64 < m) s o in
-    ⊎_elim (λ below. inr (narrow below)) (λ above. inl above) (cases_lt (exponent_of f) 50)
+    ⊎_elim (λ below. in_window f a h (inr (narrow below))) (λ above. inl above) (cases_lt (exponent_of f) 50)
 
 -- The test says so.
 pub is_representable-is : (f : Fields) (a : ℕ) → IsTrue (is_representable f a) ↔ IsRepresentable f a

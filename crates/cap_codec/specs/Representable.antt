@@ -1,8 +1,9 @@
 -- Which addresses keep a word's bounds (Woodruff et al. 2019, CHERI Concentrate: the representable space;
 -- CHERI ISA version 9, UCAM-CL-TR-987: fast representability).
-use Rattle.std.specs.Prelude.{◌≡◌, ◌<◌, ◌≤◌, ◌+◌, ◌-◌, ◌%◌, ◌^◌, ◌==◌, ◌&&◌, ℕ, Bool, ◌⊎◌}
+use Rattle.std.specs.Prelude.{◌≡◌, ◌≤◌, ◌^◌, ◌==◌, ◌&&◌, ℕ, ℤ, pos, Bool, ◌⊎◌}
 use Rattle.cap_codec.specs.declared.word.Fields.{Fields}
-use Rattle.cap_codec.specs.Bounds.{bounds_of, origin, window_size, window_start}
+use Rattle.cap_codec.specs.Bounds.{IsWindow, bounds_of, window_size}
+use Rattle.cap_codec.specs.Integers.{IsCongruent, IsWithin}
 use Rattle.cap_codec.specs.Mantissas.{exponent_of}
 
 -- The word with address a has the bounds that the word has.
@@ -16,11 +17,14 @@ is_representable f a =
     let here = bounds_of f in
     moved.base == here.base && moved.top == here.top
 
--- How far a is above the window's start, around the address space.
-abbrev pub window_offset : Fields → ℕ → ℕ
-window_offset f a = (origin + 2 ^ 64 + a - window_start f) % 2 ^ 64
+-- a, modulo 2 ^ 64, is one of the integers of the window. So the window may wrap around the address space.
+pub record IsInside (f : Fields) (a : ℕ) : Type 0 where
+  pub low : ℤ
+  pub n : ℤ
+  pub window : IsWindow f low
+  pub within : IsWithin low (window_size f) n
+  pub congruent : IsCongruent (2 ^ 64) (pos a) n
 
--- The exponent is at least 50, or a is in the window, which may wrap around the address space. (The limit
--- 50 is this project's profile.)
+-- The exponent is at least 50, or a is inside the window. (The limit 50 is this project's profile.)
 abbrev pub IsInWindow : Fields → ℕ → Type 0
-IsInWindow f a = (50 ≤ exponent_of f) ⊎ (window_offset f a < window_size f)
+IsInWindow f a = (50 ≤ exponent_of f) ⊎ IsInside f a

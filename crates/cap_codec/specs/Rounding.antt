@@ -4,6 +4,9 @@
 use Rattle.std.specs.Prelude.{◌≡◌, ◌<◌, ◌≤◌, ◌+◌, ◌-◌, ◌*◌, ◌/◌, ◌%◌, ◌^◌, nat_lt, zero, suc, ℕ, Bool, true, false, if◌then◌else◌}
 use Rattle.cap_codec.specs.declared.word.Bounds.{Bounds}
 use Rattle.cap_codec.specs.declared.word.Fields.{Fields}
+use Rattle.cap_codec.specs.declared.word.Word.{Word}
+use Rattle.cap_codec.specs.Bounds.{bounds_of}
+use Rattle.cap_codec.specs.Fields.{fields_of}
 
 -- n down to a multiple of 2 ^ k.
 abbrev pub round_down : ℕ → ℕ → ℕ
@@ -65,9 +68,15 @@ outward_top base top = if is_short base top then top else round_up (exponent_for
 abbrev pub outward : ℕ → ℕ → Bounds
 outward base top = record { base = outward_base base top; top = outward_top base top }
 
--- A word can hold these bounds as they are.
+-- A word can hold these bounds as they are: they are the same once they are rounded outward.
 abbrev pub IsExact : ℕ → ℕ → Type 0
 IsExact base top = outward base top ≡ record { base = base; top = top }
+
+-- Some word decodes to these bounds.
+pub record IsDecoded (base top : ℕ) : Type 0 where
+  pub word : Word
+  pub fits : word.bits < 2 ^ 128
+  pub has : bounds_of (fields_of word) ≡ record { base = base; top = top }
 
 -- The fields with these bounds, rounded outward, and the address at `base`; permissions, reserved, flag and
 -- type stay. The low 3 bits of rounded mantissas are 0, and the exponent's two halves take their place.

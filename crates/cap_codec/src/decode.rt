@@ -9,7 +9,7 @@ use crate::word::{Fields, Word};
 const NULL_METADATA: u64 = 0x0000_1fff_fc01_8004;
 
 // The metadata in register form of that in memory form, and the other way round.
-fn turned(metadata: u64) -> u64
+pub fn turned(metadata: u64) -> u64
     ensures { result ≡ bit_xor metadata null_metadata }
 {
     metadata ^ NULL_METADATA

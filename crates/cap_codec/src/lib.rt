@@ -19,7 +19,7 @@ pub use crate::bytes::{from_bytes, to_bytes};
 pub use crate::corrected::{bounds, corrections, representable};
 pub use crate::decode::{fields, word_of};
 pub use crate::derive::{and_perms, set_address};
-pub use crate::laws::derivations;
+pub use crate::laws::{derivations, exact_bounds, null_is_zeros};
 pub use crate::mantissas::exponent;
 pub use crate::rounding::{alignment_mask, representable_length, with_bounds};
 pub use crate::word::{Bounds, Fields, Word};

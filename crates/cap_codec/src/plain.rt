@@ -1,20 +1,18 @@
-//! The same calls as at the crate's root, by plain integer arithmetic, as their definitions say them.
+//! The same calls as at the crate's root, by plain integer arithmetic, as their definitions say them:
+//! by products, quotients and remainders. They share no arithmetic with those at the root.
 
 ghost use Rattle.std.specs.Prelude.{◌≡◌, ◌<◌, ◌≤◌, ◌+◌, ◌-◌, ◌*◌, ◌%◌, ◌^◌, ◌↔◌, IsTrue, ℕ};
 ghost use Rattle.cap_codec.specs.Bounds.{IsBounds, bounds_of, corrected, place_in};
-ghost use Rattle.cap_codec.specs.Fields.{bits_with, fields_of};
-ghost use Rattle.cap_codec.specs.Mantissas.{exponent_of};
+ghost use Rattle.cap_codec.specs.Fields.{fields_of};
 ghost use Rattle.cap_codec.specs.Representable.{IsInWindow, IsRepresentable, is_representable};
-ghost use Rattle.cap_codec.specs.Rounding.{IsExact, IsExponent, IsNearExponent, exponent_for, length_for, outward, unit_for, with_bounds_of};
 
-use crate::decode::fields;
-use crate::derive::set_address;
+mod rounding;
+mod words;
+
 use crate::mantissas::{base_mantissa_in, exponent_in, top_mantissa_in};
-use crate::rounded::{fits, length_with, mask_with, with_exponent};
-use crate::word::{Bounds, Word};
-
-// No bounds need a greater exponent.
-const MAX_EXPONENT: u8 = 52;
+pub use crate::plain::rounding::{alignment_mask, representable_length, with_bounds};
+pub use crate::plain::words::{fields, word_of};
+use crate::word::{Bounds, Fields, Word};
 
 // Integers are counted from here on, so that a window below address 0 needs no signed number.
 const ORIGIN: u128 = 1 << 66;
@@ -28,7 +26,7 @@ pub fn bounds(w: Word) -> Bounds
     let f = fields(w);
     let exponent = exponent_in(f);
     let unit = unit_of(exponent);
-    let size = unit << 14;
+    let size = unit * (1 << 14);
     let base_mantissa = base_mantissa_in(f);
     let top_mantissa = top_mantissa_in(f);
     let mark = scaled((base_mantissa / 2048 + 7) % 8 * 2048, unit);
@@ -48,49 +46,11 @@ pub fn representable(w: Word, address: u64) -> bool
     ensures same { IsTrue result ↔ IsRepresentable (fields_of w) address }
     ensures window { IsTrue result ↔ IsInWindow (fields_of w) address }
 {
-    bounds(set_address(w, address)) == bounds(w)
-}
-
-/// The word with these bounds, rounded outward where it can't hold them, and its address at `base`;
-/// and whether it holds them exactly.
-pub fn with_bounds(w: Word, base: u64, top: u128) -> (Word, bool)
-    requires order { base ≤ top }
-    requires room { top ≤ 2 ^ 64 }
-    ensures fields { fields_of result.0 ≡ with_bounds_of (fields_of w) base top }
-    ensures word { result.0.bits ≡ bits_with (with_bounds_of (fields_of w) base top) }
-    ensures bounds { bounds_of (fields_of result.0) ≡ outward base top }
-    ensures limit { (outward base top).top ≤ 2 ^ 64 }
-    ensures exact { IsTrue result.1 ↔ IsExact base top }
-
-    // Bounds that aren't short get the least exponent that is enough.
-    ensures exponent { 2 ^ 12 ≤ top - base
-        → IsExponent base top (exponent_of (fields_of result.0)) }
-    ensures near { 2 ^ 12 ≤ top - base
-        → IsNearExponent (top - base) (exponent_of (fields_of result.0)) }
-{
-    with_exponent(w, base, top, first_exponent(base, top))
-}
-
-/// The least length from `n` on that a word can hold from address 0.
-pub fn representable_length(n: u64) -> u128
-    ensures value { result ≡ length_for n }
-    ensures least { n ≤ result }
-    ensures limit { result ≤ 2 ^ 64 }
-    ensures minimal { (m : ℕ) → n ≤ m → m ≤ 2 ^ 64 → IsExact 0 m → result ≤ m }
-
-    // A word holds it from each multiple of its unit on.
-    ensures exact { (base : ℕ) → base % unit_for n ≡ 0 → base + result ≤ 2 ^ 64
-        → IsExact base (base + result) }
-{
-    length_with(n, first_exponent(0, u128::from(n)))
-}
-
-/// The mask of the addresses from which a word can hold the representable length of `n`: the
-/// multiples of its unit.
-pub fn alignment_mask(n: u64) -> u64
-    ensures { result + unit_for n ≡ 2 ^ 64 }
-{
-    mask_with(n, first_exponent(0, u128::from(n)))
+    let moved = word_of(Fields {
+        address,
+        ..fields(w)
+    });
+    bounds(moved) == bounds(w)
 }
 
 // What one step of a mantissa is worth at this exponent.
@@ -140,19 +100,4 @@ fn corrected_top(exponent: u8, base: u64, top: u128) -> u128
     } else {
         top
     }
-}
-
-// The first exponent for which the bounds, rounded, are short enough.
-fn first_exponent(base: u64, top: u128) -> u8
-    requires order { base ≤ top }
-    requires room { top ≤ 2 ^ 64 }
-    ensures value { result ≡ exponent_for base top }
-    ensures limit { result ≤ 52 }
-{
-    for exponent in 0..MAX_EXPONENT {
-        if fits(base, top, exponent) {
-            return exponent;
-        }
-    }
-    MAX_EXPONENT
 }

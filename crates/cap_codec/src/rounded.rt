@@ -47,6 +47,10 @@ pub fn length_with(n: u64, exponent: u8) -> u128
     // A word holds it from each multiple of its unit on.
     ensures exact { (base : ℕ) → base % unit_for n ≡ 0 → base + result ≤ 2 ^ 64
         → IsExact base (base + result) }
+
+    // It is rounded up for the least exponent that is enough, and a short one not at all.
+    ensures short { n < 2 ^ 12 → result ≡ n }
+    ensures exponent { 2 ^ 12 ≤ n → (e : ℕ) × IsExponent 0 n e × (result ≡ round_up (e + 3) n) }
 {
     outward_bounds(0, u128::from(n), exponent).top
 }
@@ -55,7 +59,11 @@ pub fn length_with(n: u64, exponent: u8) -> u128
 pub fn mask_with(n: u64, exponent: u8) -> u64
     requires exponent { exponent ≡ exponent_for 0 n }
     requires limit { exponent ≤ 52 }
-    ensures { result + unit_for n ≡ 2 ^ 64 }
+    ensures value { result + unit_for n ≡ 2 ^ 64 }
+    ensures short { n < 2 ^ 12 → result + 1 ≡ 2 ^ 64 }
+
+    // The unit of the least exponent that is enough.
+    ensures exponent { 2 ^ 12 ≤ n → (e : ℕ) × IsExponent 0 n e × (result + 2 ^ (e + 3) ≡ 2 ^ 64) }
 {
     if u128::from(n) < SHORT {
         u64::MAX

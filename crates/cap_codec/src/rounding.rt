@@ -1,10 +1,10 @@
 //! Words that are made for bounds, and the lengths that a word can hold.
 
-ghost use Rattle.std.specs.Prelude.{◌≡◌, ◌≤◌, ◌+◌, ◌-◌, ◌%◌, ◌^◌, ◌↔◌, IsTrue, ℕ};
+ghost use Rattle.std.specs.Prelude.{◌≡◌, ◌<◌, ◌≤◌, ◌+◌, ◌-◌, ◌%◌, ◌^◌, ◌↔◌, IsTrue, ℕ};
 ghost use Rattle.cap_codec.specs.Bounds.{bounds_of};
 ghost use Rattle.cap_codec.specs.Fields.{bits_with, fields_of};
 ghost use Rattle.cap_codec.specs.Mantissas.{exponent_of};
-ghost use Rattle.cap_codec.specs.Rounding.{IsExact, IsExponent, IsNearExponent, exponent_for, length_for, outward, unit_for, with_bounds_of};
+ghost use Rattle.cap_codec.specs.Rounding.{IsExact, IsExponent, IsNearExponent, exponent_for, length_for, outward, round_up, unit_for, with_bounds_of};
 
 use crate::rounded::{SHORT, fits, length_with, mask_with, with_exponent};
 use crate::word::Word;
@@ -39,6 +39,10 @@ pub fn representable_length(n: u64) -> u128
     // A word holds it from each multiple of its unit on.
     ensures exact { (base : ℕ) → base % unit_for n ≡ 0 → base + result ≤ 2 ^ 64
         → IsExact base (base + result) }
+
+    // It is rounded up for the least exponent that is enough, and a short one not at all.
+    ensures short { n < 2 ^ 12 → result ≡ n }
+    ensures exponent { 2 ^ 12 ≤ n → (e : ℕ) × IsExponent 0 n e × (result ≡ round_up (e + 3) n) }
 {
     length_with(n, least_exponent(0, u128::from(n)))
 }
@@ -46,7 +50,11 @@ pub fn representable_length(n: u64) -> u128
 /// The mask of the addresses from which a word can hold the representable length of `n`: the
 /// multiples of its unit.
 pub fn alignment_mask(n: u64) -> u64
-    ensures { result + unit_for n ≡ 2 ^ 64 }
+    ensures value { result + unit_for n ≡ 2 ^ 64 }
+    ensures short { n < 2 ^ 12 → result + 1 ≡ 2 ^ 64 }
+
+    // The unit of the least exponent that is enough.
+    ensures exponent { 2 ^ 12 ≤ n → (e : ℕ) × IsExponent 0 n e × (result + 2 ^ (e + 3) ≡ 2 ^ 64) }
 {
     mask_with(n, least_exponent(0, u128::from(n)))
 }

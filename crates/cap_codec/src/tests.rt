@@ -340,6 +340,8 @@ fn decoding_is_the_plain_one(rt: HostRuntime) {
             };
             for address in edges(field) {
                 let w = word_of(Fields { address, ..with });
+                assert_eq!(rt; fields(w), plain::fields(w), "at {field}");
+                assert_eq!(rt; w, plain::word_of(fields(w)), "at {field}");
                 assert_eq!(rt; bounds(w), plain::bounds(w), "at {field}");
                 for other in edges(field) {
                     let kept = plain::representable(w, other);

@@ -10,8 +10,10 @@ use Rattle.cap_codec.proofs.plain.representable.Goals as goal
 pub returns-clause-value : goal.returns-clause-value
 unfolding is_representable
 returns-clause-value c =
+    let moved_fields : (let r : Fields = record c.fields.result { address = c.args.address } in r) ≡ record (fields_of c.args.w) { address = c.args.address } =
+    ap (λ (f : Fields). let r : Fields = record f { address = c.args.address } in r) c.fields.ensures.value in
     let moved : c.bounds.result ≡ bounds_of (let r : Fields = record (fields_of c.args.w) { address = c.args.address } in r) =
-    c.bounds.ensures.value ∙ ap bounds_of c.set_address.ensures.fields in
+    c.bounds.ensures.value ∙ ap bounds_of (c.word_of-moved.ensures.fields ∙ moved_fields) in
     let here = c.bounds-2.ensures.value in
     cc c.eq.ensures
 

@@ -1,6 +1,7 @@
-use Rattle.std.proofs.Common.{arith, rules}
-use Rattle.cap_codec.specs.Rounding.{length_for}
-use Rattle.cap_codec.proofs.LengthLaws.{length_for-least, outward-length_for}
+use Rattle.std.proofs.Common.{◌∙◌, arith, rules}
+use Rattle.cap_codec.specs.Rounding.{exponent_for, length_for}
+use Rattle.cap_codec.proofs.LengthLaws.{length_for-least, length_for-long, outward-length_for}
+use Rattle.cap_codec.proofs.RoundingLaws.{IsExponent-exponent_for}
 use Rattle.cap_codec.proofs.rounded.length_with.Goals as goal
 
 pub returns-clause-value : goal.returns-clause-value
@@ -14,3 +15,7 @@ returns-clause-exact c = λ base aligned room.
 
 pub returns-clause-minimal : goal.returns-clause-minimal
 returns-clause-minimal c = λ m h room held. rw (returns-clause-value c) (length_for-least c.args.n m h room held)
+
+pub returns-clause-exponent : goal.returns-clause-exponent
+returns-clause-exponent c = λ long.
+    (exponent_for 0 c.args.n, IsExponent-exponent_for 0 c.args.n (omega arith) (omega arith), returns-clause-value c ∙ length_for-long c.args.n long)

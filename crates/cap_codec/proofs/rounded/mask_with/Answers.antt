@@ -2,13 +2,19 @@ use Rattle.std.proofs.Common.{◌≡◌, ◌≤◌, ◌+◌, ◌^◌, arith, rul
 use Rattle.std.proofs.Math.Nat.{pow-le-pow_right}
 use Rattle.cap_codec.specs.Rounding.{exponent_for}
 use Rattle.cap_codec.proofs.LengthLaws.{unit_for-long, unit_for-short}
+use Rattle.cap_codec.proofs.RoundingLaws.{IsExponent-exponent_for}
 use Rattle.cap_codec.proofs.rounded.mask_with.Goals as goal
 
-pub returns-then-from-lt-SHORT : goal.returns-then-from-lt-SHORT
-returns-then-from-lt-SHORT c = omega (arith, unit_for-short c.args.n (omega arith))
+pub returns-then-from-lt-SHORT-clause-value : goal.returns-then-from-lt-SHORT-clause-value
+returns-then-from-lt-SHORT-clause-value c = omega (arith, unit_for-short c.args.n (omega arith))
 
-pub returns-else-from-lt-SHORT : goal.returns-else-from-lt-SHORT
-returns-else-from-lt-SHORT c =
+pub returns-else-from-lt-SHORT-clause-value : goal.returns-else-from-lt-SHORT-clause-value
+returns-else-from-lt-SHORT-clause-value c =
     let unit_is : c.power.result ≡ 2 ^ (exponent_for 0 c.args.n + 3) = search rules in
     let limit : 2 ^ (c.args.exponent + 3) ≤ 2 ^ 55 = let e : c.args.exponent + 3 ≤ 55 = omega arith in pow-le-pow_right (omega arith) e in
     omega (arith, unit_for-long c.args.n (omega arith))
+
+pub returns-else-from-lt-SHORT-clause-exponent : goal.returns-else-from-lt-SHORT-clause-exponent
+returns-else-from-lt-SHORT-clause-exponent c = λ long.
+    let value = returns-else-from-lt-SHORT-clause-value c in
+    (exponent_for 0 c.args.n, IsExponent-exponent_for 0 c.args.n (omega arith) (omega arith), omega (arith, value, unit_for-long c.args.n long))

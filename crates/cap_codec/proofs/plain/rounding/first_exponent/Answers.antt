@@ -1,7 +1,7 @@
 use Rattle.std.proofs.Common.{arith, rules}
 use Rattle.cap_codec.specs.Rounding.{Fits}
 use Rattle.cap_codec.proofs.RoundingLaws.{exponent_for-is, fits_at_52}
-use Rattle.cap_codec.proofs.plain.first_exponent.Goals as goal
+use Rattle.cap_codec.proofs.plain.rounding.first_exponent.Goals as goal
 
 pub returns-then-fits-clause-value : goal.returns-then-fits-clause-value
 returns-then-fits-clause-value c =

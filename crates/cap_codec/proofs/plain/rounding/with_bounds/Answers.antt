@@ -1,0 +1,24 @@
+use Rattle.std.proofs.Common.{◌≡◌, rules, sym, ap, ◌∙◌, subst}
+use Rattle.cap_codec.specs.Bounds.{bounds_of}
+use Rattle.cap_codec.specs.Fields.{fields_of}
+use Rattle.cap_codec.specs.Mantissas.{exponent_of}
+use Rattle.cap_codec.specs.Rounding.{IsExponent, exponent_for}
+use Rattle.cap_codec.proofs.EncodeLaws.{bounds_of-with_bounds_of, exponent_of-with_bounds_of}
+use Rattle.cap_codec.proofs.RoundingLaws.{IsExponent-exponent_for, IsNearExponent-from}
+use Rattle.cap_codec.proofs.plain.rounding.with_bounds.Goals as goal
+
+pub returns-clause-fields : goal.returns-clause-fields
+returns-clause-fields c = search rules
+
+pub returns-clause-bounds : goal.returns-clause-bounds
+returns-clause-bounds c =
+    ap bounds_of (returns-clause-fields c) ∙ bounds_of-with_bounds_of (fields_of c.args.w) c.args.base c.args.top c.requires.order c.requires.room (search rules)
+
+pub returns-clause-exponent : goal.returns-clause-exponent
+returns-clause-exponent c = λ long.
+    let exponent_is : exponent_of (fields_of c.word_of.result) ≡ exponent_for c.args.base c.args.top =
+    ap exponent_of (returns-clause-fields c) ∙ exponent_of-with_bounds_of (fields_of c.args.w) c.args.base c.args.top long in
+    subst (λ e. IsExponent c.args.base c.args.top e) (sym exponent_is) (IsExponent-exponent_for c.args.base c.args.top c.requires.order c.requires.room)
+
+pub returns-clause-near : goal.returns-clause-near
+returns-clause-near c = λ long. IsNearExponent-from c.args.base c.args.top _ (returns-clause-exponent c long) c.requires.order c.requires.room long
