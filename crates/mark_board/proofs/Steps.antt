@@ -3,12 +3,12 @@ use Rattle.std.proofs.Common.{◌≡◌, ◌≢◌, ℕ, ◌+◌, ◌-◌, ◌*�
 use Rattle.std.proofs.lemmas.List.{length-replicate, set-get_or}
 use Rattle.std.proofs.lemmas.List.Sums.{sum_by_push}
 use Rattle.std.proofs.Math.Decide.{ℕ_discrete}
+use Rattle.std.proofs.lemmas.Nat.{or_lt}
 use Rattle.std.proofs.lemmas.Nat.Bits.{bit_at-lt, bit_at-zero, bit_at_or}
 use Rattle.std.specs.Int.{bit_at}
 use Rattle.std.specs.List.{sum_by}
 use Rattle.std.specs.Prelude.{bit_or}
 use Rattle.atomic_table.proofs.Lists.{at_set, at_snoc, set_else}
-use Rattle.atomic_table.specs.Seated.{TableId}
 use Rattle.atomic_table.specs.Table.{Allows, Final, Joins, Me, Seen, Splits, keeps, opening, step}
 use mathlib.Core.Logic.{dite}
 use mathlib.Core.Option.{none, some, some-ne-none}
@@ -17,10 +17,11 @@ use Rattle.mark_board.specs.declared.rule.Shape.{Shape}
 use Rattle.mark_board.specs.declared.rule.View.{View}
 use Rattle.mark_board.specs.Bits.{Apart, IsInside, Within, bit, gains, without}
 use Rattle.mark_board.specs.Board.{IsSound, words_for}
+use Rattle.mark_board.specs.Identity.{BoardId}
 use Rattle.mark_board.specs.Laws.{bit-gains_other, bit-gains_same, bit-none, bit-united, bit-without, gains-keep, length-gains, same_bits}
 use Rattle.mark_board.specs.Rule.{IsHonest, IsLawful, IsLawfulState, Marks, Settles, both_parts, cut_part, first_view, kept_part, marked, seat_of, settled, spent, view}
 use Rattle.mark_board.proofs.Totals.{all_here, total-at, total-set}
-use Rattle.mark_board.proofs.Views.{inside-gains, none-within, own-marked, own-united}
+use Rattle.mark_board.proofs.Views.{inside-gains, none-within, own-marked, own-united, without-below, words-gains, words-none, words-united}
 
 -- Each view, by its number.
 abbrev Each : (View → Type 0) → List View → Type 0
@@ -48,6 +49,8 @@ apart-none w j = let z : bit [] w j ≡ 0 = bit_at-zero j in omega arith
 -- The same view with other parts, as a step leaves it.
 honest-view : (shape : Shape) (words : List ℕ) (v : View) (parts : ℕ) → 0 < v.parts → 0 < parts → IsHonest shape words v → IsHonest shape words (view v.shape parts v.mine v.seen)
 honest-view shape words v parts had part h = record {
+  mine_words = h.mine_words;
+  seen_words = h.seen_words;
   own = h.own;
   set = h.set;
   none = λ no_part. absurd (omega arith);
@@ -61,11 +64,14 @@ opens shape some_part =
     let n : ℕ = words_for shape.bits in
     record {
       width = length-replicate n 0;
+      are_words = words-none n;
       inside = λ w j past. bit-none n w j;
       parts = omega arith;
       first = λ w j. let z = bit-none n w j in omega arith;
       honest = λ id v e. each-snoc (IsHonest shape (replicate n 0)) [] (first_view shape)
           (record {
+            mine_words = words-none n;
+            seen_words = words-none n;
             own = none-within n (replicate n 0);
             set = none-within n (replicate n 0);
             none = λ _. bit-none n;
@@ -124,11 +130,14 @@ module _ (ws : List ℕ) (i k : ℕ) (inside : i < length ws) (v : View) (mine_w
       let h = r.honest id v at in
       record {
         width = length-gains ws i k ∙ r.width;
+        are_words = words-gains ws i k inside fits r.are_words;
         inside = inside-gains shape.bits ws i k inside mask r.inside;
         parts = (let s = total-set (λ u. u.parts) views id v w at in let p = r.parts in omega arith);
         first = λ a j. one_place a j (sum_by (λ u. bit u.mine a j) views) (sum_by (λ u. bit u.mine a j) (set views id w)) h.own h.set (total-set (λ u. bit u.mine a j) views id v w at) (r.first a j);
         honest = each-set (IsHonest shape ws') views id w
             (record {
+              mine_words = words-gains v.mine i (without k x) (omega arith) (without-below k x fits) h.mine_words;
+              seen_words = words-gains v.seen i (bit_or x k) (omega arith) (or_lt 64 x k word fits) h.seen_words;
               own = own-marked v.mine v.seen i k x (omega arith) (omega arith) fits word h.own;
               set = seen_set h.set;
               none = λ no_part. absurd (omega arith);
@@ -136,6 +145,8 @@ module _ (ws : List ℕ) (i k : ℕ) (inside : i < length ws) (v : View) (mine_w
               apart = apart-none;
             })
             (λ j u e. let o = r.honest j u e in record {
+              mine_words = o.mine_words;
+              seen_words = o.seen_words;
               own = o.own;
               set = λ a b. let g = gains-keep ws i k a b inside in let s = o.set a b in omega arith;
               none = o.none;
@@ -144,7 +155,7 @@ module _ (ws : List ℕ) (i k : ℕ) (inside : i < length ws) (v : View) (mine_w
             });
       }
 
-pub marks : (shape : Shape) (slots id : ℕ) (z : TableId) (me : Me (Unit {0}) View) (i k : ℕ) → i < words_for shape.bits → k < 2 ^ 64 → ((j : ℕ) → shape.bits ≤ 64 * i + j → bit_at k j ≡ 0) → IsSound (seat_of z me.0)
+pub marks : (shape : Shape) (slots id : ℕ) (z : BoardId) (me : Me (Unit {0}) View) (i k : ℕ) → i < words_for shape.bits → k < 2 ^ 64 → ((j : ℕ) → shape.bits ≤ 64 * i + j → bit_at k j ≡ 0) → IsSound (seat_of z me.0)
     → Allows (IsLawfulState shape) slots id me i (λ n. bit_or n k) (Marks (step slots i k 0 none) me)
 marks shape slots id z me i k there fits mask sound s r _ at small =
     let v : View = me.0 in
@@ -167,6 +178,7 @@ cuts shape id v more s r at =
     let w : View = cut_part v in
     record {
       width = r.width;
+      are_words = r.are_words;
       inside = r.inside;
       parts = (let a = total-set (λ u. u.parts) s.views id v l at in let b = sum_by_push (λ u. u.parts) (set s.views id l) w in let p = r.parts in omega arith);
       first = λ i j.
@@ -177,6 +189,8 @@ cuts shape id v more s r at =
           omega arith;
       honest = each-snoc (IsHonest shape s.words) (set s.views id l) w
           (record {
+            mine_words = words-none n;
+            seen_words = h.seen_words;
             own = none-within n v.seen;
             set = h.set;
             none = λ no_part. absurd (omega arith);
@@ -206,6 +220,7 @@ unites shape id v other w some_part s r at two at' =
     omega arith in
     record {
       width = r.width;
+      are_words = r.are_words;
       inside = r.inside;
       parts = (let a = total-set (λ u. u.parts) s.views id v both at in let b = total-set (λ u. u.parts) mid other w spent at' in let p = r.parts in omega arith);
       first = λ i j.
@@ -219,6 +234,8 @@ unites shape id v other w some_part s r at two at' =
           omega arith;
       honest = each-set (IsHonest shape s.words) mid other spent
           (record {
+            mine_words = words-none 0;
+            seen_words = words-none 0;
             own = λ i j. let z : bit [] i j ≡ 0 = bit_at-zero j in omega arith;
             set = λ i j. let z : bit [] i j ≡ 0 = bit_at-zero j in omega arith;
             none = λ _ i j. bit_at-zero j;
@@ -227,6 +244,8 @@ unites shape id v other w some_part s r at two at' =
           })
           (each-set (IsHonest shape s.words) s.views id both
           (record {
+            mine_words = words-united v.mine w.mine h.mine_words k.mine_words;
+            seen_words = words-united v.seen w.seen h.seen_words k.seen_words;
             own = own-united v.mine w.mine v.seen w.seen h.own k.own;
             set = λ i j. let q = bit-united v.seen w.seen i j in let a = h.set i j in let b = k.set i j in omega arith;
             none = λ no_part. absurd (omega arith);
@@ -247,6 +266,7 @@ settles shape slots id me some_part s r _ at _ =
       tt,
       subst (λ (ws : List ℕ). IsLawful shape ws (set s.views id w)) (sym (set-get_or s.words 0 0)) (record {
         width = r.width;
+        are_words = r.are_words;
         inside = r.inside;
         parts = (let a = total-set (λ u. u.parts) s.views id v w at in let p = r.parts in omega arith);
         first = λ i j. let a = total-set (λ u. bit u.mine i j) s.views id v w at in let p = r.first i j in omega arith;
@@ -256,7 +276,7 @@ settles shape slots id me some_part s r _ at _ =
     )
 
 -- The words at the end are what a seat with all parts has set first, and what it has seen.
-pub ends : (shape : Shape) (ws : List ℕ) (xs : List (Unit {0})) (id : ℕ) (z : TableId) (v : View) → v.parts ≡ shape.parts → IsSound (seat_of z v) → Final (Seen (IsLawfulState shape) id v) ws xs
+pub ends : (shape : Shape) (ws : List ℕ) (xs : List (Unit {0})) (id : ℕ) (z : BoardId) (v : View) → v.parts ≡ shape.parts → IsSound (seat_of z v) → Final (Seen (IsLawfulState shape) id v) ws xs
     → (ws ≡ v.mine) × (ws ≡ v.seen) × IsInside shape.bits ws
 ends shape ws xs id z v all sound last =
     let r = last.1.0 in

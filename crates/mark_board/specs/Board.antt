@@ -1,8 +1,8 @@
 -- A board and its seats as callers see them (this project's own profile).
 use Rattle.std.specs.Prelude.{◌≡◌, ℕ, ◌+◌, ◌-◌, ◌*◌, ◌/◌, ◌^◌, ◌<◌, ◌≤◌, ◌&&◌, Bool, List, length, nat_le, replicate, true}
 use Rattle.std.specs.Int.{bit_at}
-use Rattle.atomic_table.specs.Seated.{TableId}
-use Rattle.mark_board.specs.Bits.{IsInside, Within, bit}
+use Rattle.mark_board.specs.Bits.{AreWords, IsInside, Within, bit}
+use Rattle.mark_board.specs.Identity.{BoardId}
 
 -- A board may have so many bits.
 abbrev pub is_size : ℕ → Bool
@@ -15,7 +15,7 @@ are_parts parts = nat_le 1 parts && nat_le parts 64
 -- What stays of a board while its bits are set: which board it is, how many bits it has, and how many
 -- parts all its seats have together.
 pub record BoardState : Type 0 where
-  pub identity : TableId
+  pub identity : BoardId
   pub bits : ℕ
   pub parts : ℕ
 
@@ -57,11 +57,14 @@ IsMask board word mask = mask < 2 ^ (board.bits - 64 * word)
 abbrev pub HasAllSeen : SeatState → ℕ → ℕ → Type 0
 HasAllSeen seat word found = (j : ℕ) → bit seat.seen word j ≤ bit_at found j
 
--- What holds of every seat: its sets have a word for each of the board's, it has seen what it set, all
--- that it has seen stands before the board's end, and it has a part and no more parts than there are.
+-- What holds of every seat: its sets have a word of 64 bits for each of the board's, it has seen what it
+-- set, all that it has seen stands before the board's end, and it has a part, even where it has set
+-- nothing, and no more parts than there are.
 pub record IsSound (seat : SeatState) : Type 0 where
   pub mine_width : length seat.mine ≡ word_count seat.board
   pub seen_width : length seat.seen ≡ word_count seat.board
+  pub mine_words : AreWords seat.mine
+  pub seen_words : AreWords seat.seen
   pub own : Within seat.mine seat.seen
   pub inside : IsInside seat.board.bits seat.seen
   pub some : 0 < seat.parts

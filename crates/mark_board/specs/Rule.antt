@@ -2,12 +2,12 @@
 -- The words of the table are the set; what the table keeps for each seat is its view.
 use Rattle.std.specs.Prelude.{◌≡◌, ℕ, ◌+◌, ◌-◌, ◌*◌, ◌<◌, ◌≤◌, List, [], bit_or, length, replicate, sum_by}
 use Rattle.std.specs.Int.{bit_at}
-use Rattle.atomic_table.specs.Seated.{TableId}
 use Rattle.atomic_table.specs.Table.{Me, State, Step}
 use mathlib.Core.Option.{some}
 use lib.ListN.{get_elem?}
-use Rattle.mark_board.specs.Bits.{Apart, IsInside, Within, bit, gains, united, without}
+use Rattle.mark_board.specs.Bits.{Apart, AreWords, IsInside, Within, bit, gains, united, without}
 use Rattle.mark_board.specs.Board.{IsSound, SeatState, words_for}
+use Rattle.mark_board.specs.Identity.{BoardId}
 use Rattle.mark_board.specs.declared.rule.Shape.{Shape}
 use Rattle.mark_board.specs.declared.rule.View.{View}
 
@@ -24,26 +24,30 @@ abbrev pub spent : View
 spent = view (record { bits = 0; parts = 0 }) 0 [] []
 
 -- The seat with this view.
-abbrev pub seat_of : TableId → View → SeatState
-seat_of table v = record { board = record { identity = table; bits = v.shape.bits; parts = v.shape.parts }; parts = v.parts; mine = v.mine; seen = v.seen }
+abbrev pub seat_of : BoardId → View → SeatState
+seat_of id v = record { board = record { identity = id; bits = v.shape.bits; parts = v.shape.parts }; parts = v.parts; mine = v.mine; seen = v.seen }
 
 -- What a seat keeps: its number of parts is its view's, it holds no slot, and what it knows is sound.
-abbrev pub IsKept : ℕ → TableId → Me (Unit {0}) View → Type 0
-IsKept parts table me = (parts ≡ me.0.parts) × (me.1 ≡ []) × IsSound (seat_of table me.0)
+abbrev pub IsKept : ℕ → BoardId → Me (Unit {0}) View → Type 0
+IsKept parts id me = (parts ≡ me.0.parts) × (me.1 ≡ []) × IsSound (seat_of id me.0)
 
--- What a seat set first it has seen, what it has seen is set, without a part it has set nothing first,
--- with one it knows the board's shape, and the two that it was joined from had no bit in common.
+-- Both of a seat's sets are of words, what it set first it has seen, what it has seen is set, without a
+-- part it has set nothing first, with one it knows the board's shape, and the two that it was joined from
+-- had no bit in common.
 pub record IsHonest (shape : Shape) (words : List ℕ) (v : View) : Type 0 where
+  pub mine_words : AreWords v.mine
+  pub seen_words : AreWords v.seen
   pub own : Within v.mine v.seen
   pub set : Within v.seen words
   pub none : v.parts ≡ 0 → (w j : ℕ) → bit v.mine w j ≡ 0
   pub known : 0 < v.parts → v.shape ≡ shape
   pub apart : Apart v.left v.right
 
--- The set has its words, and no bit past the board's end. All parts add up, and each bit that is set was
+-- The set has its words, of 64 bits, and no bit past the board's end. All parts add up, and each bit that is set was
 -- set first by exactly one seat.
 pub record IsLawful (shape : Shape) (words : List ℕ) (views : List View) : Type 0 where
   pub width : length words ≡ words_for shape.bits
+  pub are_words : AreWords words
   pub inside : IsInside shape.bits words
   pub parts : sum_by (λ v. v.parts) views ≡ shape.parts
   pub first : (w j : ℕ) → sum_by (λ v. bit v.mine w j) views ≡ bit words w j

@@ -31,10 +31,14 @@ pub struct Board {
 impl Model for Board {
     ghost use Rattle.std.specs.Prelude.{◌≡◌, true};
     ghost use Rattle.mark_board.specs.Board.{BoardState, are_parts, is_size, words_for};
+    ghost use Rattle.mark_board.specs.Codes.{board_code};
+    ghost use Rattle.mark_board.specs.Identity.{board_id};
 
     ghost Value = { BoardState };
 
-    ghost view = { λ b. record { identity = b.table.shared.table_id; bits = b.table.shared.key.bits; parts = b.table.shared.key.parts } };
+    ghost coded = { board_code };
+
+    ghost view = { λ b. record { identity = board_id b.table.shared.table_id; bits = b.table.shared.key.bits; parts = b.table.shared.key.parts } };
 
     ghost invariant = { λ b. (b.bits ≡ b.table.shared.key.bits) × (b.table.shared.table_id.words ≡ words_for b.bits) × (b.table.shared.table_id.slots ≡ 0) × (is_size b.bits ≡ true) × (are_parts b.table.shared.key.parts ≡ true) };
 }

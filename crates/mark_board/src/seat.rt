@@ -1,6 +1,7 @@
 //! What a thread touches a board with.
 
 ghost use Rattle.std.specs.Prelude.{◌≡◌};
+ghost use Rattle.mark_board.specs.Board.{IsSound};
 
 use crate::rule::View;
 use atomic_table::Seat;
@@ -16,19 +17,24 @@ pub struct MarkSeat {
 
 impl Model for MarkSeat {
     ghost use Rattle.mark_board.specs.Board.{SeatState};
+    ghost use Rattle.mark_board.specs.Codes.{seat_code};
+    ghost use Rattle.mark_board.specs.Identity.{board_id};
     ghost use Rattle.mark_board.specs.Rule.{IsKept, seat_of};
 
     ghost Value = { SeatState };
 
-    ghost view = { λ s. seat_of s.seat.table_id s.seat.me.0 };
+    ghost coded = { seat_code };
 
-    ghost invariant = { λ s. IsKept s.parts s.seat.table_id s.seat.me };
+    ghost view = { λ s. seat_of (board_id s.seat.table_id) s.seat.me.0 };
+
+    ghost invariant = { λ s. IsKept s.parts (board_id s.seat.table_id) s.seat.me };
 }
 
 impl MarkSeat {
     /// The share of the board's parts.
     pub fn parts(&self) -> u32
-        ensures { result ≡ self.now.parts }
+        ensures value { result ≡ self.now.parts }
+        ensures sound { IsSound self.now }
     {
         self.parts
     }

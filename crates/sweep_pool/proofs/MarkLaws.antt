@@ -7,8 +7,8 @@ use Rattle.std.specs.Int.{bit_at, bit_not, w64}
 use Rattle.std.proofs.lemmas.Nat.{one_shl, div-add-mod', mod_below, and_comm}
 use Rattle.std.proofs.lemmas.Nat.Bits.{and_pow, bit_at-lt, bit_at_or, bit_at-pow_same}
 use Rattle.mark_board.specs.Bits.{Within, gains, without}
-use Rattle.mark_board.specs.Board.{BoardState, IsMask, word_count}
-use Rattle.mark_board.specs.Laws.{bit-gains_same, gains-keep, gains-none, length-gains, mask-one}
+use Rattle.mark_board.specs.Board.{BoardState, IsMask}
+use Rattle.mark_board.specs.Laws.{bit-gains_same, gains-keep, gains-none, mask-one}
 use Rattle.sweep_pool.specs.Claims.{HasRun, claimed, has}
 
 -- The mask of a task, as it is computed.
@@ -22,10 +22,6 @@ pub IsMask-task : (board : BoardState) (k : ℕ) → k < board.bits → IsMask b
 IsMask-task board k below =
     let whole = div-add-mod' k 64 in
     subst (λ (z : ℕ). z < 2 ^ (board.bits - 64 * (k / 64))) (sym (mask_is k)) (mask-one board (k / 64) (k % 64) (omega arith))
-
--- The widths of a seat's sets before a mark, from what is known after it.
-pub width_before : (board : BoardState) (old new : List ℕ) (w more : ℕ) → length new ≡ word_count board → new ≡ gains old w more → length old ≡ word_count board
-width_before board old new w more width is = sym (length-gains old w more) ∙ sym (ap (λ (z : List ℕ). length z) is) ∙ width
 
 times_bit : (b m : ℕ) → b < 2 → b * m ≢ 0 → b * m ≡ m
 times_bit b m small some_bit = dite (ℕ_discrete b 0)

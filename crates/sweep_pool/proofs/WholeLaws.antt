@@ -5,9 +5,10 @@ use Rattle.sweep_pool.specs.Claims.{AreAllSwept}
 use Rattle.sweep_pool.specs.Gather.{AreGathered, IsPlaced, IsSwept}
 use Rattle.sweep_pool.specs.Laws.{AreBits-words, below_of-IsTask}
 use Rattle.sweep_pool.specs.Sweep.{AreMasks, is_hit_at}
-use Rattle.sweep_pool.specs.Tasks.{Cut, IsCut, IsTaskCount, end_page, first_page, page_count}
+use Rattle.sweep_pool.specs.Tasks.{Cut, IsTaskCount, end_page, first_page, page_count}
 use Rattle.sweep_pool.specs.declared.task.Swept.{Swept}
 use Rattle.sweep_pool.proofs.GatherLaws.{found}
+use Rattle.sweep_pool.proofs.TaskLaws.{some_each}
 use Rattle.tag_memory.specs.Cells.{MemoryState}
 use Rattle.tag_memory.specs.Tags.{is_set, is_set_for}
 
@@ -33,20 +34,20 @@ by_item m shadow c masks s b i at low high inside swept placed =
     (λ t. is_set (get_or masks (w_is t) 0) (r_is t)) ∙ ap (λ (z : ℕ). is_set z (j % 64)) word ∙ hit ∙ ap (λ (z : ℕ). is_hit_at m shadow z) j_is
 
 pub whole_masks : (m : MemoryState) (shadow : List Bool) (c : Cut) (tasks : ℕ) (items : List Swept) (masks : List ℕ)
-    → 256 * page_count m ≡ length m.cells → IsCut c → IsTaskCount c (page_count m) tasks
+    → 256 * page_count m ≡ length m.cells → IsTaskCount c (page_count m) tasks
     → AreAllSwept m shadow c tasks items → AreGathered c tasks (page_count m) items masks
     → AreMasks m shadow masks
-whole_masks m shadow c tasks items masks whole cut count all gathered =
+whole_masks m shadow c tasks items masks whole count all gathered =
     record {
       count = let n = gathered.count in omega arith;
       bits = λ i lt.
           let p : ℕ = c.pages_per_task in
           let q : ℕ = i / 256 in
           let k : ℕ = q / p in
-          let some : 0 < p = cut.some_pages in
+          let inside : q < page_count m = omega arith in
+          let some : 0 < p = (some_each tasks p (page_count m) (omega arith) count.enough).1 in
           let parts : k * p + q % p ≡ q = div-add-mod' q p in
           let rest : q % p < p = mod_below q p some in
-          let inside : q < page_count m = omega arith in
           let known : k < tasks = below_of-IsTask c (page_count m) tasks k count (let z : ℕ = k * p in omega arith) in
           let there = found (λ (s : Swept). IsSwept m shadow c s × IsPlaced c masks s) k items (λ n d l. (all.swept n d l, gathered.placed n d l)) (let one = all.all k known in omega arith) in
           by_item m shadow c masks there.0 (k * p) i (ap (λ (z : ℕ). z * p) (sym there.1)) (let z : ℕ = k * p in omega arith) (let z : ℕ = k * p in omega arith) inside there.2.0 there.2.1;

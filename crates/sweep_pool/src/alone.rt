@@ -21,7 +21,6 @@ fn fill_more(memory: &Memory, shadow: &Shadow, from: usize, end: usize, masks: &
     ensures count { length masks.new.items ≡ length masks.old.items }
     ensures done { (i : ℕ) → i / 64 < end → is_set_for masks.new.items i ≡ is_hit_at memory.now shadow.now i }
 {
-    let _pages = memory.pages();
     for w in from..end {
         masks[w] = word_mask(memory, shadow, w);
     }

@@ -57,9 +57,8 @@ fn sweep_shared<R: Threads + Sync, G: Gate + Sync>(
     ensures ok { IfOk result (λ masks. AreMasks memory.now shadow.now masks.items) }
     ensures err { IfErr result (λ fault. fault ≡ SweepFault.Memory) }
 {
-    let tasks = cutting.tasks(memory.pages());
     let workers = workers_for(memory, cutting);
-    let (board, seat) = board_for(alloc, memory, cutting, tasks, workers)?;
+    let (board, seat) = board_for(alloc, memory, cutting, workers)?;
     let jobs = deal(alloc, &board, seat, workers)?;
     let shared = Shared {
         memory,
@@ -76,14 +75,24 @@ fn sweep_shared<R: Threads + Sync, G: Gate + Sync>(
     finished(alloc, memory, shadow, cutting, board, done)
 }
 
+// How many tasks the memory has.
+fn tasks_of(memory: &Memory, cutting: &Cutting) -> u32
+    ensures count { IsTaskCount cutting.now (page_count memory.now) result }
+    ensures some { 0 < result }
+    ensures most { result ≤ 1024 }
+{
+    // Called for what it ensures alone: the memory has 1 to 1,024 pages.
+    let _base = memory.base();
+    cutting.tasks(memory.pages())
+}
+
 // How many workers sweep: no more than there are tasks.
 fn workers_for(memory: &Memory, cutting: &Cutting) -> u32
     ensures some { 0 < result }
     ensures few { result ≤ cutting.now.workers }
     ensures most { result ≤ 64 }
 {
-    let _base = memory.base();
-    let tasks = cutting.tasks(memory.pages());
+    let tasks = tasks_of(memory, cutting);
     cutting.workers().min(tasks)
 }
 
@@ -92,20 +101,16 @@ fn board_for(
     alloc: Global,
     memory: &Memory,
     cutting: &Cutting,
-    tasks: u32,
     workers: u32,
 ) -> Result<(Board, MarkSeat), SweepFault>
-    requires tasks { IsTaskCount cutting.now (page_count memory.now) tasks }
     requires some { 0 < workers }
     requires most { workers ≤ 64 }
-    ensures board { IfOk result (λ made. (made.0.bits ≡ tasks) × (made.0.parts ≡ workers)) }
+    ensures board { IfOk result (λ made. HasTasks cutting.now memory.now made.0 × (made.0.parts ≡ workers)) }
     ensures seat { IfOk result (λ made. made.1 ≡ first_seat made.0) }
     ensures sound { IfOk result (λ made. IsSound made.1) }
     ensures err { IfErr result (λ fault. fault ≡ SweepFault.Memory) }
 {
-    let _base = memory.base();
-    let _task_pages = cutting.pages_per_task();
-    match Board::new(alloc, tasks, workers) {
+    match Board::new(alloc, tasks_of(memory, cutting), workers) {
         Ok(made) => Ok(made),
         Err(fault) => match fault {
             BoardFault::Memory => Err(SweepFault::Memory),
@@ -152,7 +157,6 @@ fn whole_masks(
     ensures ok { IfOk result (λ masks. AreMasks memory.now shadow.now masks.items) }
     ensures err { IfErr result (λ fault. fault ≡ SweepFault.Memory) }
 {
-    let _task_pages = cutting.pages_per_task();
     match gather(alloc, tasks, cutting, memory.pages(), list) {
         Ok(masks) => Ok(masks),
         Err(fault) => match fault {

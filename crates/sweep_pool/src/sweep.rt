@@ -59,8 +59,7 @@ fn is_granule_hit(memory: &Memory, shadow: &Shadow, i: usize) -> bool
 /// The mask of word `w` of the tags. No word is decoded where none of its 64 granules is tagged.
 #[inline]
 pub(crate) fn word_mask(memory: &Memory, shadow: &Shadow, w: usize) -> u64
-    requires within { 64 * w + 64 ≤ length memory.now.cells }
-    requires limit { length memory.now.cells < 2 ^ 64 }
+    requires { 64 * w + 64 ≤ length memory.now.cells }
     ensures { (j : ℕ) → j < 64 → is_set result j ≡ is_hit_at memory.now shadow.now (64 * w + j) }
 {
     if memory.tag_word(w) == 0 {
@@ -72,10 +71,11 @@ pub(crate) fn word_mask(memory: &Memory, shadow: &Shadow, w: usize) -> u64
 // The same, granule by granule.
 #[inline(never)]
 fn tagged_mask(memory: &Memory, shadow: &Shadow, w: usize) -> u64
-    requires within { 64 * w + 64 ≤ length memory.now.cells }
-    requires limit { length memory.now.cells < 2 ^ 64 }
+    requires { 64 * w + 64 ≤ length memory.now.cells }
     ensures { (j : ℕ) → j < 64 → is_set result j ≡ is_hit_at memory.now shadow.now (64 * w + j) }
 {
+    // Called for what it ensures alone: the granules are fewer than 2^64.
+    let _granules = memory.granules();
     let mut mask = 0;
     for j in 0..WORD_GRANULES {
         mask = with_bit(

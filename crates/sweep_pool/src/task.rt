@@ -3,9 +3,8 @@
 ghost use Rattle.heap_core.specs.Heap.{HeapState};
 ghost use Rattle.std.specs.Prelude.{◌≡◌, ◌<◌, ◌≤◌, ◌+◌, ◌*◌, ◌/◌, ℕ, IfErr, IfOk, length};
 ghost use Rattle.sweep_pool.specs.Gather.{IsSwept};
-ghost use Rattle.sweep_pool.specs.Sweep.{IsShadowOf, TakePageTags, is_hit_at};
+ghost use Rattle.sweep_pool.specs.Sweep.{IsShadowOf, TakePageTags};
 ghost use Rattle.sweep_pool.specs.Tasks.{IsTask, end_page, first_page, page_count, task_words};
-ghost use Rattle.tag_memory.specs.Tags.{is_set_for};
 
 use crate::cutting::Cutting;
 use crate::sweep::{SweepFault, word_mask};
@@ -20,19 +19,6 @@ pub struct Swept {
     pub task: u32,
     /// Its masks, four words a page.
     pub masks: Vec<u64>,
-}
-
-// Makes the masks of the words from `first` on.
-fn fill(memory: &Memory, shadow: &Shadow, first: usize, masks: &mut [u64])
-    requires { 64 * (first + length masks.old) ≤ length memory.now.cells }
-    ensures count { length masks.new ≡ length masks.old }
-    ensures bits { (i : ℕ) → i / 64 < length masks.old
-        → is_set_for masks.new i ≡ is_hit_at memory.now shadow.now (64 * first + i) }
-{
-    let _words = memory.pages();
-    for w in 0..masks.len() {
-        masks[w] = word_mask(memory, shadow, first + w);
-    }
 }
 
 /// How many words the masks of a task take.
@@ -72,7 +58,9 @@ pub(crate) fn swept_into(
 {
     let first = task as usize * cutting.pages_per_task() as usize;
     room.truncate(words_of(cutting, memory.pages(), task));
-    fill(memory, shadow, PAGE_WORDS * first, &mut room);
+    for w in 0..room.len() {
+        room[w] = word_mask(memory, shadow, PAGE_WORDS * first + w);
+    }
     Swept { task, masks: room }
 }
 

@@ -3,7 +3,7 @@ use Rattle.mark_board.specs.Bits.{Within}
 use Rattle.mark_board.specs.Board.{word_count}
 use Rattle.mark_board.specs.Laws.{seat-of_board}
 use Rattle.sweep_pool.specs.Claims.{HasRun, claimed, has}
-use Rattle.sweep_pool.proofs.MarkLaws.{IsMask-task, free, missed, saw, took, width_before}
+use Rattle.sweep_pool.proofs.MarkLaws.{IsMask-task, free, missed, saw, took}
 use Rattle.sweep_pool.proofs.claims.sweep_next.Goals as goal
 
 pub mark-requires-clause-mask : goal.mark-requires-clause-mask
@@ -14,8 +14,7 @@ returns-then-mark-ne0-clause-seen c =
     let h = c.loop-task.invariant in
     let f = c.mark.ensures.found in
     let k : ℕ = c.loop-task.task in
-    let widths = seat-of_board c.args.board.now c.mark.new.seat c.mark.ensures.board c.mark.ensures.sound in
-    let wide : length c.loop-task.seat.seen ≡ word_count c.args.board.now = width_before c.args.board.now c.loop-task.seat.seen c.mark.new.seat.seen _ _ widths.1 f.4 in
+    let wide : length c.loop-task.seat.seen ≡ word_count c.args.board.now = (seat-of_board c.args.board.now c.loop-task.seat h.board h.sound).1 in
     let inside : k / 64 < length c.loop-task.seat.seen = (let e = c.bits-task-end.ensures.value in let l = c.loop-task-test.true in omega arith) in
     (saw c.args.seat.now.seen c.loop-task.seat.seen c.mark.new.seat.seen c.args.from k f.0 inside f.4 h.seen h.run).0
 
@@ -24,8 +23,7 @@ returns-then-mark-ne0-clause-claims c =
     let h = c.loop-task.invariant in
     let f = c.mark.ensures.found in
     let k : ℕ = c.loop-task.task in
-    let widths = seat-of_board c.args.board.now c.mark.new.seat c.mark.ensures.board c.mark.ensures.sound in
-    let wide : length c.loop-task.seat.seen ≡ word_count c.args.board.now = width_before c.args.board.now c.loop-task.seat.seen c.mark.new.seat.seen _ _ widths.1 f.4 in
+    let wide : length c.loop-task.seat.seen ≡ word_count c.args.board.now = (seat-of_board c.args.board.now c.loop-task.seat h.board h.sound).1 in
     let inside : k / 64 < length c.loop-task.seat.seen = (let e = c.bits-task-end.ensures.value in let l = c.loop-task-test.true in omega arith) in
     let all : (has c.args.seat.now.mine k ≡ 0) × (c.mark.new.seat.mine ≡ claimed c.args.seat.now.mine k) × HasRun c.mark.new.seat.seen c.args.from (k + 1) = (
       free c.args.seat.now.mine c.loop-task.seat.mine k f.0 c.mark.result h.mine f.3 (search rules) (c.mark.ensures.fresh (k % 64)).0,
@@ -39,8 +37,7 @@ loop-task-preserved c =
     let h = c.loop-task.invariant in
     let f = c.mark.ensures.found in
     let k : ℕ = c.loop-task.task in
-    let widths = seat-of_board c.args.board.now c.mark.new.seat c.mark.ensures.board c.mark.ensures.sound in
-    let wide : length c.loop-task.seat.seen ≡ word_count c.args.board.now = width_before c.args.board.now c.loop-task.seat.seen c.mark.new.seat.seen _ _ widths.1 f.4 in
+    let wide : length c.loop-task.seat.seen ≡ word_count c.args.board.now = (seat-of_board c.args.board.now c.loop-task.seat h.board h.sound).1 in
     let inside : k / 64 < length c.loop-task.seat.seen = (let e = c.bits-task-end.ensures.value in let l = c.loop-task-test.true in omega arith) in
     let more : Within c.args.seat.now.seen c.mark.new.seat.seen × HasRun c.mark.new.seat.seen c.args.from (k + 1) =
     saw c.args.seat.now.seen c.loop-task.seat.seen c.mark.new.seat.seen c.args.from k f.0 inside f.4 h.seen h.run in
@@ -50,5 +47,5 @@ loop-task-preserved c =
       mine = missed c.args.seat.now.mine c.loop-task.seat.mine c.mark.new.seat.mine (k / 64) c.mark.result h.mine c.mark.ensures.mine (search rules);
       seen = more.0;
       run = more.1;
-      sound = λ _. c.mark.ensures.sound;
+      sound = c.mark.ensures.sound;
     }

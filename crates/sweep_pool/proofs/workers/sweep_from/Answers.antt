@@ -31,5 +31,5 @@ loop-next-preserved g c =
       swept = after.0;
       accounts = after.1;
       tried = after.2;
-      sound = c.sweep_next.ensures.sound h.sound;
+      sound = c.sweep_next.ensures.sound;
     }

@@ -1,15 +1,16 @@
-use Rattle.std.proofs.Common.{rules, ◌≡◌, ℕ, arith}
+use Rattle.std.proofs.Common.{rules, ◌≡◌, ℕ, ap, arith}
 use Rattle.std.proofs.lemmas.Nat.Bits.{bit_at-lt}
 use Rattle.mark_board.specs.Laws.{bit-without, mask-inside}
+use Rattle.mark_board.specs.Identity.{board_id, board_id-injective}
 use Rattle.mark_board.proofs.Steps.{marks}
 use Rattle.mark_board.proofs.Views.{kept-marked}
 use Rattle.mark_board.proofs.board.Board.mark.Goals as goal
 
 pub fetch_or-found-requires : goal.fetch_or-found-requires
 fetch_or-found-requires c = (
+  board_id-injective _ _ (search rules),
   search rules,
-  search rules,
-  marks _ _ _ c.seat.inside.seat.table_id _ _ _ (search rules) (search rules)
+  marks _ _ _ (board_id c.seat.inside.seat.table_id) _ _ _ (search rules) (search rules)
       (λ j past. mask-inside c.args.self.now c.args.word c.args.mask j c.requires.mask
       (let e : c.self.inside.table.shared.key.bits ≡ c.args.self.now.bits = search rules in omega arith))
       c.seat.invariant.2,
@@ -20,7 +21,7 @@ invariant_of-seat c = kept-marked c.seat.inside.parts _ _ c.seat.inside.seat.me 
     c.fetch_or-found.ensures.2.1
     (λ j past. mask-inside c.args.self.now c.args.word c.args.mask j c.requires.mask
     (let e : c.seat.inside.seat.me.0.shape.bits ≡ c.args.self.now.bits = search rules in omega arith))
-    c.seat.invariant c.fetch_or-found.ensures.0 c.fetch_or-found.ensures.2.2
+    c.seat.invariant (ap board_id c.fetch_or-found.ensures.0) c.fetch_or-found.ensures.2.2
 
 pub returns-clause-sound : goal.returns-clause-sound
 returns-clause-sound c = (invariant_of-seat c).2

@@ -3,20 +3,21 @@ use Rattle.std.proofs.lemmas.Nat.{or_comm}
 use Rattle.std.proofs.lemmas.Nat.Bits.{bit_at-zero}
 use Rattle.mark_board.specs.Bits.{gains}
 use Rattle.mark_board.specs.Laws.{gains-none}
+use Rattle.mark_board.specs.Identity.{board_id, board_id-injective}
 use Rattle.mark_board.proofs.Steps.{marks}
 use Rattle.mark_board.proofs.Views.{kept-marked}
 use Rattle.mark_board.proofs.board.Board.read.Goals as goal
 
 pub fetch_or-requires : goal.fetch_or-requires
 fetch_or-requires c = (
+  board_id-injective _ _ (search rules),
   search rules,
-  search rules,
-  marks _ _ _ c.seat.inside.seat.table_id _ _ _ (search rules) (search rules) (λ j _. bit_at-zero j) c.seat.invariant.2,
+  marks _ _ _ (board_id c.seat.inside.seat.table_id) _ _ _ (search rules) (search rules) (λ j _. bit_at-zero j) c.seat.invariant.2,
 )
 
 pub invariant_of-seat : goal.invariant_of-seat
 invariant_of-seat c = kept-marked c.seat.inside.parts _ _ c.seat.inside.seat.me _ c.args.word 0 c.fetch_or.result (search rules) (search rules) (search rules)
-    c.fetch_or.ensures.2.1 (λ j _. bit_at-zero j) c.seat.invariant c.fetch_or.ensures.0 c.fetch_or.ensures.2.2
+    c.fetch_or.ensures.2.1 (λ j _. bit_at-zero j) c.seat.invariant (ap board_id c.fetch_or.ensures.0) c.fetch_or.ensures.2.2
 
 pub returns-clause-sound : goal.returns-clause-sound
 returns-clause-sound c = (invariant_of-seat c).2
