@@ -1,3 +1,4 @@
 pub mod BitLaws
 pub mod PackedLaws
+pub mod RegisterLaws
 pub mod TagLaws
