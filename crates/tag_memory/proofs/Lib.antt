@@ -1,4 +1,4 @@
 pub mod BitLaws
+pub mod ClearedRegisters
 pub mod PackedLaws
-pub mod RegisterLaws
 pub mod TagLaws

@@ -11,7 +11,7 @@ use std::marker::Model;
 /// How many registers there are.
 pub const REGISTERS: u8 = 32;
 
-/// 32 registers, each a word with its tag. Register 0 reads as the null capability, untagged, and
+/// 32 registers, each a word with its tag. Register 0 is the null capability, untagged, and
 /// ignores writes.
 #[derive(Drop)]
 pub struct Registers {

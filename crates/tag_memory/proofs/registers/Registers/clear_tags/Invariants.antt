@@ -1,4 +1,4 @@
-use Rattle.tag_memory.proofs.RegisterLaws.{AreCleared}
+use Rattle.tag_memory.proofs.ClearedRegisters.{AreCleared}
 use Rattle.tag_memory.proofs.registers.Registers.clear_tags.Given as goal
 
 abbrev pub invariant-loop-r : goal.invariant-loop-r
