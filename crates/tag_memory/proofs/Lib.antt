@@ -1,3 +1,4 @@
 pub mod BitLaws
+pub mod ClearedRegisters
 pub mod PackedLaws
 pub mod TagLaws

@@ -1,9 +1,10 @@
 -- A memory's fields, and the granules as which it is seen.
-use Rattle.std.proofs.Common.{◌≡◌, ℕ, ◌+◌, ◌*◌, ◌/◌, ◌%◌, ◌^◌, ◌==◌, ◌<◌, ◌≤◌, Bool, false, if◌then◌else◌, Some, List, length, get_or, set, take, sym, ap, ◌∙◌, arith, bit_and, w64, Fits}
+use Rattle.std.proofs.Common.{◌≡◌, ℕ, ◌+◌, ◌*◌, ◌/◌, ◌%◌, ◌^◌, ◌==◌, ◌<◌, ◌≤◌, Bool, false, if◌then◌else◌, Some, List, length, get_or, set, take, sym, ap, ◌∙◌, subst, arith, bit_and, w64, Fits}
 use Rattle.std.specs.Int.{bit_not}
 use Rattle.std.specs.Int.RustNames.{count_ones}
-use Rattle.std.specs.List.{count_by, slice_get}
+use Rattle.std.specs.List.{All, count_by, slice_get}
 use Rattle.std.proofs.lemmas.List.{get_or_read, take_all}
+use Rattle.std.proofs.lemmas.List.Elements.{All-from_get_or}
 use Rattle.std.proofs.lemmas.Nat.{div_below}
 use Rattle.std.proofs.lemmas.Option.{slice_get-get_or}
 use Rattle.tag_memory.specs.Cells.{Granule, IsMemory, MemoryState}
@@ -24,9 +25,26 @@ cells p = ap (λ (s : MemoryState). s.cells) p.view
 pub count : {m : Inside} {state : MemoryState} → Packs m state → length state.cells ≡ 256 * m.pages
 count {m = m} p = ap length (sym (cells p)) ∙ (length-granules_of m.bits.items m.tags.items ∙ p.invariant.0)
 
--- a memory is some whole pages that may begin at its base
+abbrev has_128_bits : Granule → Type 0
+has_128_bits granule = granule.0 < 2 ^ 128
+
+-- each granule's number has 128 bits
+numbers : {m : Inside} {state : MemoryState} → Packs m state → All has_128_bits state.cells
+numbers {m = m} p =
+    let below = λ (i : ℕ) (h : i < length (granules_of m.bits.items m.tags.items)).
+    let at : i < length m.bits.items = omega (arith, h, length-granules_of m.bits.items m.tags.items) in
+    subst has_128_bits (sym (get_or-granules_of m.bits.items m.tags.items i at)) (p.invariant.4 i 0 at) in
+    subst (All has_128_bits) (cells p) (All-from_get_or has_128_bits _ (0, false) below)
+
+-- what holds of every memory
 pub whole : {m : Inside} {state : MemoryState} → Packs m state → IsMemory state
-whole {m = m} p = record { pages = m.pages; count = count p; size = p.invariant.2; place = rw (← (ap (λ (s : MemoryState). s.base) p.view)) p.invariant.3 }
+whole {m = m} p = record {
+  pages = m.pages;
+  count = count p;
+  size = p.invariant.2;
+  place = rw (← (ap (λ (s : MemoryState). s.base) p.view)) p.invariant.3;
+  numbers = numbers p;
+}
 
 -- where a granule's number and its word are
 pub place : {m : Inside} {state : MemoryState} → Packs m state → (i : ℕ) → i < length state.cells → (i < length m.bits.items) × (i / 64 < length m.tags.items)

@@ -1,6 +1,7 @@
 -- Tagged memory and registers as lists of cells (CHERI ISA version 9, UCAM-CL-TR-987: tagged memory; one
 -- tag a granule of 16 bytes; register 0 is the null register of RISC-V).
-use Rattle.std.specs.Prelude.{◌≡◌, ◌*◌, ◌==◌, ℕ, Bool, IsTrue, List, false, if◌then◌else◌, length, replicate, slice_index_or, slice_set}
+use Rattle.std.specs.Prelude.{◌≡◌, ◌<◌, ◌*◌, ◌^◌, ◌==◌, ℕ, Bool, IsTrue, List, false, if◌then◌else◌, length, replicate, slice_index_or, slice_set}
+use Rattle.std.specs.List.{All}
 use Rattle.cap_codec.specs.declared.word.Word.{Word}
 use Rattle.tag_memory.specs.Span.{is_base, is_size}
 
@@ -19,12 +20,14 @@ pub record MemoryState : Type 0 where
 abbrev pub new_memory : ℕ → ℕ → MemoryState
 new_memory base pages = record { base = base; cells = replicate (256 * pages) (0, false) }
 
--- What holds of every memory: it is some whole pages that may begin at its base.
+-- What holds of every memory: it is some whole pages that may begin at its base, of granules whose
+-- numbers have 128 bits.
 pub record IsMemory (m : MemoryState) : Type 0 where
   pub pages : ℕ
   pub count : length m.cells ≡ 256 * pages
   pub size : IsTrue (is_size pages)
   pub place : IsTrue (is_base m.base pages)
+  pub numbers : All (λ granule. granule.0 < 2 ^ 128) m.cells
 
 -- ---- registers
 
@@ -39,6 +42,12 @@ cell_of granule = (record { bits = granule.0 }, granule.1)
 -- The null capability, untagged.
 abbrev pub null_cell : Cell
 null_cell = (record { bits = 0 }, false)
+
+-- What holds of all registers: there are 32, register 0 is null, and the words have 128 bits.
+pub record AreRegisters (cells : List Cell) : Type 0 where
+  pub count : length cells ≡ 32
+  pub zero : slice_index_or cells 0 null_cell ≡ null_cell
+  pub numbers : All (λ cell. cell.0.bits < 2 ^ 128) cells
 
 -- The 32 registers of a new machine.
 abbrev pub new_registers : List Cell

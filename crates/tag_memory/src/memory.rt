@@ -40,7 +40,8 @@ pub struct Memory {
 }
 
 impl Model for Memory {
-    ghost use Rattle.std.specs.Prelude.{◌≡◌, ◌*◌, length, true};
+    ghost use Rattle.std.specs.List.{All};
+    ghost use Rattle.std.specs.Prelude.{◌≡◌, ◌<◌, ◌*◌, ◌^◌, length, true};
     ghost use Rattle.tag_memory.specs.Cells.{MemoryState};
     ghost use Rattle.tag_memory.specs.Span.{is_base, is_size};
     ghost use Rattle.tag_memory.specs.Tags.{granules_of};
@@ -49,7 +50,7 @@ impl Model for Memory {
 
     ghost view = { λ m. record { base = m.base; cells = granules_of m.bits.items m.tags.items } };
 
-    ghost invariant = { λ m. (length m.bits.items ≡ 256 * m.pages) × (length m.tags.items ≡ 4 * m.pages) × (is_size m.pages ≡ true) × (is_base m.base m.pages ≡ true) };
+    ghost invariant = { λ m. (length m.bits.items ≡ 256 * m.pages) × (length m.tags.items ≡ 4 * m.pages) × (is_size m.pages ≡ true) × (is_base m.base m.pages ≡ true) × All (λ number. number < 2 ^ 128) m.bits.items };
 }
 
 impl Memory {
@@ -84,9 +85,15 @@ impl Memory {
     /// The first address.
     pub fn base(&self) -> u64
         ensures value { result ≡ self.now.base }
-        ensures whole { IsMemory self.now }
     {
         self.base
+    }
+
+    /// Tells what holds of every memory. Nothing is done.
+    pub fn whole(&self)
+        ensures { IsMemory self.now }
+    {
+        let _ = &self.bits;
     }
 
     /// How many pages of 4,096 bytes there are.

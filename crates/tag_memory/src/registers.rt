@@ -1,15 +1,17 @@
 //! The registers of a machine.
 
-ghost use Rattle.std.specs.Prelude.{◌≡◌, ◌<◌, count_by, drop, false, length};
-ghost use Rattle.tag_memory.specs.Cells.{new_registers, register_in, with_register};
+ghost use Rattle.std.specs.Prelude.{◌≡◌, ◌<◌, ◌&&◌, ℕ, count_by, drop, false, length, not, slice_index_or};
+ghost use Rattle.tag_memory.specs.Cells.{AreRegisters, new_registers, null_cell, register_in, with_register};
+ghost use Rattle.tag_memory.specs.Tags.{is_set};
 
+use crate::bits::bit;
 use cap_codec::Word;
 use std::marker::Model;
 
 /// How many registers there are.
 pub const REGISTERS: u8 = 32;
 
-/// 32 registers, each a word with its tag. Register 0 reads as the null capability, untagged, and
+/// 32 registers, each a word with its tag. Register 0 is the null capability, untagged, and
 /// ignores writes.
 #[derive(Drop)]
 pub struct Registers {
@@ -18,11 +20,13 @@ pub struct Registers {
 
 impl Model for Registers {
     ghost use Rattle.std.specs.Prelude.{List};
-    ghost use Rattle.tag_memory.specs.Cells.{Cell};
+    ghost use Rattle.tag_memory.specs.Cells.{AreRegisters, Cell};
 
     ghost Value = { List Cell };
 
     ghost view = { λ a. a.cells };
+
+    ghost invariant = { λ a. AreRegisters a.cells };
 }
 
 impl Registers {
@@ -35,14 +39,19 @@ impl Registers {
         }
     }
 
+    /// Tells what holds of all registers. Nothing is done.
+    pub fn whole(&self)
+        ensures { AreRegisters self.now }
+    {
+        let _ = &self.cells;
+    }
+
     /// A register's word and tag.
     pub fn get(&self, r: u8) -> (Word, bool)
         requires { r < 32 }
         ensures value { result ≡ register_in self.now r }
-        ensures count { length self.now ≡ 32 }
     {
-        let cell = self.cells[r as usize];
-        if r == 0 { (Word::NULL, false) } else { cell }
+        self.cells[usize::from(r)]
     }
 
     /// Writes a register's word and tag.
@@ -63,6 +72,21 @@ impl Registers {
     {
         let (word, _) = self.get(r);
         self.set(r, word, false);
+    }
+
+    /// Takes the tag of each register r where bit r of the mask is 1.
+    pub fn clear_tags(&mut self, mask: u32)
+        ensures count { length self.new ≡ 32 }
+        ensures zero { slice_index_or self.new 0 null_cell ≡ null_cell }
+        ensures cells { (r : ℕ) → r < 32 → slice_index_or self.new r null_cell
+            ≡ (
+              (slice_index_or self.old r null_cell).0,
+              (slice_index_or self.old r null_cell).1 && not (is_set mask r),
+            ) }
+    {
+        for r in 0..REGISTERS as usize {
+            self.cells[r].1 &= !bit(u64::from(mask), r);
+        }
     }
 
     /// How many registers are tagged. Register 0 never is.

@@ -6,11 +6,11 @@ ghost use Rattle.tag_memory.specs.Span as span;
 /// Bytes a granule, which has one tag.
 pub const GRANULE: u64 = 16;
 
-/// Bytes a page.
-pub const PAGE: u64 = 4096;
-
 /// Granules a page.
 pub const PAGE_GRANULES: u32 = 256;
+
+/// Bytes a page.
+pub const PAGE: u64 = GRANULE * PAGE_GRANULES as u64;
 
 /// The most pages of a memory or a heap.
 pub const MOST_PAGES: u32 = 1024;

@@ -53,6 +53,10 @@ fn registers_are_written(rt: HostRuntime) {
     registers.clear(31);
     assert_eq!(rt; registers.get(31), (word, false));
     assert_eq!(rt; registers.get(1), (word, true));
+    registers.set(31, word, true);
+    registers.clear_tags(1 << 31);
+    assert_eq!(rt; registers.get(31), (word, false));
+    assert_eq!(rt; registers.get(1), (word, true));
 }
 
 #[test]

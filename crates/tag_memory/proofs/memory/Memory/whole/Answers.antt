@@ -1,7 +1,7 @@
 use Rattle.tag_memory.proofs.PackedLaws.{Packs, whole}
-use Rattle.tag_memory.proofs.memory.Memory.base.Goals as goal
+use Rattle.tag_memory.proofs.memory.Memory.whole.Goals as goal
 
-pub returns-clause-whole : goal.returns-clause-whole
-returns-clause-whole c =
+pub returns : goal.returns
+returns c =
     let p : Packs c.self.inside c.args.self.now = record { view = c.self.view_is; invariant = c.self.invariant } in
     whole p
