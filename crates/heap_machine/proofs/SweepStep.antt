@@ -1,5 +1,5 @@
 -- What a sweep's calls leave, together.
-use Rattle.std.proofs.Common.{◌≡◌, ◌∙◌, ◌<◌, ◌+◌, ℕ, List, length, get_or, drop, ap}
+use Rattle.std.proofs.Common.{◌≡◌, ◌∙◌, ◌<◌, ◌+◌, ℕ, List, length, get_or, drop, sym, ap}
 use Rattle.std.specs.Prelude.{count_by}
 use Rattle.heap_core.specs.Heap.{HeapState}
 use Rattle.sweep_pool.specs.Sweep.{TakeTags, swept_granules, swept_registers, takes_tag}
@@ -21,14 +21,14 @@ pub AreSwept-masks : (heap : HeapState) (old new : MemoryState) (registers left 
     → IsSound (record { heap = heap; cells = old.cells; registers = registers }) → old.base ≡ heap.base → TakeTags old heap.held masks
     → new ≡ record old { cells = without_tags masks old.cells }
     → ((r : ℕ) → r < 32 → is_set mask r ≡ takes_tag heap.held (register_in registers r))
-    → length left ≡ 32 → get_or left 0 null_cell ≡ get_or registers 0 null_cell
-    → ((r : ℕ) → 0 < r → r < 32 → get_or left r null_cell ≡ without_tag_if (is_set mask r) (get_or registers r null_cell))
+    → length left ≡ 32 → get_or left 0 null_cell ≡ null_cell
+    → ((r : ℕ) → r < 32 → get_or left r null_cell ≡ without_tag_if (is_set mask r) (get_or registers r null_cell))
     → AreSwept heap old registers new left
 AreSwept-masks heap old new registers left masks mask sound at take cleared bits long zero cells =
     record {
       base = ap (λ (m : MemoryState). m.base) cleared ∙ at;
       cells = ap (λ (m : MemoryState). m.cells) cleared ∙ without_tags-swept heap.held old masks take;
-      registers_are = registers-swept heap.held registers left mask sound.count sound.zero bits long zero cells;
+      registers_are = registers-swept heap.held registers left mask sound.count sound.zero bits long (zero ∙ sym sound.zero) (λ r some lt. cells r lt);
     }
 
 abbrev pub tagged_cells : List Granule → ℕ

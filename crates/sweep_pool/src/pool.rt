@@ -81,8 +81,7 @@ fn tasks_of(memory: &Memory, cutting: &Cutting) -> u32
     ensures some { 0 < result }
     ensures most { result ≤ 1024 }
 {
-    // Called for what it ensures alone: the memory has 1 to 1,024 pages.
-    let _base = memory.base();
+    memory.whole();
     cutting.tasks(memory.pages())
 }
 

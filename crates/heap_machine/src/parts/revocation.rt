@@ -1,11 +1,9 @@
 //! Freeing and sweeping: blocks in quarantine, and the tags of the words that point there.
 
-ghost use Rattle.std.specs.Prelude.{◌≡◌, ◌<◌, ◌≤◌, ◌&&◌, ℕ, IfErr, IfOk, IsOk, OnErr, length, not, slice_index_or};
+ghost use Rattle.std.specs.Prelude.{◌≡◌, ◌≤◌, IfErr, IfOk, IsOk, OnErr};
 ghost use Rattle.trace_text.specs.Command.{IsValid};
 ghost use Rattle.heap_machine.specs.Parts.{AreParts, state_of};
 ghost use Rattle.heap_machine.specs.Step.{Step};
-ghost use Rattle.tag_memory.specs.Cells.{null_cell};
-ghost use Rattle.tag_memory.specs.Tags.{is_set};
 
 use crate::capability::bounds_of_word;
 use crate::parts::Parts;
@@ -15,7 +13,6 @@ use heap_core::Freed;
 use std::alloc::Global;
 use std::thread::Threads;
 use sweep_pool::{Cutting, Gate, sweep_masks, swept_registers};
-use tag_memory::{REGISTERS, Registers, bit};
 use trace_text::Command;
 
 // To decode the words of so many granules takes longer than a worker more costs: the start of its thread,
@@ -30,24 +27,6 @@ fn cutting_for(cutting: Cutting, tagged: usize) -> Cutting
     let worthwhile = tagged / GRANULES_A_WORKER + 1;
     let workers = worthwhile.min(cutting.workers() as usize) as u32;
     Cutting::new(workers, cutting.pages_per_task()).unwrap()
-}
-
-// Takes the tags of the registers whose bits are 1 in the mask. Register 0 stays as it is.
-fn clear_registers(registers: &mut Registers, mask: u32)
-    requires { length registers.old ≡ 32 }
-    ensures count { length registers.new ≡ 32 }
-    ensures zero { slice_index_or registers.new 0 null_cell ≡ slice_index_or registers.old 0 null_cell }
-    ensures cells { (r : ℕ) → 0 < r → r < 32 → slice_index_or registers.new r null_cell
-        ≡ (
-          (slice_index_or registers.old r null_cell).0,
-          (slice_index_or registers.old r null_cell).1 && not (is_set mask r),
-        ) }
-{
-    for r in 0..REGISTERS {
-        if bit(u64::from(mask), usize::from(r)) {
-            registers.clear(r);
-        }
-    }
 }
 
 impl Parts {
@@ -126,7 +105,7 @@ impl Parts {
         let mask = swept_registers(&self.registers, &shadow, self.memory.base());
         let before = tagged + self.registers.tagged();
         self.memory.clear_tags(&masks);
-        clear_registers(&mut self.registers, mask);
+        self.registers.clear_tags(mask);
         let after = self.memory.tagged() + self.registers.tagged();
         let released = self.heap.give_back();
         Ok(Reply::Swept {

@@ -10,8 +10,8 @@ returns-clause-count c =
 
 pub returns-clause-some : goal.returns-clause-some
 returns-clause-some c =
-    (some_tasks c.args.memory.now c.args.cutting.now c.tasks.result c.base-base.ensures.whole (returns-clause-count c)).0
+    (some_tasks c.args.memory.now c.args.cutting.now c.tasks.result c.whole.ensures (returns-clause-count c)).0
 
 pub returns-clause-most : goal.returns-clause-most
 returns-clause-most c =
-    (some_tasks c.args.memory.now c.args.cutting.now c.tasks.result c.base-base.ensures.whole (returns-clause-count c)).1
+    (some_tasks c.args.memory.now c.args.cutting.now c.tasks.result c.whole.ensures (returns-clause-count c)).1

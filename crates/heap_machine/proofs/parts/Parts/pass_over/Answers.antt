@@ -17,10 +17,10 @@ overflow_sub-result g c =
     let of : IsShadowOf m.heap m.memory.base c.in-Ok-shadow.shadow = record { start = sym parts.base; sound = parts.sound.safe.heap; painted = painted } in
     let at : IsShadowOf m.heap c.base.result c.in-Ok-shadow.shadow = record { start = sym (c.base.ensures.value ∙ parts.base); sound = parts.sound.safe.heap; painted = painted } in
     let cleared = rw c.deref.ensures.value at c.clear_tags.ensures.value in
-    let are = AreSwept-masks m.heap m.memory c.clear_tags.new.self m.registers c.clear_registers.new.registers c.in-Ok-sweep_masks.masks.items c.swept_registers-mask.result
+    let are = AreSwept-masks m.heap m.memory c.clear_tags.new.self m.registers c.clear_tags-2.new.self c.in-Ok-sweep_masks.masks.items c.swept_registers-mask.result
     parts.sound parts.base (c.in-Ok-sweep_masks.ensures.held m.heap of) cleared (c.swept_registers-mask.ensures.held m.heap at)
-    c.clear_registers.ensures.count c.clear_registers.ensures.zero c.clear_registers.ensures.cells in
-    let left = tags-left m.heap m.memory c.clear_tags.new.self m.registers c.clear_registers.new.registers are in
+    c.clear_tags-2.ensures.count c.clear_tags-2.ensures.zero c.clear_tags-2.ensures.cells in
+    let left = tags-left m.heap m.memory c.clear_tags.new.self m.registers c.clear_tags-2.new.self are in
     omega (arith, left, tags_of-swept s, c.tagged-tagged.ensures, c.tagged.ensures, c.tagged-2.ensures, c.tagged-3.ensures)
 
 pub returns-clause-step : goal.returns-clause-step
@@ -32,10 +32,10 @@ returns-clause-step g c =
     let of : IsShadowOf m.heap m.memory.base c.in-Ok-shadow.shadow = record { start = sym parts.base; sound = parts.sound.safe.heap; painted = painted } in
     let at : IsShadowOf m.heap c.base.result c.in-Ok-shadow.shadow = record { start = sym (c.base.ensures.value ∙ parts.base); sound = parts.sound.safe.heap; painted = painted } in
     let cleared = rw c.deref.ensures.value at c.clear_tags.ensures.value in
-    let are = AreSwept-masks m.heap m.memory c.clear_tags.new.self m.registers c.clear_registers.new.registers c.in-Ok-sweep_masks.masks.items c.swept_registers-mask.result
+    let are = AreSwept-masks m.heap m.memory c.clear_tags.new.self m.registers c.clear_tags-2.new.self c.in-Ok-sweep_masks.masks.items c.swept_registers-mask.result
     parts.sound parts.base (c.in-Ok-sweep_masks.ensures.held m.heap of) cleared (c.swept_registers-mask.ensures.held m.heap at)
-    c.clear_registers.ensures.count c.clear_registers.ensures.zero c.clear_registers.ensures.cells in
-    let left = tags-left m.heap m.memory c.clear_tags.new.self m.registers c.clear_registers.new.registers are in
+    c.clear_tags-2.ensures.count c.clear_tags-2.ensures.zero c.clear_tags-2.ensures.cells in
+    let left = tags-left m.heap m.memory c.clear_tags.new.self m.registers c.clear_tags-2.new.self are in
     let free : c.give_back-released.new.self ≡ without_held m.heap = c.give_back-released.ensures.free ∙ ap without_held c.prepare.ensures.unchanged in
     rw (c.tagged-tagged.ensures, c.tagged.ensures, c.tagged-2.ensures, c.tagged-3.ensures, left, tags_taken-difference s, c.give_back-released.ensures.bytes, c.prepare.ensures.unchanged, free, are.cells, are.registers_are)
     (refl, refl)
