@@ -1,9 +1,9 @@
 -- Registers whose tags are taken by a mask.
-use Rattle.std.proofs.Common.{◌≡◌, ◌∙◌, ◌<◌, ◌≤◌, ◌+◌, ◌&&◌, ℕ, Bool, true, false, cond, not, inl, inr, List, length, get_or, set, length-set, refl, sym, ap, subst, arith}
-use Rattle.std.proofs.lemmas.Bool.{cases_eq, eq-eqb, ne_eqb}
-use Rattle.std.proofs.lemmas.List.{ext_get_or, get_or-map, get_or-set_other, get_or-set_same, length-map}
+use Rattle.std.proofs.Common.{◌≡◌, ◌∙◌, ◌<◌, ◌&&◌, ℕ, Bool, cond, not, inl, inr, List, length, get_or, sym, ap, subst, arith}
+use Rattle.std.proofs.lemmas.Bool.{cases_eq, ne_eqb}
+use Rattle.std.proofs.lemmas.List.{ext_get_or, get_or-map, length-map}
 use Rattle.sweep_pool.specs.Sweep.{is_revoked, swept_cell, swept_registers, takes_tag}
-use Rattle.tag_memory.specs.Cells.{Cell, null_cell, register_in, with_register}
+use Rattle.tag_memory.specs.Cells.{Cell, null_cell, register_in}
 use Rattle.tag_memory.specs.Tags.{is_set}
 use Rattle.heap_core.specs.Blocks.{Span}
 use Rattle.heap_machine.proofs.SweptState.{and_not}

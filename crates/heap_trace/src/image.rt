@@ -25,6 +25,7 @@ fn lines(alloc: Global, memory: &Memory) -> Result<Vec<u8>, AllocError>
     ensures { IfOk result (λ text. text.items ≡ image_of memory.now.base memory.now.cells) }
 {
     let mut text = Vec::new(alloc);
+    memory.whole();
     let base = memory.base();
     for i in 0..memory.granules() {
         push_granule(&mut text, base + GRANULE * i as u64, memory.cell(i))?;
