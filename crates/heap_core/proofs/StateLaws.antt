@@ -80,14 +80,14 @@ IsSound-live s size a sound free =
       size = sound.size;
       place = sound.place;
       live_inside = All-blocks_with (IsInside (with_live s size a)) block s.live (still block inside)
-      (All-weaker (IsInside s) (IsInside (with_live s size a)) still s.live sound.live_inside);
+          (All-weaker (IsInside s) (IsInside (with_live s size a)) still s.live sound.live_inside);
       held_inside = All-weaker (IsInside s) (IsInside (with_live s size a)) still s.held sound.held_inside;
       live_order = AllPairs-blocks_with block s.live inside.some free.live sound.live_order;
       held_order = sound.held_order;
       apart = All-blocks_with (λ b. All (IsApart b) s.held) block s.live free.held sound.apart;
     } where
-  still : (b : Span) → IsInside s b → IsInside (with_live s size a) b
-  still b inside = record { start = inside.start; length = inside.length; some = inside.some; from = inside.from; end = inside.end }
+      still : (b : Span) → IsInside s b → IsInside (with_live s size a) b
+      still b inside = record { start = inside.start; length = inside.length; some = inside.some; from = inside.from; end = inside.end }
 
 -- ---- a block held
 
@@ -142,8 +142,8 @@ IsSound-held s base top sound there =
       held_order = AllPairs-blocks_with block s.held inside.some apart sound.held_order;
       apart = λ k d within. All-blocks_with (IsApart _) block s.held (others k d within) (All-filter keeps (λ b. All (IsApart b) s.held) s.live sound.apart k d within);
     } where
-  still : (b : Span) → IsInside s b → IsInside (with_held s base top) b
-  still b inside = record { start = inside.start; length = inside.length; some = inside.some; from = inside.from; end = inside.end }
+      still : (b : Span) → IsInside s b → IsInside (with_held s base top) b
+      still b inside = record { start = inside.start; length = inside.length; some = inside.some; from = inside.from; end = inside.end }
 
 -- ---- the held blocks given back
 
@@ -154,7 +154,7 @@ IsSound-free s sound = record {
   size = sound.size;
   place = sound.place;
   live_inside = All-weaker (IsInside s) (IsInside (without_held s))
-  (λ b inside. record { start = inside.start; length = inside.length; some = inside.some; from = inside.from; end = inside.end }) s.live sound.live_inside;
+      (λ b inside. record { start = inside.start; length = inside.length; some = inside.some; from = inside.from; end = inside.end }) s.live sound.live_inside;
   held_inside = All-nil (IsInside (without_held s));
   live_order = sound.live_order;
   held_order = λ j k d less within. absurd (omega arith);

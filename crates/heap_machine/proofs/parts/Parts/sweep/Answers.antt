@@ -9,8 +9,7 @@ pub returns-then-held_bytes-eq0-clause-step : goal.returns-then-held_bytes-eq0-c
 returns-then-held_bytes-eq0-clause-step g c =
     let s = state_of c.args.self.now in
     let bytes : bytes_of s.heap.held ≡ 0 = omega (arith, c.held_bytes.ensures, c.if-held_bytes-eq0.true) in
-    let none : s.heap.held ≡ [] = no_blocks s.heap c.requires.sound.safe.heap bytes in
-    (
+    let none : s.heap.held ≡ [] = no_blocks s.heap c.requires.sound.safe.heap bytes in (
       λ i. Swept (sym (tags_taken-none s none) i) (sym bytes i),
       sym (swept-none s none),
     )
