@@ -3,8 +3,9 @@ use Rattle.std.proofs.Common.{◌≡◌, ℕ, ◌+◌, ◌-◌, ◌*◌, ◌^◌
 use Rattle.std.proofs.Math.Nat.{pow-le-pow_right}
 use Rattle.std.proofs.lemmas.Bool.{cases_lt}
 use Rattle.std.proofs.lemmas.Nat.{pow-add}
+use Rattle.cap_codec.specs.Laws.{le-round_up}
 use Rattle.cap_codec.specs.Rounding.{Fits, exponent_for}
-use Rattle.cap_codec.proofs.RoundingLaws.{exponent_for-is, le-round_up, round_down-le, round_down-near, round_up-near}
+use Rattle.cap_codec.proofs.RoundingLaws.{exponent_for-is, round_down-le, round_down-near, round_up-near}
 
 pow-mono : (a b : ℕ) → a ≤ b → 2 ^ a ≤ 2 ^ b
 pow-mono a b h = pow-le-pow_right (omega arith) h

@@ -6,9 +6,10 @@ use Rattle.std.proofs.lemmas.Bool.{cases_Bool, cases_lt}
 use Rattle.std.proofs.lemmas.Bool.Decides.{nat_tests}
 use Rattle.std.proofs.lemmas.Nat.{pow-add}
 use Rattle.cap_codec.specs.declared.word.Bounds.{Bounds}
+use Rattle.cap_codec.specs.Laws.{le-round_up}
 use Rattle.cap_codec.specs.Rounding.{Fits, exponent_for, is_short, length_for, outward, outward_base, outward_top, round_down, round_up, unit_for}
 use Rattle.cap_codec.proofs.BoundsLaws.{same_bounds}
-use Rattle.cap_codec.proofs.RoundingLaws.{IsExponent-exponent_for, le-round_up, round_down-le, round_up-least}
+use Rattle.cap_codec.proofs.RoundingLaws.{IsExponent-exponent_for, round_down-le, round_up-least}
 
 -- A multiple of a coarser unit is one of a finer: it rounds to itself.
 finer : (k j n : ℕ) → k ≤ j → n % 2 ^ j ≡ 0 → n % 2 ^ k ≡ 0

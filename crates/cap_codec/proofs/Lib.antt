@@ -18,3 +18,4 @@ pub mod RoundingLaws
 pub mod UnitLaws
 pub mod WindowLaws
 pub mod WindowSizes
+pub mod WordLaws

@@ -4,6 +4,7 @@ use Rattle.std.proofs.Math.Nat.{div-add-mod', mod-lt, mul-le-mul_right}
 use Rattle.std.proofs.lemmas.Bool.{cases_Bool}
 use Rattle.std.proofs.lemmas.Bool.Decides.{nat_tests}
 use Rattle.std.proofs.lemmas.Nat.{div_below, le-div, pow-add, pow_pos}
+use Rattle.cap_codec.specs.Laws.{le-round_up}
 use Rattle.cap_codec.specs.Rounding.{Fits, IsExponent, IsNearExponent, exponent_for, first_from, round_down, round_up, rounded_length}
 
 pub round_down-le : (k n : ℕ) → round_down k n ≤ n
@@ -11,9 +12,6 @@ round_down-le k n = omega (arith, div-add-mod' n (2 ^ k))
 
 pub round_down-near : (k n : ℕ) → n < round_down k n + 2 ^ k
 round_down-near k n = omega (arith, div-add-mod' n (2 ^ k), mod-lt n (pow_pos k))
-
-pub le-round_up : (k n : ℕ) → n ≤ round_up k n
-le-round_up k n = let p = pow_pos k in omega (arith, div-add-mod' (n + (2 ^ k - 1)) (2 ^ k), mod-lt (n + (2 ^ k - 1)) p)
 
 pub round_up-near : (k n : ℕ) → round_up k n < n + 2 ^ k
 round_up-near k n = let p = pow_pos k in omega (arith, div-add-mod' (n + (2 ^ k - 1)) (2 ^ k))

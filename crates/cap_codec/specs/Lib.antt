@@ -3,6 +3,8 @@ pub mod Bytes
 pub mod Corrections
 pub mod Fields
 pub mod Integers
+pub mod Laws
 pub mod Mantissas
 pub mod Representable
 pub mod Rounding
+pub mod Words

@@ -2,12 +2,13 @@
 //! many windows the address's upper bits have to be corrected.
 
 ghost use Rattle.std.specs.Prelude.{◌≡◌, ◌<◌, ◌≤◌, ◌+◌, ◌-◌, ◌*◌, ◌/◌, ◌%◌, ◌^◌, ◌↔◌, IsTrue, ℕ, ℤ, pos, ◌+ℤ◌, ◌-ℤ◌, ◌*ℤ◌};
-ghost use Rattle.cap_codec.specs.Bounds.{IsBounds, bounds_of};
+ghost use Rattle.cap_codec.specs.Bounds.{IsBounds};
 ghost use Rattle.cap_codec.specs.Corrections.{AreCorrections};
 ghost use Rattle.cap_codec.specs.Fields.{IsValid, bit_of, fields_of};
 ghost use Rattle.cap_codec.specs.Integers.{IsCongruent};
 ghost use Rattle.cap_codec.specs.Mantissas.{base_mantissa, exponent_of, top_mantissa};
-ghost use Rattle.cap_codec.specs.Representable.{IsInWindow, IsRepresentable, is_representable};
+ghost use Rattle.cap_codec.specs.Representable.{IsInWindow, IsRepresentable};
+ghost use Rattle.cap_codec.specs.Words.{bounds_in, keeps_bounds};
 
 use crate::decode::fields;
 use crate::word::{Bounds, Fields, Word};
@@ -23,7 +24,7 @@ pub fn corrections(w: Word) -> (i8, i8)
 
 /// The bounds of a word, whatever its 128 bits are.
 pub fn bounds(w: Word) -> Bounds
-    ensures value { result ≡ bounds_of (fields_of w) }
+    ensures value { result ≡ bounds_in w }
     ensures meets { IsBounds (fields_of w) result.base result.top }
     ensures only { (base top : ℕ) → IsBounds (fields_of w) base top → (base ≡ result.base) × (top ≡ result.top) }
 {
@@ -41,7 +42,7 @@ pub fn bounds(w: Word) -> Bounds
 
 /// Whether the word keeps its bounds with this address.
 pub fn representable(w: Word, address: u64) -> bool
-    ensures value { result ≡ is_representable (fields_of w) address }
+    ensures value { result ≡ keeps_bounds w address }
     ensures same { IsTrue result ↔ IsRepresentable (fields_of w) address }
     ensures window { IsTrue result ↔ IsInWindow (fields_of w) address }
 {

@@ -1,27 +1,25 @@
-//! Laws of the format: of words that are made from words, of the null word, and of exact bounds.
+//! Laws of the format: of words that are made from words, of the null word, of permissions, and of exact
+//! bounds.
 
-ghost use Rattle.std.specs.Prelude.{◌≡◌, ◌<◌, ◌≤◌, ◌+◌, ◌%◌, ◌^◌, ◌↔◌, ℕ, bit_and};
-ghost use Rattle.cap_codec.specs.declared.word.Fields.{Fields as TheFields};
+ghost use Rattle.std.specs.Prelude.{◌≡◌, ◌<◌, ◌≤◌, ◌+◌, ◌%◌, ◌^◌, ◌↔◌, IsTrue, ℕ};
 ghost use Rattle.cap_codec.specs.declared.word.Word.{Word as TheWord};
-ghost use Rattle.cap_codec.specs.Bounds.{bounds_of};
-ghost use Rattle.cap_codec.specs.Fields.{IsValid, bits_with, fields_of};
-ghost use Rattle.cap_codec.specs.Rounding.{IsDecoded, IsExact, length_for, outward, unit_for, with_bounds_of};
+ghost use Rattle.cap_codec.specs.Rounding.{IsDecoded, IsExact, length_for, outward, unit_for};
+ghost use Rattle.cap_codec.specs.Words.{bounds_in, capability_of, is_exact, keeps_bounds, load, load_capability, narrowed, store, store_capability, with_address, with_perms};
 
+use crate::permissions::{LOAD, LOAD_CAPABILITY, STORE, STORE_CAPABILITY};
 use crate::word::Word;
 
-/// What the words decode to whose bits are made for bounds, another address or fewer permissions; and from
-/// where a representable length is exact. The calls promise it of the words that they make.
+/// The bounds of words that are made for bounds, another address or fewer permissions; and from where a
+/// representable length is exact. The calls promise it of the words that they make.
 pub fn derivations()
-    ensures bounded { (f : TheFields) (base top : ℕ) → IsValid f → f.perms < 2 ^ 16
-        → base < 2 ^ 64 → base ≤ top → top ≤ 2 ^ 64
-        → bounds_of (fields_of (record { bits = bits_with (with_bounds_of f base top) })) ≡ outward base top }
-    ensures moved { (w : TheWord) (a : ℕ) → a < 2 ^ 64
-        → fields_of (record { bits = bits_with (record (fields_of w) { address = a }) })
-        ≡ record (fields_of w) { address = a } }
-    ensures masked { (w : TheWord) (mask : ℕ)
-        → fields_of (record { bits = bits_with (record (fields_of w) { perms = bit_and (fields_of w).perms mask }) })
-        ≡ record (fields_of w) { perms = bit_and (fields_of w).perms mask } }
-    ensures valid { (w : TheWord) → IsValid (fields_of w) }
+    ensures narrowed { (w : TheWord) (base top : ℕ) → base < 2 ^ 64 → base ≤ top → top ≤ 2 ^ 64
+        → bounds_in (narrowed w base top) ≡ outward base top }
+    ensures capability { (base top : ℕ) → base < 2 ^ 64 → base ≤ top → top ≤ 2 ^ 64
+        → bounds_in (capability_of base top) ≡ outward base top }
+    ensures tested { (base top : ℕ) → IsTrue (is_exact base top) ↔ IsExact base top }
+    ensures moved { (w : TheWord) (a : ℕ) → a < 2 ^ 64 → IsTrue (keeps_bounds w a)
+        → bounds_in (with_address w a) ≡ bounds_in w }
+    ensures masked { (w : TheWord) (mask : ℕ) → bounds_in (with_perms w mask) ≡ bounds_in w }
     ensures exact { (n base : ℕ) → n < 2 ^ 64 → base % unit_for n ≡ 0 → base + length_for n ≤ 2 ^ 64
         → IsExact base (base + length_for n) }
 {}
@@ -29,6 +27,14 @@ pub fn derivations()
 /// The null capability is 128 zero bits.
 pub fn null_is_zeros()
     ensures { Word.NULL.bits ≡ 0 }
+{}
+
+/// The permissions are these bits.
+pub fn permission_bits()
+    ensures load { LOAD ≡ load }
+    ensures store { STORE ≡ store }
+    ensures load_capability { LOAD_CAPABILITY ≡ load_capability }
+    ensures store_capability { STORE_CAPABILITY ≡ store_capability }
 {}
 
 /// The bounds that a word can hold as they are, are those that some word decodes to.

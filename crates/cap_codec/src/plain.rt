@@ -1,10 +1,12 @@
 //! The same calls as at the crate's root, by plain integer arithmetic, as their definitions say them:
-//! by products, quotients and remainders. They share no arithmetic with those at the root.
+//! by products, quotients and remainders. Of those at the root they share the exclusive or of the metadata,
+//! and the exponent, which has one form.
 
 ghost use Rattle.std.specs.Prelude.{◌≡◌, ◌<◌, ◌≤◌, ◌+◌, ◌-◌, ◌*◌, ◌%◌, ◌^◌, ◌↔◌, IsTrue, ℕ};
-ghost use Rattle.cap_codec.specs.Bounds.{IsBounds, bounds_of, corrected, place_in};
+ghost use Rattle.cap_codec.specs.Bounds.{IsBounds, corrected, place_in};
 ghost use Rattle.cap_codec.specs.Fields.{fields_of};
-ghost use Rattle.cap_codec.specs.Representable.{IsInWindow, IsRepresentable, is_representable};
+ghost use Rattle.cap_codec.specs.Representable.{IsInWindow, IsRepresentable};
+ghost use Rattle.cap_codec.specs.Words.{bounds_in, keeps_bounds};
 
 mod rounding;
 mod words;
@@ -19,7 +21,7 @@ const ORIGIN: u128 = 1 << 66;
 
 /// The bounds of a word, whatever its 128 bits are.
 pub fn bounds(w: Word) -> Bounds
-    ensures value { result ≡ bounds_of (fields_of w) }
+    ensures value { result ≡ bounds_in w }
     ensures meets { IsBounds (fields_of w) result.base result.top }
     ensures only { (base top : ℕ) → IsBounds (fields_of w) base top → (base ≡ result.base) × (top ≡ result.top) }
 {
@@ -42,7 +44,7 @@ pub fn bounds(w: Word) -> Bounds
 
 /// Whether the word keeps its bounds with this address.
 pub fn representable(w: Word, address: u64) -> bool
-    ensures value { result ≡ is_representable (fields_of w) address }
+    ensures value { result ≡ keeps_bounds w address }
     ensures same { IsTrue result ↔ IsRepresentable (fields_of w) address }
     ensures window { IsTrue result ↔ IsInWindow (fields_of w) address }
 {

@@ -1,10 +1,10 @@
 //! Bounds rounded outward for an exponent that is known.
 
 ghost use Rattle.std.specs.Prelude.{◌≡◌, ◌<◌, ◌≤◌, ◌+◌, ◌-◌, ◌%◌, ◌^◌, ◌↔◌, IsTrue, ℕ};
-ghost use Rattle.cap_codec.specs.Bounds.{bounds_of};
-ghost use Rattle.cap_codec.specs.Fields.{IsValid, bits_with, fields_of};
+ghost use Rattle.cap_codec.specs.Fields.{IsValid, fields_of};
 ghost use Rattle.cap_codec.specs.Mantissas.{exponent_of};
 ghost use Rattle.cap_codec.specs.Rounding.{Fits, IsExact, IsExponent, IsNearExponent, exponent_for, length_for, outward, round_down, round_up, unit_for, with_bounds_of};
+ghost use Rattle.cap_codec.specs.Words.{bounds_in, is_exact, narrowed};
 
 use crate::decode::{fields, word_of};
 use crate::word::{Bounds, Fields, Word};
@@ -19,10 +19,11 @@ pub fn with_exponent(w: Word, base: u64, top: u128, exponent: u8) -> (Word, bool
     requires exponent { exponent ≡ exponent_for base top }
     requires limit { exponent ≤ 52 }
     ensures fields { fields_of result.0 ≡ with_bounds_of (fields_of w) base top }
-    ensures word { result.0.bits ≡ bits_with (with_bounds_of (fields_of w) base top) }
-    ensures bounds { bounds_of (fields_of result.0) ≡ outward base top }
+    ensures word { result.0 ≡ narrowed w base top }
+    ensures bounds { bounds_in result.0 ≡ outward base top }
     ensures limit { (outward base top).top ≤ 2 ^ 64 }
     ensures exact { IsTrue result.1 ↔ IsExact base top }
+    ensures flag { result.1 ≡ is_exact base top }
 
     // Bounds that aren't short get the least exponent that is enough.
     ensures exponent { 2 ^ 12 ≤ top - base

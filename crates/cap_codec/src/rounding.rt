@@ -1,10 +1,10 @@
 //! Words that are made for bounds, and the lengths that a word can hold.
 
 ghost use Rattle.std.specs.Prelude.{◌≡◌, ◌<◌, ◌≤◌, ◌+◌, ◌-◌, ◌%◌, ◌^◌, ◌↔◌, IsTrue, ℕ};
-ghost use Rattle.cap_codec.specs.Bounds.{bounds_of};
-ghost use Rattle.cap_codec.specs.Fields.{bits_with, fields_of};
+ghost use Rattle.cap_codec.specs.Fields.{fields_of};
 ghost use Rattle.cap_codec.specs.Mantissas.{exponent_of};
 ghost use Rattle.cap_codec.specs.Rounding.{IsExact, IsExponent, IsNearExponent, exponent_for, length_for, outward, round_up, unit_for, with_bounds_of};
+ghost use Rattle.cap_codec.specs.Words.{bounds_in, is_exact, narrowed};
 
 use crate::rounded::{SHORT, fits, length_with, mask_with, with_exponent};
 use crate::word::Word;
@@ -15,10 +15,11 @@ pub fn with_bounds(w: Word, base: u64, top: u128) -> (Word, bool)
     requires order { base ≤ top }
     requires room { top ≤ 2 ^ 64 }
     ensures fields { fields_of result.0 ≡ with_bounds_of (fields_of w) base top }
-    ensures word { result.0.bits ≡ bits_with (with_bounds_of (fields_of w) base top) }
-    ensures bounds { bounds_of (fields_of result.0) ≡ outward base top }
+    ensures word { result.0 ≡ narrowed w base top }
+    ensures bounds { bounds_in result.0 ≡ outward base top }
     ensures limit { (outward base top).top ≤ 2 ^ 64 }
     ensures exact { IsTrue result.1 ↔ IsExact base top }
+    ensures flag { result.1 ≡ is_exact base top }
 
     // Bounds that aren't short get the least exponent that is enough.
     ensures exponent { 2 ^ 12 ≤ top - base

@@ -55,3 +55,14 @@ pub struct Bounds {
     pub base: u64,
     pub top: u128,
 }
+
+impl Bounds {
+    ghost use Rattle.cap_codec.specs.Words.{lie_within};
+
+    /// Whether the `length` bytes from `address` on lie within the bounds.
+    pub fn hold(&self, address: u64, length: u64) -> bool
+        ensures { result ≡ lie_within self.now address length }
+    {
+        self.base <= address && u128::from(address) + u128::from(length) <= self.top
+    }
+}

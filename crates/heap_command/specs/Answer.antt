@@ -7,7 +7,7 @@ use Rattle.command_line.specs.declared.words.Refusal.{Refusal}
 use Rattle.command_line.specs.declared.words.Refusal.TheVariants.{Memory, Words}
 use Rattle.command_line.specs.Words.{NamesRun, Text}
 use Rattle.trace_text.specs.declared.fault.TraceFault.{TraceFault}
-use Rattle.heap_machine.specs.declared.reply.Reply.{Reply}
+use Rattle.heap_reply.specs.declared.reply.Reply.{Reply}
 use Rattle.heap_trace.specs.Reading.{Script, trace_of}
 use Rattle.heap_trace.specs.Report.{report_text}
 use Rattle.heap_trace.specs.Run.{Run}

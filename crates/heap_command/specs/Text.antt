@@ -5,8 +5,8 @@ use Rattle.std.specs.List.{concat}
 use Rattle.cap_codec.specs.declared.word.Bounds.{Bounds}
 use Rattle.cap_codec.specs.declared.word.Fields.{Fields}
 use Rattle.cap_codec.specs.declared.word.Word.{Word}
-use Rattle.cap_codec.specs.Bounds.{bounds_of}
 use Rattle.cap_codec.specs.Fields.{fields_of}
+use Rattle.cap_codec.specs.Words.{bounds_in}
 use Rattle.cap_codec.specs.Mantissas.{exponent_of}
 use Rattle.heap_trace.specs.Display.{bit_text, hexadecimal_text, place_text}
 use Rattle.trace_text.specs.declared.fault.TraceFault.{TraceFault}
@@ -32,7 +32,7 @@ line_with f bounds exponent =
 
 -- The line of a word: its fields, and the bounds and the exponent that they encode.
 abbrev pub word_line : Word → List ℕ
-word_line w = line_with (fields_of w) (bounds_of (fields_of w)) (exponent_of (fields_of w))
+word_line w = line_with (fields_of w) (bounds_in w) (exponent_of (fields_of w))
 
 -- What is written where memory runs out.
 abbrev pub memory_line : List ℕ

@@ -1,9 +1,10 @@
 -- Lengths and units of blocks, in granules.
 use Rattle.std.proofs.Common.{◌≡◌, ◌<◌, ◌≤◌, ◌+◌, ◌-◌, ◌*◌, ◌/◌, ◌%◌, ◌^◌, ◌⊎◌, inl, inr, ℕ, zero, suc, max, refl, sym, ap, ◌∙◌, subst, true, false, arith}
 use Rattle.std.proofs.Math.Arith.{mod-mul}
-use Rattle.std.proofs.Math.Nat.{le-max_left, max-eq_right, mod-lt, mod-one, mul-mod_left}
+use Rattle.std.proofs.Math.Nat.{le-max_left, max-eq_right, mod-one, mul-mod_left}
 use Rattle.std.proofs.lemmas.Bool.{cases_Bool}
-use Rattle.std.proofs.lemmas.Nat.{div-add-mod', pow-add, pow_pos}
+use Rattle.std.proofs.lemmas.Nat.{pow-add, pow_pos}
+use Rattle.cap_codec.specs.Laws.{le-round_up}
 use Rattle.cap_codec.specs.Rounding.{exponent_for, is_short, length_for, round_up, unit_for}
 use Rattle.heap_core.specs.Place.{block_length, block_unit, granule_size}
 
@@ -16,12 +17,6 @@ length_for_short n short = rw short refl
 length_for_long : (n : ℕ) → is_short 0 n ≡ false → length_for n ≡ round_up (exponent_for 0 n + 3) n
 unfolding length_for
 length_for_long n long = rw long refl
-
-le-round_up : (k n : ℕ) → n ≤ round_up k n
-le-round_up k n =
-    let more = n + (2 ^ k - 1) in
-    let some : 0 < 2 ^ k = pow_pos k in
-    omega (arith, div-add-mod' (n + (2 ^ k - 1)) (2 ^ k), mod-lt (n + (2 ^ k - 1)) some)
 
 pub le-length_for : (n : ℕ) → n ≤ length_for n
 le-length_for n =

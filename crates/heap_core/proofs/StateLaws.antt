@@ -1,15 +1,16 @@
 -- What keeps a heap sound, seen from its blocks alone.
-use Rattle.std.proofs.Common.{◌≡◌, ◌<◌, ◌≤◌, ◌+◌, ◌-◌, ◌*◌, ◌%◌, ◌==◌, inl, inr, nat_lt, nat_le, not, ℕ, zero, suc, Bool, true, false, List, [], ◌∷◌, ap, sym, ◌∙◌, subst, arith}
+use Rattle.std.proofs.Common.{◌≡◌, ◌<◌, ◌≤◌, ◌-◌, ◌%◌, inl, inr, nat_lt, not, ℕ, zero, suc, Bool, true, List, [], ◌∷◌, subst, arith}
 use Rattle.std.proofs.Math.Nat.{le-max_left}
-use Rattle.std.proofs.lemmas.Bool.{and_parts, cases_Bool, eqb-true, ltb-true}
+use Rattle.std.proofs.lemmas.Bool.{cases_Bool, ltb-true}
 use Rattle.std.proofs.lemmas.Bool.Decides.{nat_tests}
 use Rattle.std.proofs.lemmas.List.Elements.{All-cons, All-contains, All-filter, All-head, All-nil, All-tail, All-weaker}
 use Rattle.std.proofs.lemmas.List.Folds.{Any-from_list_any}
 use Rattle.std.proofs.lemmas.List.Kept.{AllPairs-cons, AllPairs-filter}
 use Rattle.std.specs.List.{Contains}
-use Rattle.std.specs.Prelude.{◌||◌, All, AllPairs, max}
-use Rattle.heap_core.specs.Blocks.{IsApart, IsBefore, Span, blocks_with, blocks_without, end_of, has_bounds, is_block, length_of, start_of}
+use Rattle.std.specs.Prelude.{All, AllPairs, max}
+use Rattle.heap_core.specs.Blocks.{IsApart, IsBefore, Span, blocks_with, blocks_without, has_bounds, is_block, length_of, start_of}
 use Rattle.heap_core.specs.Heap.{HeapState, IsInside, IsSound}
+use Rattle.heap_core.specs.Laws.{has_bounds-is}
 use Rattle.heap_core.specs.Place.{IsFree, block_length, granule_size, with_live}
 use Rattle.heap_core.specs.Quarantine.{with_held, without_held}
 use Rattle.heap_core.proofs.SizeLaws.{le-length_for, length_for_granules}
@@ -66,14 +67,16 @@ IsInside-free s size a free =
       end = free.end;
     }
 
-IsApart-turned : (b c : Span) → IsApart b c → IsApart c b
-IsApart-turned b c (inl before) = inr before
-IsApart-turned b c (inr after) = inl after
+-- Where a block lies in a heap doesn't hang on the heap's blocks.
+IsInside-blocks : (s : HeapState) (live held : List Span) (block : Span) → IsInside s block → IsInside (record s { live = live; held = held }) block
+IsInside-blocks s live held block inside =
+    record { start = inside.start; length = inside.length; some = inside.some; from = inside.from; end = inside.end }
 
 pub IsSound-live : (s : HeapState) (size a : ℕ) → IsSound s → IsFree s size a → IsSound (with_live s size a)
 IsSound-live s size a sound free =
     let block : Span = (a, block_length size) in
     let inside = IsInside-free s size a free in
+    let still = IsInside-blocks s (blocks_with block s.live) s.held in
     record {
       pages = sound.pages;
       bytes = sound.bytes;
@@ -85,16 +88,9 @@ IsSound-live s size a sound free =
       live_order = AllPairs-blocks_with block s.live inside.some free.live sound.live_order;
       held_order = sound.held_order;
       apart = All-blocks_with (λ b. All (IsApart b) s.held) block s.live free.held sound.apart;
-    } where
-      still : (b : Span) → IsInside s b → IsInside (with_live s size a) b
-      still b inside = record { start = inside.start; length = inside.length; some = inside.some; from = inside.from; end = inside.end }
+    }
 
 -- ---- a block held
-
-has_bounds-is : (base top : ℕ) (block : Span) → has_bounds base top block ≡ true → (start_of block ≡ base) × (end_of block ≡ top)
-has_bounds-is base top block is =
-    let both = and_parts (start_of block == base) (end_of block == top) is in
-    (eqb-true (start_of block) base both.0, eqb-true (end_of block) top both.1)
 
 -- Blocks in order share no address with the one that is taken out.
 apart-without : (base top : ℕ) (blocks : List Span) → AllPairs IsBefore blocks → is_block blocks base top ≡ true
@@ -131,6 +127,7 @@ IsSound-held s base top sound there =
     let inside : IsInside s block = subst (IsInside s) same old in
     let apart : All (IsApart block) s.held = subst (λ (b : Span). All (IsApart b) s.held) same (All-contains (λ b. All (IsApart b) s.held) s.live found.1 sound.apart in_live) in
     let others = apart-without base top s.live sound.live_order there in
+    let still = IsInside-blocks s new.live new.held in
     record {
       pages = sound.pages;
       bytes = sound.bytes;
@@ -141,9 +138,7 @@ IsSound-held s base top sound there =
       live_order = AllPairs-filter IsBefore keeps s.live sound.live_order;
       held_order = AllPairs-blocks_with block s.held inside.some apart sound.held_order;
       apart = λ k d within. All-blocks_with (IsApart _) block s.held (others k d within) (All-filter keeps (λ b. All (IsApart b) s.held) s.live sound.apart k d within);
-    } where
-      still : (b : Span) → IsInside s b → IsInside (with_held s base top) b
-      still b inside = record { start = inside.start; length = inside.length; some = inside.some; from = inside.from; end = inside.end }
+    }
 
 -- ---- the held blocks given back
 
@@ -153,8 +148,7 @@ IsSound-free s sound = record {
   bytes = sound.bytes;
   size = sound.size;
   place = sound.place;
-  live_inside = All-weaker (IsInside s) (IsInside (without_held s))
-      (λ b inside. record { start = inside.start; length = inside.length; some = inside.some; from = inside.from; end = inside.end }) s.live sound.live_inside;
+  live_inside = All-weaker (IsInside s) (IsInside (without_held s)) (IsInside-blocks s s.live []) s.live sound.live_inside;
   held_inside = All-nil (IsInside (without_held s));
   live_order = sound.live_order;
   held_order = λ j k d less within. absurd (omega arith);

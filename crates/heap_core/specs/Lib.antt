@@ -1,6 +1,7 @@
 pub mod Blocks
 pub mod Consistent
 pub mod Heap
+pub mod Laws
 pub mod Place
 pub mod Quarantine
 pub mod Rows

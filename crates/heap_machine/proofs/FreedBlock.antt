@@ -1,35 +1,25 @@
 -- A block that goes from live to held keeps a state safe.
-use Rattle.std.proofs.Common.{◌≡◌, ◌∙◌, ◌-◌, ◌==◌, ℕ, Bool, true, false, cond, not, inl, inr, List, [], ◌∷◌, refl, sym, ap, subst, arith}
+use Rattle.std.proofs.Common.{◌≡◌, ◌∙◌, ◌-◌, ℕ, Bool, true, false, cond, not, inl, inr, List, [], ◌∷◌, refl, sym, ap, subst, arith}
 use Rattle.std.specs.Prelude.{All, filter}
 use Rattle.std.specs.List.{Contains}
-use Rattle.std.proofs.lemmas.Bool.{and_parts, cases_Bool, eqb-true, false_from_ne_true}
+use Rattle.std.proofs.lemmas.Bool.{cases_Bool, false_from_ne_true}
 use Rattle.std.proofs.lemmas.List.Elements.{All-contains}
 use Rattle.std.proofs.lemmas.List.Folds.{Any-from_list_any}
-use Rattle.heap_core.specs.Blocks.{IsApart, Span, blocks_with, end_of, has_bounds, is_block, start_of}
+use Rattle.heap_core.specs.Blocks.{IsApart, Span, blocks_with, has_bounds, is_block}
 use Rattle.heap_core.specs.Heap.{HeapState, IsInside, IsSound as IsSoundHeap}
+use Rattle.heap_core.specs.Laws.{has_bounds-is, the_block}
 use Rattle.heap_core.specs.Quarantine.{freed_of, with_held}
 use Rattle.heap_core.specs.declared.block.Freed.TheVariants as TheFreed
 use Rattle.trace_text.specs.declared.trace.Command.TheVariants.{Free}
 use Rattle.heap_machine.specs.Safety.{IsLiveOrHeld, IsSafe}
-use Rattle.heap_machine.specs.declared.reply.Reply.TheVariants.{Held}
+use Rattle.heap_reply.specs.declared.reply.Reply.TheVariants.{Held}
 use Rattle.heap_machine.specs.State.{State, register}
-use Rattle.heap_machine.specs.Step.{Step, bounds_in}
+use Rattle.cap_codec.specs.Words.{bounds_in}
+use Rattle.heap_machine.specs.Step.{Step}
 use Rattle.heap_machine.proofs.BlockLists.{Contains-later, Contains-cases, Contains-new, Contains-still}
 use Rattle.heap_machine.proofs.SoundLaws.{IsSafe-in}
 
 -- ---- bounds
-
--- The block with these bounds.
-has_bounds-is : (base top : ℕ) (block : Span) → has_bounds base top block ≡ true → (start_of block ≡ base) × (end_of block ≡ top)
-has_bounds-is base top block is =
-    let both = and_parts (start_of block == base) (end_of block == top) is in
-    (eqb-true (start_of block) base both.0, eqb-true (end_of block) top both.1)
-
-the_block : (base top : ℕ) (block : Span) → has_bounds base top block ≡ true → block ≡ (base, top - base)
-the_block base top block is =
-    let both = has_bounds-is base top block is in
-    let length : block.1 ≡ top - base = omega (arith, both.0, both.1) in
-    λ k. (both.0 k, length k)
 
 -- No block is live and held.
 pub one_of_both : (heap : HeapState) (base top : ℕ) → IsSoundHeap heap → is_block heap.live base top ≡ true → is_block heap.held base top ≡ false

@@ -8,7 +8,7 @@ use Rattle.heap_core.specs.Blocks.{Span}
 use Rattle.heap_core.specs.Heap.{HeapState, IsInside, IsSound as IsSoundHeap}
 use Rattle.tag_memory.specs.Cells.{Cell}
 use Rattle.heap_machine.specs.Safety.{IsGuarded, IsLiveOrHeld, LieIn}
-use Rattle.heap_machine.specs.Step.{bounds_in}
+use Rattle.cap_codec.specs.Words.{bounds_in}
 
 pub IsGuarded-untagged : (heap : HeapState) (w : Word) → IsGuarded heap (w, false)
 IsGuarded-untagged heap w = record { within = λ e. absurd cc }

@@ -10,10 +10,10 @@ use Rattle.tag_memory.specs.Cells.{Cell, Granule, null_cell}
 use Rattle.trace_text.specs.declared.trace.Command.{Command}
 use Rattle.trace_text.specs.declared.trace.Command.TheVariants.{Malloc, Free, Copy, SetAddr, Narrow, AndPerm, StoreCap, LoadCap, Write, Show, Sweep}
 use Rattle.heap_machine.specs.declared.parts.Parts.{Parts}
-use Rattle.heap_machine.specs.declared.reply.MachineFault.{MachineFault}
-use Rattle.heap_machine.specs.declared.reply.Reply.{Reply}
-use Rattle.heap_machine.specs.declared.reply.Reply.TheVariants.{Block, NoSpace, Held, Done, Cleared, Swept, Shown, Trap}
-use Rattle.heap_machine.specs.declared.reply.Trap.{Trap as TheTrap}
+use Rattle.heap_machine.specs.declared.fault.MachineFault.{MachineFault}
+use Rattle.heap_reply.specs.declared.reply.Reply.{Reply}
+use Rattle.heap_reply.specs.declared.reply.Reply.TheVariants.{Block, NoSpace, Held, Done, Cleared, Swept, Shown, Trap}
+use Rattle.heap_reply.specs.declared.reply.Trap.{Trap as TheTrap}
 use Rattle.heap_machine.specs.Parts.{AreParts, state_of}
 use Rattle.heap_machine.specs.Safety.{FitsTypes, IsSafe}
 use Rattle.heap_machine.specs.Sound.{IsSound}

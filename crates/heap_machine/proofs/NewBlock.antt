@@ -7,7 +7,7 @@ use Rattle.heap_core.specs.Heap.{HeapState, IsSound as IsSoundHeap}
 use Rattle.heap_core.specs.Place.{block_length, with_live}
 use Rattle.heap_machine.specs.Safety.{IsGuarded, IsLiveOrHeld, IsSafe, LieIn}
 use Rattle.heap_machine.specs.State.{State, with_cell}
-use Rattle.heap_machine.specs.Step.{bounds_in}
+use Rattle.cap_codec.specs.Words.{bounds_in}
 use Rattle.heap_machine.proofs.BlockLists.{Contains-new, Contains-still}
 use Rattle.heap_machine.proofs.GuardLaws.{IsInside-block}
 use Rattle.heap_machine.proofs.SoundLaws.{IsSafe-in, IsSafe-with}

@@ -4,12 +4,13 @@ use Rattle.heap_core.specs.Place.{block_length, with_live}
 use Rattle.tag_memory.specs.Cells.{null_cell}
 use Rattle.trace_text.specs.declared.trace.Command.{Command}
 use Rattle.trace_text.specs.declared.trace.Command.TheVariants.{Malloc, Free, Copy, SetAddr, Narrow, AndPerm, StoreCap, LoadCap, Write, Show, Sweep}
-use Rattle.heap_machine.specs.declared.reply.Reply.{Reply}
-use Rattle.heap_machine.specs.declared.reply.Reply.TheVariants.{Block, NoSpace}
-use Rattle.heap_machine.specs.declared.reply.Reply.TheVariants as reply
-use Rattle.heap_machine.specs.declared.reply.Trap.{Trap}
+use Rattle.heap_reply.specs.declared.reply.Reply.{Reply}
+use Rattle.heap_reply.specs.declared.reply.Reply.TheVariants.{Block, NoSpace}
+use Rattle.heap_reply.specs.declared.reply.Reply.TheVariants as reply
+use Rattle.heap_reply.specs.declared.reply.Trap.{Trap}
 use Rattle.heap_machine.specs.State.{State, with_cell}
-use Rattle.heap_machine.specs.Step.{Effect, Step, StepAfter, capability_of, checks, first_failed}
+use Rattle.cap_codec.specs.Words.{capability_of}
+use Rattle.heap_machine.specs.Step.{Effect, Step, StepAfter, checks, first_failed}
 use Rattle.heap_machine.proofs.OnePlace.{IsPlace-only, IsPlace-some}
 
 -- The state after a block.

@@ -1,14 +1,9 @@
 -- From a safe state each step leads to a safe one.
-use Rattle.std.proofs.Common.{◌≡◌, ◌∙◌, ◌<◌, ◌≤◌, ◌+◌, ◌&&◌, ◌^◌, ℕ, Bool, true, false, Option, Some, None, inl, cond, refl, sym, ap, subst, arith}
-use Rattle.std.specs.Prelude.{◌==◌, bit_and, nat_le, not}
-use Rattle.std.proofs.lemmas.Bool.{and_parts, eqb-true, leb-true}
-use Rattle.cap_codec.specs.declared.word.Bounds.{Bounds}
-use Rattle.cap_codec.specs.declared.word.Fields.{Fields}
+use Rattle.std.proofs.Common.{◌≡◌, ◌∙◌, ◌<◌, ◌≤◌, ◌+◌, ◌&&◌, ◌^◌, ℕ, Bool, true, false, Option, Some, None, inl, cond, refl, sym, subst, arith}
+use Rattle.std.specs.Prelude.{◌↔◌, IsTrue, nat_le, not}
+use Rattle.std.proofs.lemmas.Bool.{and_parts, leb-true}
 use Rattle.cap_codec.specs.declared.word.Word.{Word}
-use Rattle.cap_codec.specs.Bounds.{bounds_of}
-use Rattle.cap_codec.specs.Fields.{IsValid as IsValidFields, bits_with, fields_of}
-use Rattle.cap_codec.specs.Representable.{is_representable}
-use Rattle.cap_codec.specs.Rounding.{IsExact, outward, with_bounds_of}
+use Rattle.cap_codec.specs.Rounding.{IsExact, outward}
 use Rattle.heap_core.specs.Blocks.{is_block}
 use Rattle.heap_core.specs.Heap.{HeapState, IsSound as IsSoundHeap}
 use Rattle.heap_core.specs.Place.{IsFree, block_length, with_live}
@@ -16,12 +11,13 @@ use Rattle.heap_core.specs.Quarantine.{with_held, without_held}
 use Rattle.tag_memory.specs.Cells.{null_cell}
 use Rattle.trace_text.specs.declared.trace.Command.{Command}
 use Rattle.trace_text.specs.declared.trace.Command.TheVariants.{Malloc, Free, Copy, SetAddr, Narrow, AndPerm, StoreCap, LoadCap, Write, Show, Sweep}
-use Rattle.heap_machine.specs.declared.reply.Reply.{Reply}
-use Rattle.heap_machine.specs.declared.reply.Reply.TheVariants.{Block, NoSpace, Held, Done, Cleared, Swept, Shown, Trap}
-use Rattle.heap_machine.specs.declared.reply.Trap.{Trap as TheTrap}
+use Rattle.heap_reply.specs.declared.reply.Reply.{Reply}
+use Rattle.heap_reply.specs.declared.reply.Reply.TheVariants.{Block, NoSpace, Held, Done, Cleared, Swept, Shown, Trap}
+use Rattle.heap_reply.specs.declared.reply.Trap.{Trap as TheTrap}
 use Rattle.heap_machine.specs.Safety.{FitsTypes, IsSafe}
 use Rattle.heap_machine.specs.State.{State, register}
-use Rattle.heap_machine.specs.Step.{Effect, Step, StepAfter, address_in, allows, block_fields, bounds_in, capability_of, checks, first_failed, granule_at, is_exact, keeps_bounds, load_capability, narrowed, with_address, with_perms}
+use Rattle.cap_codec.specs.Words.{address_in, allows, bounds_in, capability_of, is_exact, keeps_bounds, lie_within, load_capability, narrowed, with_address, with_perms}
+use Rattle.heap_machine.specs.Step.{Effect, Step, StepAfter, checks, first_failed, granule_at}
 use Rattle.heap_machine.proofs.BlockLists.{Contains-new}
 use Rattle.heap_machine.proofs.FreedBlock.{IsSafe-held}
 use Rattle.heap_machine.proofs.GuardLaws.{IsGuarded-kept, IsGuarded-narrowed, IsGuarded-untagged, IsInside-block}
@@ -35,57 +31,11 @@ pub record Laws : Type 0 where
   pub held : (s : HeapState) (base top : ℕ) → IsSoundHeap s → is_block s.live base top ≡ true → IsSoundHeap (with_held s base top)
   pub free : (s : HeapState) → IsSoundHeap s → IsSoundHeap (without_held s)
   pub exact : (s : HeapState) (size a : ℕ) → IsSoundHeap s → IsFree s size a → IsExact a (a + block_length size)
-  pub bounded : (f : Fields) (base top : ℕ) → IsValidFields f → f.perms < 2 ^ 16 → base < 2 ^ 64 → base ≤ top → top ≤ 2 ^ 64
-      → bounds_of (fields_of (record { bits = bits_with (with_bounds_of f base top) })) ≡ outward base top
-  pub moved : (w : Word) (a : ℕ) → a < 2 ^ 64
-      → fields_of (record { bits = bits_with (record (fields_of w) { address = a }) }) ≡ record (fields_of w) { address = a }
-  pub masked : (w : Word) (mask : ℕ)
-      → fields_of (record { bits = bits_with (record (fields_of w) { perms = bit_and (fields_of w).perms mask }) })
-      ≡ record (fields_of w) { perms = bit_and (fields_of w).perms mask }
-  pub valid : (w : Word) → IsValidFields (fields_of w)
-
--- ---- words
-
-perms_fit : (w : Word) → (fields_of w).perms < 2 ^ 16
-unfolding fields_of
-perms_fit w = omega arith
-
-bounds_in-capability : Laws → (base top : ℕ) → base < 2 ^ 64 → base ≤ top → top ≤ 2 ^ 64 → IsExact base top → bounds_in (capability_of base top) ≡ record { base = base; top = top }
-unfolding bounds_in capability_of
-bounds_in-capability laws base top small order room exact =
-    let v = laws.valid (record { bits = 0 }) in
-    let valid : IsValidFields block_fields = record { reserved = v.reserved; otype = v.otype; top12 = v.top12; base14 = v.base14 } in
-    laws.bounded block_fields base top valid (omega arith) small order room ∙ exact
-
--- Bounds with both ends the same are the same.
-same_bounds : (b c : Bounds) → ((b.base == c.base) && (b.top == c.top)) ≡ true → b ≡ c
-same_bounds b c is =
-    let both = and_parts (b.base == c.base) (b.top == c.top) is in
-    let base : b.base ≡ c.base = eqb-true b.base c.base both.0 in
-    let top : b.top ≡ c.top = eqb-true b.top c.top both.1 in
-    λ i. record { base = base i; top = top i }
-
-bounds_in-moved : Laws → (w : Word) (a : ℕ) → a < 2 ^ 64 → keeps_bounds w a ≡ true → bounds_in (with_address w a) ≡ bounds_in w
-unfolding bounds_in with_address keeps_bounds is_representable
-bounds_in-moved laws w a small keeps =
-    let moved : Fields = record (fields_of w) { address = a } in
-    ap bounds_of (laws.moved w a small) ∙ same_bounds (bounds_of moved) (bounds_of (fields_of w)) keeps
-
--- Bounds don't depend on permissions.
-any_perms : (f : Fields) (perms : ℕ) → bounds_of (record f { perms = perms }) ≡ bounds_of f
-unfolding bounds_of
-any_perms f perms = refl
-
-bounds_in-masked : Laws → (w : Word) (mask : ℕ) → bounds_in (with_perms w mask) ≡ bounds_in w
-unfolding bounds_in with_perms
-bounds_in-masked laws w mask = ap bounds_of (laws.masked w mask) ∙ any_perms (fields_of w) (bit_and (fields_of w).perms mask)
-
-bounds_in-narrowed : Laws → (w : Word) (base top : ℕ) → base < 2 ^ 64 → base ≤ top → top ≤ 2 ^ 64 → is_exact base top ≡ true
-    → bounds_in (narrowed w base top) ≡ record { base = base; top = top }
-unfolding bounds_in narrowed is_exact
-bounds_in-narrowed laws w base top small order room exact =
-    let bounds : Bounds = record { base = base; top = top } in
-    laws.bounded (fields_of w) base top (laws.valid w) (perms_fit w) small order room ∙ same_bounds (outward base top) bounds exact
+  pub narrowed : (w : Word) (base top : ℕ) → base < 2 ^ 64 → base ≤ top → top ≤ 2 ^ 64 → bounds_in (narrowed w base top) ≡ outward base top
+  pub capability : (base top : ℕ) → base < 2 ^ 64 → base ≤ top → top ≤ 2 ^ 64 → bounds_in (capability_of base top) ≡ outward base top
+  pub tested : (base top : ℕ) → IsTrue (is_exact base top) ↔ IsExact base top
+  pub moved : (w : Word) (a : ℕ) → a < 2 ^ 64 → IsTrue (keeps_bounds w a) → bounds_in (with_address w a) ≡ bounds_in w
+  pub masked : (w : Word) (mask : ℕ) → bounds_in (with_perms w mask) ≡ bounds_in w
 
 -- ---- checks that pass
 
@@ -116,7 +66,7 @@ Malloc-safe laws old rd size (Block base top) new safe effect =
     let fits = FitsAddresses-state old safe in
     let room : base + block_length size ≤ 2 ^ 64 = omega (arith, free.end, fits.end) in
     let some = some_bytes old.heap size base heap in
-    let is = bounds_in-capability laws base (base + block_length size) (omega (arith, room, some)) (omega arith) room (laws.exact old.heap size base safe.heap free) in
+    let is = laws.capability base (base + block_length size) (omega (arith, room, some)) (omega arith) room ∙ laws.exact old.heap size base safe.heap free in
     let word : bounds_in (capability_of base top) ≡ record { base = base; top = base + block_length size } =
     subst (λ (t : ℕ). bounds_in (capability_of base t) ≡ record { base = base; top = base + block_length size }) (sym effect.1) is in
     subst IsSafe (sym effect.2) (IsSafe-new old rd size base (capability_of base top) safe heap word)
@@ -134,7 +84,7 @@ Narrow-safe laws old rd rs n r new safe passed effect =
     let c = register old rs in
     let a = address_in c.0 in
     let within = bounds_in c.0 in
-    let all = all_four c.1 (nat_le 1 n) (nat_le within.base a && nat_le (a + n) within.top) (is_exact a (a + n)) _ _ _ _ passed in
+    let all = all_four c.1 (nat_le 1 n) (lie_within within a n) (is_exact a (a + n)) _ _ _ _ passed in
     let ends = and_parts (nat_le within.base a) (nat_le (a + n) within.top) all.2 in
     let from : within.base ≤ a = leb-true within.base a ends.0 in
     let end : a + n ≤ within.top = leb-true (a + n) within.top ends.1 in
@@ -142,7 +92,7 @@ Narrow-safe laws old rd rs n r new safe passed effect =
     let inside = LiesInside-register old rs safe in
     let fits = FitsAddresses-state old safe in
     let room : a + n ≤ 2 ^ 64 = omega (arith, end, inside.end all.0, fits.end) in
-    let is = bounds_in-narrowed laws c.0 a (a + n) (omega (arith, room, some)) (omega arith) room all.3 in
+    let is = laws.narrowed c.0 a (a + n) (omega (arith, room, some)) (omega arith) room ∙ (laws.tested a (a + n)).0 all.3 in
     let guarded = IsGuarded-narrowed old.heap (narrowed c.0 a (a + n)) true c a (a + n) (IsGuarded-register old rs safe) all.0 is from (omega (arith, some)) end in
     subst IsSafe (sym effect.1) (IsSafe-with old rd (narrowed c.0 a (a + n), true) safe guarded)
 
@@ -158,12 +108,12 @@ Effect-safe laws old (SetAddr rd rs a) r new safe fits passed effect =
     let c = register old rs in
     let keeps = keeps_bounds c.0 a in
     let guarded = IsGuarded-kept old.heap (with_address c.0 a) (c.1 && keeps) c (IsGuarded-register old rs safe)
-    (λ e. (and_parts c.1 keeps e).0) (λ e. bounds_in-moved laws c.0 a fits (and_parts c.1 keeps e).1) in
+    (λ e. (and_parts c.1 keeps e).0) (λ e. laws.moved c.0 a fits (and_parts c.1 keeps e).1) in
     subst IsSafe (sym effect.1) (IsSafe-with old rd (with_address c.0 a, c.1 && keeps) safe guarded)
 Effect-safe laws old (Narrow rd rs n) r new safe fits passed effect = Narrow-safe laws old rd rs n r new safe passed effect
 Effect-safe laws old (AndPerm rd rs mask) r new safe fits passed effect =
     let c = register old rs in
-    let guarded = IsGuarded-kept old.heap (with_perms c.0 mask) c.1 c (IsGuarded-register old rs safe) (λ e. e) (λ _. bounds_in-masked laws c.0 mask) in
+    let guarded = IsGuarded-kept old.heap (with_perms c.0 mask) c.1 c (IsGuarded-register old rs safe) (λ e. e) (λ _. laws.masked c.0 mask) in
     subst IsSafe (sym effect.1) (IsSafe-with old rd (with_perms c.0 mask, c.1) safe guarded)
 Effect-safe laws old (StoreCap ra rs) r new safe fits passed effect =
     let c = register old rs in

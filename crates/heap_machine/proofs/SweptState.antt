@@ -14,12 +14,13 @@ use Rattle.cap_codec.specs.declared.word.Word.{Word}
 use Rattle.heap_core.specs.Blocks.{Span, bytes_of, end_of, has_address, length_of, start_of}
 use Rattle.heap_core.specs.Heap.{HeapState, IsInside, IsSound as IsSoundHeap}
 use Rattle.heap_core.specs.Quarantine.{without_held}
-use Rattle.sweep_pool.specs.Sweep.{TakeTags, base_of, is_revoked, swept_cell, swept_granule, swept_granules, swept_registers, tags_taken}
+use Rattle.sweep_pool.specs.Sweep.{TakeTags, is_revoked, swept_cell, swept_granule, swept_granules, swept_registers, tags_taken}
 use Rattle.tag_memory.specs.Cells.{Cell, Granule, MemoryState, cell_of}
 use Rattle.tag_memory.specs.Tags.{is_set_for, without_tags}
 use Rattle.heap_machine.specs.Safety.{HoldsGuarded, IsGuarded, IsSafe, LieIn}
 use Rattle.heap_machine.specs.State.{State, tags_of}
-use Rattle.heap_machine.specs.Step.{bounds_in, swept}
+use Rattle.cap_codec.specs.Words.{base_of, bounds_in}
+use Rattle.heap_machine.specs.Step.{swept}
 
 -- ---- memory
 
@@ -111,17 +112,12 @@ tags_taken-difference s = omega (arith, tags_of-swept s)
 
 -- ---- what stays guarded
 
-base_in : (w : Word) → base_of w ≡ (bounds_in w).base
-unfolding bounds_in
-base_in w = refl
-
 -- A word whose bounds lie in a held block is revoked.
 revoked_in : (held : List Span) (w : Word) (block : Span) → Contains held block → LieIn (bounds_in w) block → is_revoked held w ≡ true
 revoked_in held w block there lie =
-    let base = base_in w in
     let here : has_address (base_of w) block ≡ true =
-    (let from : start_of block ≤ base_of w = omega (arith, lie.start, base) in
-    let before : base_of w < end_of block = omega (arith, lie.some, lie.end, base) in
+    (let from : start_of block ≤ base_of w = omega (arith, lie.start) in
+    let before : base_of w < end_of block = omega (arith, lie.some, lie.end) in
     grind (arith, nat_tests)) in
     list_any-from_Any (has_address (base_of w)) held (there.0, block, there.1, there.2, here)
 

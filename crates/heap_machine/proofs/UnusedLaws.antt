@@ -8,12 +8,13 @@ use Rattle.heap_core.specs.Place.{IsFree, block_length}
 use Rattle.tag_memory.specs.Cells.{Cell, cell_of}
 use Rattle.trace_text.specs.declared.trace.Command.{Command}
 use Rattle.trace_text.specs.declared.trace.Command.TheVariants.{Malloc, Free, Copy, SetAddr, Narrow, AndPerm, StoreCap, LoadCap, Write, Show, Sweep}
-use Rattle.heap_machine.specs.declared.reply.Reply.{Reply}
-use Rattle.heap_machine.specs.declared.reply.Reply.TheVariants.{Block, NoSpace, Held, Done, Cleared, Swept, Shown, Trap}
-use Rattle.heap_machine.specs.declared.reply.Trap.{Trap as TheTrap}
+use Rattle.heap_reply.specs.declared.reply.Reply.{Reply}
+use Rattle.heap_reply.specs.declared.reply.Reply.TheVariants.{Block, NoSpace, Held, Done, Cleared, Swept, Shown, Trap}
+use Rattle.heap_reply.specs.declared.reply.Trap.{Trap as TheTrap}
 use Rattle.heap_machine.specs.Safety.{HandsOutNothing, HasBaseIn, HasNoBase, HoldsGuarded, IsGuarded, IsLiveOrHeld, IsSafe, IsUnused, IsUnusedBlock, LieIn}
 use Rattle.heap_machine.specs.State.{State}
-use Rattle.heap_machine.specs.Step.{Effect, Step, StepAfter, bounds_in, checks, first_failed}
+use Rattle.cap_codec.specs.Words.{bounds_in}
+use Rattle.heap_machine.specs.Step.{Effect, Step, StepAfter, checks, first_failed}
 
 -- ---- a new block
 

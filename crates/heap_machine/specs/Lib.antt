@@ -1,6 +1,3 @@
-pub mod Answer
-pub mod Display
-pub mod HexadecimalLaws
 pub mod Parts
 pub mod Safety
 pub mod Sound

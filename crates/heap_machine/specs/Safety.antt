@@ -9,10 +9,10 @@ use Rattle.heap_core.specs.Heap.{HeapState, IsSound as IsSoundHeap}
 use Rattle.tag_memory.specs.Cells.{Cell, Granule, cell_of}
 use Rattle.trace_text.specs.declared.trace.Command.{Command}
 use Rattle.trace_text.specs.declared.trace.Command.TheVariants.{Malloc, Free, Copy, SetAddr, Narrow, AndPerm, StoreCap, LoadCap, Write, Show, Sweep}
-use Rattle.heap_machine.specs.declared.reply.Reply.{Reply}
-use Rattle.heap_machine.specs.declared.reply.Reply.TheVariants.{Block, NoSpace, Held, Done, Cleared, Swept, Shown, Trap}
+use Rattle.heap_reply.specs.declared.reply.Reply.{Reply}
+use Rattle.heap_reply.specs.declared.reply.Reply.TheVariants.{Block, NoSpace, Held, Done, Cleared, Swept, Shown, Trap}
 use Rattle.heap_machine.specs.State.{State}
-use Rattle.heap_machine.specs.Step.{bounds_in}
+use Rattle.cap_codec.specs.Words.{bounds_in}
 
 -- The bounds lie in the block, and aren't empty.
 pub record LieIn (bounds : Bounds) (block : Span) : Type 0 where

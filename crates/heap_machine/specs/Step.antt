@@ -1,16 +1,10 @@
 -- What each command answers, and what state it leaves: the table of the commands (this project's own
 -- profile). First come the checks of a command in their order; the first that fails is the trap, and a trap
 -- changes nothing. Where none fails, the effect is the command's.
-use Rattle.std.specs.Prelude.{◌≡◌, ℕ, ◌+◌, ◌-◌, ◌/◌, ◌%◌, ◌^◌, Bool, true, false, not, ◌||◌, slice_index_or, slice_set, List, [], ◌∷◌, Option, Some, None, ◌&&◌, ◌==◌, bit_and, nat_le, if◌then◌else◌}
-use Rattle.cap_codec.specs.declared.word.Bounds.{Bounds}
-use Rattle.cap_codec.specs.declared.word.Fields.{Fields}
+use Rattle.std.specs.Prelude.{◌≡◌, ℕ, ◌+◌, ◌-◌, ◌/◌, ◌%◌, Bool, true, false, not, ◌||◌, slice_index_or, slice_set, List, [], ◌∷◌, Option, Some, None, ◌&&◌, ◌==◌, nat_le, if◌then◌else◌}
 use Rattle.cap_codec.specs.declared.word.Word.{Word}
-use Rattle.cap_codec.specs.Bounds.{bounds_of}
 use Rattle.cap_codec.specs.Bytes.{bits_of_bytes}
-use Rattle.cap_codec.specs.Fields.{bits_with, fields_of}
-use Rattle.cap_codec.specs.Mantissas.{exponent_of}
-use Rattle.cap_codec.specs.Representable.{is_representable}
-use Rattle.cap_codec.specs.Rounding.{outward_base, outward_top, with_bounds_of}
+use Rattle.cap_codec.specs.Words.{address_in, allows, bounds_in, capability_of, is_exact, keeps_bounds, lie_within, load, load_capability, narrowed, store, store_capability, with_address, with_perms}
 use Rattle.heap_core.specs.Blocks.{bytes_of, is_block}
 use Rattle.heap_core.specs.Place.{IsFree, IsPlace, block_length, with_live}
 use Rattle.heap_core.specs.Quarantine.{with_held, without_held}
@@ -18,80 +12,15 @@ use Rattle.sweep_pool.specs.Sweep.{swept_granules, swept_registers, tags_taken}
 use Rattle.tag_memory.specs.Cells.{Cell, Granule, null_cell}
 use Rattle.trace_text.specs.declared.trace.Command.{Command}
 use Rattle.trace_text.specs.declared.trace.Command.TheVariants.{Malloc, Free, Copy, SetAddr, Narrow, AndPerm, StoreCap, LoadCap, Write, Show, Sweep}
-use Rattle.heap_machine.specs.declared.reply.Reply.{Reply}
-use Rattle.heap_machine.specs.declared.reply.Reply.TheVariants.{Block, NoSpace, Held, Done, Cleared, Swept}
-use Rattle.heap_machine.specs.declared.reply.Reply.TheVariants as reply
-use Rattle.heap_machine.specs.declared.reply.Shown.{Shown as ShownCell}
-use Rattle.heap_machine.specs.declared.reply.Trap.{Trap}
-use Rattle.heap_machine.specs.declared.reply.Trap.TheVariants as trap
+use Rattle.heap_reply.specs.declared.reply.Reply.{Reply}
+use Rattle.heap_reply.specs.declared.reply.Reply.TheVariants.{Block, NoSpace, Held, Done, Cleared, Swept}
+use Rattle.heap_reply.specs.declared.reply.Reply.TheVariants as reply
+use Rattle.heap_reply.specs.declared.reply.Trap.{Trap}
+use Rattle.heap_reply.specs.declared.reply.Trap.TheVariants as trap
+use Rattle.heap_reply.specs.Shown.{shown_of}
 use Rattle.heap_machine.specs.State.{State, register, with_cell}
 
--- ---- words
-
--- The fields of the null capability with the permissions of a new block: GLOBAL, LOAD, STORE,
--- LOAD_CAPABILITY and STORE_CAPABILITY.
-abbrev pub block_fields : Fields
-block_fields = record (fields_of (record { bits = 0 })) { perms = 0x3d }
-
--- The capability of a new block, its address the block's base.
-unfoldable pub capability_of : ℕ → ℕ → Word
-capability_of base top = record { bits = bits_with (with_bounds_of block_fields base top) }
-
--- The address of a word, and its bounds.
-unfoldable pub address_in : Word → ℕ
-address_in w = (fields_of w).address
-
-unfoldable pub bounds_in : Word → Bounds
-bounds_in w = bounds_of (fields_of w)
-
--- The word with this address, and whether it keeps its bounds there.
-unfoldable pub with_address : Word → ℕ → Word
-with_address w a = record { bits = bits_with (record (fields_of w) { address = a }) }
-
-unfoldable pub keeps_bounds : Word → ℕ → Bool
-keeps_bounds w a = is_representable (fields_of w) a
-
--- The word with those of its permissions that the mask has too.
-unfoldable pub with_perms : Word → ℕ → Word
-with_perms w mask = record { bits = bits_with (record (fields_of w) { perms = bit_and (fields_of w).perms mask }) }
-
--- The word with these bounds, its address the base, and whether a word can hold them as they are.
-unfoldable pub narrowed : Word → ℕ → ℕ → Word
-narrowed w base top = record { bits = bits_with (with_bounds_of (fields_of w) base top) }
-
-unfoldable pub is_exact : ℕ → ℕ → Bool
-is_exact base top = (outward_base base top == base) && (outward_top base top == top)
-
--- What is shown of a register.
-unfoldable pub shown_of : Cell → ShownCell
-shown_of c = record {
-  tag = c.1;
-  address = (fields_of c.0).address;
-  base = (bounds_of (fields_of c.0)).base;
-  top = (bounds_of (fields_of c.0)).top;
-  perms = (fields_of c.0).perms;
-  otype = (fields_of c.0).otype;
-  exponent = exponent_of (fields_of c.0);
-}
-
--- ---- permissions and accesses
-
--- Permissions, each by its bit (CHERI ISA version 9, UCAM-CL-TR-987: architectural permissions).
-abbrev pub load : ℕ
-load = 2 ^ 2
-
-abbrev pub store : ℕ
-store = 2 ^ 3
-
-abbrev pub load_capability : ℕ
-load_capability = 2 ^ 4
-
-abbrev pub store_capability : ℕ
-store_capability = 2 ^ 5
-
--- The word has this permission.
-unfoldable pub allows : ℕ → Word → Bool
-allows permission w = not (bit_and (fields_of w).perms permission == 0)
+-- ---- accesses
 
 -- The checks of an access to the 16 bytes at the address of a register, which is allowed so.
 abbrev pub access : Cell → Bool → List (Bool × Trap)
@@ -99,7 +28,7 @@ access c allowed =
     let a = address_in c.0 in
     (c.1, trap.Tag)
     ∷ (allowed, trap.Perm)
-    ∷ (nat_le (bounds_in c.0).base a && nat_le (a + 16) (bounds_in c.0).top, trap.Bounds)
+    ∷ (lie_within (bounds_in c.0) a 16, trap.Bounds)
     ∷ (a % 16 == 0, trap.Align) ∷ []
 
 -- The index of the granule at a word's address.
@@ -149,7 +78,7 @@ checks s (Narrow rd rs n) =
     let a = address_in c.0 in
     (c.1, trap.Tag)
     ∷ (nat_le 1 n, trap.Empty)
-    ∷ (nat_le (bounds_in c.0).base a && nat_le (a + n) (bounds_in c.0).top, trap.Bounds)
+    ∷ (lie_within (bounds_in c.0) a n, trap.Bounds)
     ∷ (is_exact a (a + n), trap.Inexact) ∷ []
 checks s (StoreCap ra rs) =
     let w = (register s ra).0 in

@@ -3,7 +3,7 @@
 ghost use Rattle.std.specs.Prelude.{◌≡◌, ℕ, true};
 ghost use Rattle.tag_memory.specs.Span.{is_base, is_size};
 ghost use Rattle.trace_text.specs.declared.trace.Command.{Command as TheCommand};
-ghost use Rattle.heap_machine.specs.declared.reply.Reply.{Reply as TheReply};
+ghost use Rattle.heap_reply.specs.declared.reply.Reply.{Reply as TheReply};
 ghost use Rattle.heap_machine.specs.Safety.{FitsTypes, IsRevoked, IsSafe, IsUnused};
 ghost use Rattle.heap_machine.specs.State.{State, first_state};
 ghost use Rattle.heap_machine.specs.Step.{Step};
@@ -12,8 +12,8 @@ use cap_codec::derivations;
 use heap_core::changes;
 
 /// In each state a command has exactly one reply and leaves exactly one state. The first state is safe, and
-/// from a safe state a command leaves a safe state, hands out only what is unused, and leaves after a sweep only words in use (Filardo et al.
-/// 2020, Cornucopia: heap temporal safety).
+/// from a safe state a command leaves a safe state, hands out only what is unused, and leaves after a sweep
+/// only words in use (Filardo et al. 2020, Cornucopia: heap temporal safety).
 pub fn steps()
     ensures one { (old : State) (command : TheCommand) →
         (reply : TheReply) × (new : State) × Step old command reply new }

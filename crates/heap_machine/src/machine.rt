@@ -8,10 +8,11 @@ ghost use Rattle.heap_machine.specs.Safety.{IsRevoked, IsSafe, IsUnused};
 ghost use Rattle.heap_machine.specs.State.{first_state};
 ghost use Rattle.heap_machine.specs.Step.{Step, TakesNoMemory};
 
+use crate::fault::MachineFault;
 use crate::laws::steps;
 use crate::parts::Parts;
-use crate::reply::{MachineFault, Reply};
 use heap_core::Heap;
+use heap_reply::Reply;
 use std::alloc::Global;
 use std::marker::Model;
 use std::thread::Threads;

@@ -9,13 +9,13 @@ ghost use Rattle.heap_machine.specs.Step.{Step, TakesNoMemory, access, first_fai
 
 mod revocation;
 
-use crate::capability::{
-    LOAD, LOAD_CAPABILITY, STORE, STORE_CAPABILITY, address_of, allowed_by, bounded,
-    bounds_of_word, capability, masked, moved, shown,
+use crate::fault::MachineFault;
+use cap_codec::{
+    LOAD, LOAD_CAPABILITY, STORE, STORE_CAPABILITY, Word, and_perms, block_capability, bounds,
+    fields, from_bytes, is_allowed, representable, set_address, with_bounds,
 };
-use crate::reply::{MachineFault, Reply, Trap};
-use cap_codec::{Word, from_bytes};
 use heap_core::Heap;
+use heap_reply::{Reply, Shown, Trap};
 use std::alloc::Global;
 use std::thread::Threads;
 use sweep_pool::{Cutting, Gate};
@@ -48,6 +48,7 @@ impl Parts {
         ensures err { OnErr result (self.new ≡ self.old) }
         ensures memory { IfErr result (λ fault. fault ≡ MachineFault.Memory) }
         ensures ok { TakesNoMemory command → IsOk result }
+        // What the command's type says of its numbers, for the law `steps`.
         ensures fits { FitsTypes command }
     {
         match command {
@@ -80,7 +81,8 @@ impl Parts {
             self.registers.set(rd, Word::NULL, false);
             return Ok(Reply::NoSpace);
         };
-        self.registers.set(rd, capability(block), true);
+        self.registers
+            .set(rd, block_capability(block.base, block.top), true);
         Ok(Reply::Block {
             base: block.base,
             top: block.top,
@@ -105,8 +107,9 @@ impl Parts {
         ensures base { self.new.memory.base ≡ self.new.heap.base }
     {
         let (word, tag) = self.registers.get(rs);
-        let (word, keeps) = moved(word, address);
-        self.registers.set(rd, word, tag & keeps);
+        let keeps = representable(word, address);
+        self.registers
+            .set(rd, set_address(word, address), tag & keeps);
         if tag & !keeps {
             return Reply::Cleared;
         }
@@ -126,13 +129,11 @@ impl Parts {
         if length == 0 {
             return Reply::Trap(Trap::Empty);
         }
-        let within = bounds_of_word(word);
-        let base = address_of(word);
-        let top = u128::from(base) + u128::from(length);
-        if base < within.base || within.top < top {
+        let base = fields(word).address;
+        if !bounds(word).hold(base, length) {
             return Reply::Trap(Trap::Bounds);
         }
-        let (word, exact) = bounded(word, base, top);
+        let (word, exact) = with_bounds(word, base, u128::from(base) + u128::from(length));
         if !exact {
             return Reply::Trap(Trap::Inexact);
         }
@@ -147,7 +148,7 @@ impl Parts {
         ensures base { self.new.memory.base ≡ self.new.heap.base }
     {
         let (word, tag) = self.registers.get(rs);
-        self.registers.set(rd, masked(word, mask), tag);
+        self.registers.set(rd, and_perms(word, mask), tag);
         Reply::Done
     }
 
@@ -167,9 +168,8 @@ impl Parts {
         if !allowed {
             return Err(Trap::Perm);
         }
-        let within = bounds_of_word(word);
-        let address = address_of(word);
-        if address < within.base || within.top < u128::from(address) + u128::from(GRANULE) {
+        let address = fields(word).address;
+        if !bounds(word).hold(address, GRANULE) {
             return Err(Trap::Bounds);
         }
         if !address.is_multiple_of(GRANULE) {
@@ -186,8 +186,8 @@ impl Parts {
     {
         let (word, tag) = self.registers.get(rs);
         let (authority, _) = self.registers.get(ra);
-        let stores = allowed_by(authority, STORE);
-        let allowed = stores & (!tag | allowed_by(authority, STORE_CAPABILITY));
+        let stores = is_allowed(authority, STORE);
+        let allowed = stores & (!tag | is_allowed(authority, STORE_CAPABILITY));
         let i = match self.granule_index(ra, allowed) {
             Ok(i) => i,
             Err(trap) => return Reply::Trap(trap),
@@ -203,12 +203,12 @@ impl Parts {
         ensures base { self.new.memory.base ≡ self.new.heap.base }
     {
         let (authority, _) = self.registers.get(ra);
-        let i = match self.granule_index(ra, allowed_by(authority, LOAD)) {
+        let i = match self.granule_index(ra, is_allowed(authority, LOAD)) {
             Ok(i) => i,
             Err(trap) => return Reply::Trap(trap),
         };
         let (bits, tag) = self.memory.cell(i);
-        let keeps = allowed_by(authority, LOAD_CAPABILITY);
+        let keeps = is_allowed(authority, LOAD_CAPABILITY);
         self.registers.set(rd, Word { bits }, tag & keeps);
         Reply::Done
     }
@@ -220,7 +220,7 @@ impl Parts {
         ensures base { self.new.memory.base ≡ self.new.heap.base }
     {
         let (authority, _) = self.registers.get(ra);
-        let i = match self.granule_index(ra, allowed_by(authority, STORE)) {
+        let i = match self.granule_index(ra, is_allowed(authority, STORE)) {
             Ok(i) => i,
             Err(trap) => return Reply::Trap(trap),
         };
@@ -234,6 +234,6 @@ impl Parts {
         ensures { Step (state_of self.now) (Command.Show rs) result (state_of self.now) }
     {
         let (word, tag) = self.registers.get(rs);
-        Reply::Shown(shown(word, tag))
+        Reply::Shown(Shown::of(word, tag))
     }
 }

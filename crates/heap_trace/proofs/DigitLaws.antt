@@ -2,7 +2,7 @@
 use Rattle.std.proofs.Common.{◌≡◌, ℕ, ◌+◌, ◌/◌, ◌%◌, ◌^◌, ◌<◌, ◌≤◌, false, [], ◌∷◌, ◌++◌, length, ap, ◌∙◌, arith, length-append}
 use Rattle.std.specs.Fmt.{decimal, digits, digit_glyph}
 use Rattle.std.proofs.lemmas.Fmt.{hex_one_digit, length-decimal-le}
-use Rattle.heap_machine.specs.HexadecimalLaws.{digits_step, digits_length}
+use Rattle.heap_reply.specs.HexadecimalLaws.{digits_step, digits_length}
 
 pub hex_step : (n : ℕ) → 16 ≤ n → n < 2 ^ 128 → digits 16 false n ≡ digits 16 false (n / 16) ++ (digit_glyph false (n % 16) ∷ [])
 hex_step n high small = digits_step 16 false (omega arith) n (omega arith) (omega arith)

@@ -1,6 +1,6 @@
 -- Pieces that are written one before the other, from the last.
 use Rattle.std.proofs.Common.{◌≡◌, ℕ, List, [], ◌∷◌, ◌++◌, refl, sym, ap, ◌∙◌, append_assoc}
-use Rattle.heap_machine.specs.Display.{joined}
+use Rattle.heap_reply.specs.Display.{joined}
 
 -- the pieces before a rest
 abbrev pub onto : List (List ℕ) → List ℕ → List ℕ

@@ -3,7 +3,7 @@ use Rattle.std.proofs.Common.{◌≡◌, ◌∙◌, ℕ, List, [], ◌∷◌, Ok
 use Rattle.trace_text.specs.declared.trace.Command.{Command}
 use Rattle.trace_text.specs.Reading.{Script}
 use Rattle.heap_trace.specs.declared.running.Outcome.{Outcome}
-use Rattle.heap_machine.specs.declared.reply.Reply.{Reply}
+use Rattle.heap_reply.specs.declared.reply.Reply.{Reply}
 use Rattle.heap_trace.specs.Outcome.{Answers, IsOutcome}
 use Rattle.heap_trace.specs.Report.{report_text}
 use Rattle.heap_trace.specs.Run.{Run}

@@ -3,7 +3,7 @@ use Rattle.std.proofs.Common.{List, [], ◌∷◌, sym, subst}
 use Rattle.std.specs.Prelude.{All}
 use Rattle.std.proofs.lemmas.List.Elements.{All-head, All-tail}
 use Rattle.trace_text.specs.declared.trace.Command.{Command}
-use Rattle.heap_machine.specs.declared.reply.Reply.{Reply}
+use Rattle.heap_reply.specs.declared.reply.Reply.{Reply}
 use Rattle.heap_machine.specs.Safety.{FitsTypes, IsReuseSafe, IsRevoked, IsSafe, IsUnused}
 use Rattle.heap_machine.specs.State.{State}
 use Rattle.heap_machine.specs.Step.{Step}

@@ -3,7 +3,7 @@ use Rattle.std.specs.Prelude.{ℕ, ◌+◌, ◌==◌, ◌||◌, Bool, not, if◌
 use Rattle.std.specs.List.{concat}
 use Rattle.cap_codec.specs.Bytes.{bytes_of}
 use Rattle.hex.specs.Hex.{encode_lower}
-use Rattle.heap_machine.specs.Display.{bit_text, hexadecimal_text}
+use Rattle.heap_reply.specs.Display.{bit_text, hexadecimal_text}
 use Rattle.tag_memory.specs.Cells.{Granule}
 
 -- A granule that is tagged or not all zero: these have a line, and no others.

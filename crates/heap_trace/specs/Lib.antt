@@ -5,7 +5,7 @@ pub use Rattle.trace_text.specs.Heap
 pub use Rattle.trace_text.specs.Lines
 pub use Rattle.trace_text.specs.Reading
 -- the machine's, for the crates above
-pub use Rattle.heap_machine.specs.Display
+pub use Rattle.heap_reply.specs.Display
 pub use Rattle.heap_machine.specs.Safety
 pub use Rattle.heap_machine.specs.Sound
 pub use Rattle.heap_machine.specs.State

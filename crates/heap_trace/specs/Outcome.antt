@@ -1,6 +1,6 @@
 -- What a run of a text gives. The definition knows no workers.
 use Rattle.std.specs.Prelude.{◌≡◌, List, Result, Ok, Err, map}
-use Rattle.heap_machine.specs.declared.reply.Reply.{Reply}
+use Rattle.heap_reply.specs.declared.reply.Reply.{Reply}
 use Rattle.heap_trace.specs.declared.running.Outcome.{Outcome as TheOutcome}
 use Rattle.heap_trace.specs.declared.running.RunFault.{RunFault}
 use Rattle.heap_trace.specs.declared.running.RunFault.TheVariants.{Memory, Trace}

@@ -1,7 +1,7 @@
 -- Runs of commands.
 use Rattle.std.specs.Prelude.{◌≡◌, ℕ, List, [], ◌∷◌, map}
 use Rattle.trace_text.specs.declared.trace.Command.{Command}
-use Rattle.heap_machine.specs.declared.reply.Reply.{Reply}
+use Rattle.heap_reply.specs.declared.reply.Reply.{Reply}
 use Rattle.heap_trace.specs.Report.{lines_text}
 use Rattle.heap_machine.specs.Safety.{IsReuseSafe, IsSafe}
 use Rattle.heap_machine.specs.State.{State}

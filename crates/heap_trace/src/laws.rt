@@ -3,7 +3,7 @@
 ghost use Rattle.std.specs.Prelude.{◌≡◌, ℕ, All, List, Ok, true};
 ghost use Rattle.trace_text.specs.declared.trace.Command.{Command as TheCommand};
 ghost use Rattle.trace_text.specs.Reading.{Script};
-ghost use Rattle.heap_machine.specs.declared.reply.Reply.{Reply as TheReply};
+ghost use Rattle.heap_reply.specs.declared.reply.Reply.{Reply as TheReply};
 ghost use Rattle.heap_machine.specs.Safety.{FitsTypes};
 ghost use Rattle.heap_machine.specs.State.{State, first_state};
 ghost use Rattle.tag_memory.specs.Span.{is_base, is_size};

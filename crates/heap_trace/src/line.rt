@@ -3,7 +3,7 @@
 ghost use Rattle.std.specs.Prelude.{◌≡◌, ◌≤◌, ◌+◌, ◌++◌, [], length};
 ghost use Rattle.std.specs.Fmt.{decimal};
 ghost use Rattle.hex.specs.Hex.{encode_lower};
-ghost use Rattle.heap_machine.specs.Display.{hexadecimal_text, place_text};
+ghost use Rattle.heap_reply.specs.Display.{hexadecimal_text, place_text};
 
 use crate::digits::{write_hexadecimal, write_wide_hexadecimal};
 use std::marker::Model;

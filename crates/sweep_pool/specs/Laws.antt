@@ -12,10 +12,11 @@ use Rattle.std.proofs.lemmas.Nat.Bits.{bit_at-lt, same_from_bits_below}
 use Rattle.std.specs.Int.{bit_at}
 use Rattle.tag_memory.specs.Laws.{is_set_for-at}
 use mathlib.Core.Logic.{dite}
+use Rattle.cap_codec.specs.Words.{base_of}
 use Rattle.heap_core.specs.Blocks.{Span, has_address, lies_in}
 use Rattle.heap_core.specs.Heap.{HeapState, IsInside, IsSound}
 use Rattle.heap_core.specs.Quarantine.{IsShadow}
-use Rattle.sweep_pool.specs.Sweep.{AreBits, AreMasks, ArePageMasks, IsShadowOf, TakePageTags, TakeTags, base_of, is_hit, is_painted, takes_tag}
+use Rattle.sweep_pool.specs.Sweep.{AreBits, AreMasks, ArePageMasks, IsShadowOf, TakePageTags, TakeTags, is_hit, is_painted, takes_tag}
 use Rattle.sweep_pool.specs.Tasks.{Cut, IsTask, IsTaskCount}
 use Rattle.tag_memory.specs.Cells.{Cell, MemoryState, cell_of}
 

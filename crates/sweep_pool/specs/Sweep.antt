@@ -1,18 +1,13 @@
 -- The sweep (Filardo et al. 2020, Cornucopia: revocation by the shadow bitmap): each capability whose base
 -- lies in a held block loses its tag. Its address and its permissions don't matter, and its bits stay.
 use Rattle.std.specs.Prelude.{◌≡◌, ◌<◌, ◌+◌, ◌-◌, ◌*◌, ◌/◌, ◌&&◌, ℕ, Bool, false, not, List, count_by, drop, length, map, nat_le, slice_index_or}
-use Rattle.cap_codec.specs.Bounds.{bounds_of}
-use Rattle.cap_codec.specs.Fields.{fields_of}
+use Rattle.cap_codec.specs.Words.{base_of}
 use Rattle.cap_codec.specs.declared.word.Word.{Word}
 use Rattle.heap_core.specs.Blocks.{Span, lies_in}
 use Rattle.heap_core.specs.Heap.{HeapState, IsSound}
 use Rattle.heap_core.specs.Quarantine.{IsShadow}
 use Rattle.tag_memory.specs.Cells.{Cell, Granule, MemoryState, cell_of}
 use Rattle.tag_memory.specs.Tags.{is_set_for}
-
--- The base of a word.
-abbrev pub base_of : Word → ℕ
-base_of w = (bounds_of (fields_of w)).base
 
 -- ---- what a sweep does
 

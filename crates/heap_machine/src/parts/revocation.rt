@@ -5,11 +5,11 @@ ghost use Rattle.trace_text.specs.Command.{IsValid};
 ghost use Rattle.heap_machine.specs.Parts.{AreParts, state_of};
 ghost use Rattle.heap_machine.specs.Step.{Step};
 
-use crate::capability::bounds_of_word;
+use crate::fault::MachineFault;
 use crate::parts::Parts;
-use crate::reply::{MachineFault, Reply, Trap};
-use cap_codec::Bounds;
+use cap_codec::{Bounds, bounds};
 use heap_core::Freed;
+use heap_reply::{Reply, Trap};
 use std::alloc::Global;
 use std::thread::Threads;
 use sweep_pool::{Cutting, Gate, sweep_masks, swept_registers};
@@ -42,7 +42,7 @@ impl Parts {
         if !tag {
             return Ok(Reply::Trap(Trap::Tag));
         }
-        let Bounds { base, top } = bounds_of_word(word);
+        let Bounds { base, top } = bounds(word);
         let bytes = (top - u128::from(base)) as u64;
         let Ok(freed) = self.heap.release(base, top) else {
             return Err(MachineFault::Memory);

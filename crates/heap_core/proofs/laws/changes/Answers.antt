@@ -1,4 +1,4 @@
-use Rattle.std.proofs.Common.{◌≡◌, ◌≤◌, ◌<◌, ◌+◌, ◌^◌, arith}
+use Rattle.std.proofs.Common.{◌≤◌, ◌<◌, ◌+◌, ◌^◌, arith}
 use Rattle.heap_core.specs.Place.{block_length, granule_size}
 use Rattle.heap_core.proofs.SizeLaws.{le-length_for}
 use Rattle.heap_core.proofs.SpanLaws.{LiesWithin-span}

@@ -23,10 +23,11 @@ returns-clause-safe c =
       held = heaps.held;
       free = heaps.free;
       exact = heaps.exact;
-      bounded = words.bounded;
+      narrowed = words.narrowed;
+      capability = words.capability;
+      tested = words.tested;
       moved = words.moved;
       masked = words.masked;
-      valid = words.valid;
     } in
     λ old command reply new safe fits step. Step-safe laws old command reply new safe fits step
 

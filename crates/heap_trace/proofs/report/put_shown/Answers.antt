@@ -1,6 +1,6 @@
 use Rattle.std.proofs.Common.{[], ◌∷◌, codes}
 use Rattle.std.specs.Fmt.{decimal}
-use Rattle.heap_machine.specs.Display.{bit_text, hexadecimal_text, place_text}
+use Rattle.heap_reply.specs.Display.{bit_text, hexadecimal_text, place_text}
 use Rattle.heap_trace.proofs.JoinedPieces.{onto_joined}
 use Rattle.heap_trace.proofs.report.put_shown.Goals as goal
 

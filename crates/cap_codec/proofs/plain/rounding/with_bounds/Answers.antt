@@ -1,14 +1,25 @@
 use Rattle.std.proofs.Common.{◌≡◌, rules, sym, ap, ◌∙◌, subst}
+use Rattle.cap_codec.specs.declared.word.Word.{Word}
 use Rattle.cap_codec.specs.Bounds.{bounds_of}
-use Rattle.cap_codec.specs.Fields.{fields_of}
+use Rattle.cap_codec.specs.Fields.{bits_with, fields_of}
 use Rattle.cap_codec.specs.Mantissas.{exponent_of}
 use Rattle.cap_codec.specs.Rounding.{IsExponent, exponent_for}
+use Rattle.cap_codec.specs.Words.{narrowed}
 use Rattle.cap_codec.proofs.EncodeLaws.{bounds_of-with_bounds_of, exponent_of-with_bounds_of}
 use Rattle.cap_codec.proofs.RoundingLaws.{IsExponent-exponent_for, IsNearExponent-from}
+use Rattle.cap_codec.proofs.WordLaws.{is_exact-flag}
 use Rattle.cap_codec.proofs.plain.rounding.with_bounds.Goals as goal
 
 pub returns-clause-fields : goal.returns-clause-fields
 returns-clause-fields c = search rules
+
+pub returns-clause-word : goal.returns-clause-word
+unfolding narrowed
+returns-clause-word c =
+    ap (λ b. let w : Word = record { bits = b } in w) (c.word_of.ensures.value ∙ ap bits_with (sym c.word_of.ensures.fields ∙ returns-clause-fields c))
+
+pub returns-clause-flag : goal.returns-clause-flag
+returns-clause-flag c = is_exact-flag _ c.args.base c.args.top (search rules)
 
 pub returns-clause-bounds : goal.returns-clause-bounds
 returns-clause-bounds c =

@@ -1,6 +1,6 @@
 use Rattle.std.proofs.Common.{◌≡◌, [], sym, arith}
 use Rattle.heap_core.specs.Blocks.{bytes_of}
-use Rattle.heap_machine.specs.declared.reply.Reply.TheVariants.{Swept}
+use Rattle.heap_reply.specs.declared.reply.Reply.TheVariants.{Swept}
 use Rattle.heap_machine.specs.Parts.{state_of}
 use Rattle.heap_machine.proofs.SweptState.{no_blocks, swept-none, tags_taken-none}
 use Rattle.heap_machine.proofs.parts.Parts.sweep.Goals as goal

@@ -1,7 +1,7 @@
 use Rattle.std.proofs.Common.{arith, lit<, lit≤, false}
 use Rattle.std.proofs.lemmas.Grind.{common_steps}
-use Rattle.heap_machine.specs.HexadecimalLaws.{digits-parts}
-use Rattle.heap_machine.proofs.display.HexadecimalDisplay.fmt.Goals as goal
+use Rattle.heap_reply.specs.HexadecimalLaws.{digits-parts}
+use Rattle.heap_reply.proofs.display.HexadecimalDisplay.fmt.Goals as goal
 
 pub returns-then-high-ne0-clause-writes : goal.returns-then-high-ne0-clause-writes
 returns-then-high-ne0-clause-writes g c =

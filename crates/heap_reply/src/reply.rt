@@ -1,6 +1,9 @@
 //! What commands answer.
 
-use thiserror::Error;
+ghost use Rattle.std.specs.Prelude.{◌≡◌};
+ghost use Rattle.heap_reply.specs.Shown.{shown_of};
+
+use cap_codec::{Word, bounds, exponent, fields};
 
 /// Why a command changed nothing: the first of its checks that failed.
 #[derive(Debug, Clone, Copy, PartialEq, Eq)]
@@ -35,6 +38,25 @@ pub struct Shown {
     pub exponent: u8,
 }
 
+impl Shown {
+    /// What is shown of a register that holds this word with this tag.
+    pub fn of(word: Word, tag: bool) -> Shown
+        ensures { result ≡ shown_of (word, tag) }
+    {
+        let f = fields(word);
+        let within = bounds(word);
+        Shown {
+            tag,
+            address: f.address,
+            base: within.base,
+            top: within.top,
+            perms: f.perms,
+            otype: f.otype,
+            exponent: exponent(word),
+        }
+    }
+}
+
 /// What a command answers.
 #[derive(Debug, Clone, Copy, PartialEq, Eq)]
 pub enum Reply {
@@ -54,18 +76,4 @@ pub enum Reply {
     Shown(Shown),
     /// A check failed, and nothing was changed.
     Trap(Trap),
-}
-
-/// Why there is no such machine, or why a step wasn't done.
-#[derive(Debug, PartialEq, Drop, Error)]
-pub enum MachineFault {
-    /// Memory of the simulator itself ran out.
-    #[error("Memory")]
-    Memory,
-    /// The base is no multiple of 4,096, or the end is past `2^64`.
-    #[error("BadBase")]
-    BadBase,
-    /// There are no pages, or more than 1,024.
-    #[error("BadSize")]
-    BadSize,
 }

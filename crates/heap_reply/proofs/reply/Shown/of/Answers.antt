@@ -1,5 +1,5 @@
-use Rattle.heap_machine.specs.Step.{shown_of}
-use Rattle.heap_machine.proofs.capability.shown.Goals as goal
+use Rattle.heap_reply.specs.Shown.{shown_of}
+use Rattle.heap_reply.proofs.reply.Shown.of.Goals as goal
 
 pub returns : goal.returns
 unfolding shown_of

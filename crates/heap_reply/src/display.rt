@@ -2,7 +2,7 @@
 
 ghost use Rattle.std.specs.Prelude.{◌≡◌, Some};
 ghost use Rattle.cap_codec.specs.Fields.{bit_of};
-ghost use Rattle.heap_machine.specs.Display.{hexadecimal_text, place_text};
+ghost use Rattle.heap_reply.specs.Display.{hexadecimal_text, place_text};
 
 use std::fmt;
 

@@ -1,13 +1,13 @@
 -- The texts of replies (this project's own profile).
 use Rattle.std.specs.Prelude.{ℕ, List, [], ◌∷◌, codes}
 use Rattle.std.specs.Fmt.{decimal}
-use Rattle.heap_machine.specs.declared.reply.Reply.{Reply}
-use Rattle.heap_machine.specs.declared.reply.Reply.TheVariants.{Block, NoSpace, Held, Done, Cleared, Swept}
-use Rattle.heap_machine.specs.declared.reply.Reply.TheVariants as reply
-use Rattle.heap_machine.specs.declared.reply.Shown.{Shown as ShownCell}
-use Rattle.heap_machine.specs.declared.reply.Trap.{Trap}
-use Rattle.heap_machine.specs.declared.reply.Trap.TheVariants as trap
-use Rattle.heap_machine.specs.Display.{bit_text, hexadecimal_text, joined, place_text}
+use Rattle.heap_reply.specs.declared.reply.Reply.{Reply}
+use Rattle.heap_reply.specs.declared.reply.Reply.TheVariants.{Block, NoSpace, Held, Done, Cleared, Swept}
+use Rattle.heap_reply.specs.declared.reply.Reply.TheVariants as reply
+use Rattle.heap_reply.specs.declared.reply.Shown.{Shown as ShownCell}
+use Rattle.heap_reply.specs.declared.reply.Trap.{Trap}
+use Rattle.heap_reply.specs.declared.reply.Trap.TheVariants as trap
+use Rattle.heap_reply.specs.Display.{bit_text, hexadecimal_text, joined, place_text}
 
 abbrev pub trap_name : Trap → List ℕ
 trap_name trap.Tag = codes "tag"

@@ -1,7 +1,7 @@
 //! The texts of replies.
 
 ghost use Rattle.std.specs.Prelude.{◌≡◌, ◌≤◌, Some, length};
-ghost use Rattle.heap_machine.specs.Answer.{answer_text, shown_text, trap_name};
+ghost use Rattle.heap_reply.specs.Answer.{answer_text, shown_text, trap_name};
 
 use crate::display::{Hexadecimal, Place, bit};
 use crate::reply::{Reply, Shown, Trap};

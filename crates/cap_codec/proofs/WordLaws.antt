@@ -1,0 +1,103 @@
+-- What the words decode to that are made from words.
+use Rattle.std.proofs.Common.{◌≡◌, ◌∙◌, ◌≤◌, ◌<◌, ◌^◌, ◌&&◌, ℕ, Bool, true, ap, nat_eq, refl, arith}
+use Rattle.std.specs.Prelude.{◌==◌, ◌↔◌, IsTrue, bit_and}
+use Rattle.std.proofs.lemmas.Bool.{and_parts, eqb-true}
+use Rattle.std.proofs.lemmas.Bool.Decides.{nat_tests}
+use Rattle.std.proofs.lemmas.Nat.{and_le_l}
+use Rattle.cap_codec.specs.declared.word.Bounds.{Bounds}
+use Rattle.cap_codec.specs.declared.word.Fields.{Fields}
+use Rattle.cap_codec.specs.declared.word.Word.{Word}
+use Rattle.cap_codec.specs.Bounds.{bounds_of}
+use Rattle.cap_codec.specs.Fields.{IsValid, bits_with, fields_of}
+use Rattle.cap_codec.specs.Rounding.{IsExact, outward, with_bounds_of}
+use Rattle.cap_codec.specs.Words.{block_fields, bounds_in, capability_of, is_exact, keeps_bounds, narrowed, with_address, with_perms}
+use Rattle.cap_codec.proofs.CorrectedWindow.{same_tests}
+use Rattle.cap_codec.proofs.EncodeLaws.{IsValid-with_bounds_of, bounds_of-with_bounds_of}
+use Rattle.cap_codec.proofs.FieldLaws.{IsInRange, IsInRange-fields_of, fields_of-bits_with}
+use Rattle.cap_codec.proofs.RepresentLaws.{is_representable-is}
+
+IsValid-fields_of : (w : Word) → IsValid (fields_of w)
+unfolding fields_of
+IsValid-fields_of w = record { reserved = omega arith; otype = omega arith; top12 = omega arith; base14 = omega arith }
+
+-- ---- bounds that are set
+
+IsInRange-bounded : (f : Fields) (base top : ℕ) → f.perms < 2 ^ 16 → base < 2 ^ 64 → IsInRange (with_bounds_of f base top)
+unfolding with_bounds_of
+IsInRange-bounded f base top perms small = record { perms = search (arith, perms, small); address = search (arith, perms, small) }
+
+bounds_of-bounded : (f : Fields) (base top : ℕ) → IsValid f → f.perms < 2 ^ 16 → base < 2 ^ 64 → base ≤ top → top ≤ 2 ^ 64
+    → bounds_of (fields_of (record { bits = bits_with (with_bounds_of f base top) })) ≡ outward base top
+bounds_of-bounded f base top valid perms small order room =
+    let g = with_bounds_of f base top in
+    ap bounds_of (fields_of-bits_with g (record { bits = bits_with g }) (IsValid-with_bounds_of f base top valid) (IsInRange-bounded f base top perms small) refl)
+    ∙ bounds_of-with_bounds_of f base top order room small
+
+pub bounds_in-narrowed : (w : Word) (base top : ℕ) → base < 2 ^ 64 → base ≤ top → top ≤ 2 ^ 64 → bounds_in (narrowed w base top) ≡ outward base top
+unfolding narrowed
+bounds_in-narrowed w base top small order room =
+    bounds_of-bounded (fields_of w) base top (IsValid-fields_of w) (IsInRange-fields_of w).perms small order room
+
+pub bounds_in-capability_of : (base top : ℕ) → base < 2 ^ 64 → base ≤ top → top ≤ 2 ^ 64 → bounds_in (capability_of base top) ≡ outward base top
+unfolding capability_of
+bounds_in-capability_of base top small order room =
+    let v = IsValid-fields_of (record { bits = 0 }) in
+    let valid : IsValid block_fields = record { reserved = v.reserved; otype = v.otype; top12 = v.top12; base14 = v.base14 } in
+    bounds_of-bounded block_fields base top valid (omega arith) small order room
+
+-- ---- whether bounds can be held as they are
+
+-- Whether both ends are the same says whether the bounds are.
+same_ends : (b : Bounds) (base top : ℕ) → IsTrue ((b.base == base) && (b.top == top)) ↔ (b ≡ record { base = base; top = top })
+same_ends b base top = (λ is. same is, λ e. test e) where
+  same : IsTrue ((b.base == base) && (b.top == top)) → b ≡ record { base = base; top = top }
+  same is =
+      let both = and_parts (b.base == base) (b.top == top) is in
+      let low : b.base ≡ base = eqb-true b.base base both.0 in
+      let high : b.top ≡ top = eqb-true b.top top both.1 in
+      λ i. record { base = low i; top = high i }
+
+  test : b ≡ record { base = base; top = top } → IsTrue ((b.base == base) && (b.top == top))
+  test e =
+      let low : nat_eq b.base base ≡ true = grind (arith, nat_tests, ap (λ (x : Bounds). x.base) e) in
+      let high : nat_eq b.top top ≡ true = grind (arith, nat_tests, ap (λ (x : Bounds). x.top) e) in
+      rw (low, high) refl
+
+pub is_exact-is : (base top : ℕ) → IsTrue (is_exact base top) ↔ IsExact base top
+unfolding is_exact
+is_exact-is base top = same_ends (outward base top) base top
+
+pub is_exact-flag : (t : Bool) (base top : ℕ) → IsTrue t ↔ IsExact base top → t ≡ is_exact base top
+is_exact-flag t base top h =
+    let is = is_exact-is base top in
+    same_tests t (is_exact base top) (λ e. is.1 (h.0 e)) (λ e. h.1 (is.0 e))
+
+-- ---- another address, fewer permissions
+
+pub fields_of-moved : (w : Word) (a : ℕ) → a < 2 ^ 64 → fields_of (with_address w a) ≡ record (fields_of w) { address = a }
+unfolding with_address
+fields_of-moved w a small =
+    let g : Fields = record (fields_of w) { address = a } in
+    let v = IsValid-fields_of w in
+    fields_of-bits_with g (record { bits = bits_with g }) (record { reserved = v.reserved; otype = v.otype; top12 = v.top12; base14 = v.base14 })
+    (record { perms = (IsInRange-fields_of w).perms; address = small }) refl
+
+pub bounds_in-with_address : (w : Word) (a : ℕ) → a < 2 ^ 64 → IsTrue (keeps_bounds w a) → bounds_in (with_address w a) ≡ bounds_in w
+bounds_in-with_address w a small keeps = ap bounds_of (fields_of-moved w a small) ∙ (is_representable-is (fields_of w) a).0 keeps
+
+fields_of-masked : (w : Word) (mask : ℕ) → fields_of (with_perms w mask) ≡ record (fields_of w) { perms = bit_and (fields_of w).perms mask }
+unfolding with_perms
+fields_of-masked w mask =
+    let g : Fields = record (fields_of w) { perms = bit_and (fields_of w).perms mask } in
+    let v = IsValid-fields_of w in
+    let r = IsInRange-fields_of w in
+    fields_of-bits_with g (record { bits = bits_with g }) (record { reserved = v.reserved; otype = v.otype; top12 = v.top12; base14 = v.base14 })
+    (record { perms = omega (arith, r.perms, and_le_l (fields_of w).perms mask); address = r.address }) refl
+
+-- Bounds don't depend on permissions.
+any_perms : (f : Fields) (perms : ℕ) → bounds_of (record f { perms = perms }) ≡ bounds_of f
+unfolding bounds_of
+any_perms f perms = refl
+
+pub bounds_in-with_perms : (w : Word) (mask : ℕ) → bounds_in (with_perms w mask) ≡ bounds_in w
+bounds_in-with_perms w mask = ap bounds_of (fields_of-masked w mask) ∙ any_perms (fields_of w) (bit_and (fields_of w).perms mask)

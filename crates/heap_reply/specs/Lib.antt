@@ -1,0 +1,4 @@
+pub mod Answer
+pub mod Display
+pub mod HexadecimalLaws
+pub mod Shown
