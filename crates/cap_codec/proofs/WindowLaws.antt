@@ -6,7 +6,7 @@ use Rattle.std.proofs.lemmas.Int.{ints}
 use Rattle.cap_codec.specs.declared.word.Fields.{Fields}
 use Rattle.cap_codec.specs.Bounds.{origin, window_size, window_start}
 use Rattle.cap_codec.specs.Mantissas.{exponent_of}
-use Rattle.cap_codec.specs.Representable.{IsInWindow, IsInside}
+use Rattle.cap_codec.specs.Representable.{IsInWindow, IsInsideWindow}
 use Rattle.cap_codec.proofs.BoundsLaws.{IsWindow-unique, IsWindowAt-window_start}
 use Rattle.cap_codec.proofs.CountedBounds.{IsWindow-counted}
 use Rattle.cap_codec.proofs.IntegerLaws.{difference}
@@ -19,7 +19,7 @@ window_offset f a = (origin + 2 ^ 64 + a - window_start f) % 2 ^ 64
 abbrev pub IsNearStart : Fields → ℕ → Type 0
 IsNearStart f a = (50 ≤ exponent_of f) ⊎ (window_offset f a < window_size f)
 
-inside : (f : Fields) (a : ℕ) → f.address < 2 ^ 64 → window_offset f a < window_size f → IsInside f a
+inside : (f : Fields) (a : ℕ) → f.address < 2 ^ 64 → window_offset f a < window_size f → IsInsideWindow f a
 inside f a h near =
     let start = window_start f in
     let w = IsWindowAt-window_start f in
@@ -39,7 +39,7 @@ offset-most : (a start x d i j : ℕ) → start ≤ origin + 2 ^ 64 → x ≡ (o
     → a + i * 2 ^ 64 + origin ≡ start + d + j * 2 ^ 64 → x ≤ d
 offset-most a start x d i j h x_is e = omega arith
 
-near-start : (f : Fields) (a : ℕ) → f.address < 2 ^ 64 → IsInside f a → window_offset f a < window_size f
+near-start : (f : Fields) (a : ℕ) → f.address < 2 ^ 64 → IsInsideWindow f a → window_offset f a < window_size f
 near-start f a h i =
     let start = window_start f in
     let w = IsWindowAt-window_start f in

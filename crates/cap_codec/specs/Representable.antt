@@ -18,7 +18,7 @@ is_representable f a =
     moved.base == here.base && moved.top == here.top
 
 -- a, modulo 2 ^ 64, is one of the integers of the window. So the window may wrap around the address space.
-pub record IsInside (f : Fields) (a : ℕ) : Type 0 where
+pub record IsInsideWindow (f : Fields) (a : ℕ) : Type 0 where
   pub low : ℤ
   pub n : ℤ
   pub window : IsWindow f low
@@ -27,4 +27,4 @@ pub record IsInside (f : Fields) (a : ℕ) : Type 0 where
 
 -- The exponent is at least 50, or a is inside the window. (The limit 50 is this project's profile.)
 abbrev pub IsInWindow : Fields → ℕ → Type 0
-IsInWindow f a = (50 ≤ exponent_of f) ⊎ IsInside f a
+IsInWindow f a = (50 ≤ exponent_of f) ⊎ IsInsideWindow f a

@@ -4,7 +4,7 @@ use Rattle.std.proofs.Common.{◌∙◌, ap, inl, inr, subst, sym}
 use Rattle.std.specs.Str.Parse.{signed_digits_value}
 use Rattle.clap.specs.Words.{Row, Text, first_of}
 use Rattle.command_line.specs.NumberLaws.{image_given}
-use Rattle.command_line.specs.declared.words.Options.{Options}
+use Rattle.command_line.specs.declared.asked.Options.{Options}
 use Rattle.command_line.specs.Words.{AreWithinLimits, HasNumber, HasOptions, Names, NamesRun, NamesWord}
 
 -- The words name one subcommand, with one list of entries.

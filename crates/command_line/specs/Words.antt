@@ -7,9 +7,9 @@ pub use Rattle.clap.specs.Words.{Text}
 use Rattle.clap.specs.Words.{App, IsSignedIn, Row, Rule, fault_of, first_of, one_of, new_app, new_rule, subcommand_of, with_rule, with_subcommand, without_minus}
 use Rattle.clap.specs.declared.builder.action.ArgAction.TheVariants.{SetTrue}
 use Rattle.clap.specs.declared.builder.value_parser.ValueParser.TheVariants.{Signed}
-use Rattle.command_line.specs.declared.words.Asked.{Asked}
-use Rattle.command_line.specs.declared.words.Options.{Options}
-use Rattle.command_line.specs.declared.words.Asked.TheVariants.{Run, Word}
+use Rattle.command_line.specs.declared.asked.Asked.{Asked}
+use Rattle.command_line.specs.declared.asked.Options.{Options}
+use Rattle.command_line.specs.declared.asked.Asked.TheVariants.{Run, Word}
 
 -- The flag --image.
 abbrev pub image_rule : Rule

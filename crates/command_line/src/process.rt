@@ -4,7 +4,7 @@ ghost use Rattle.std.specs.Prelude.{◌≡◌};
 ghost use Rattle.std.specs.Io.{WritesAtMost};
 ghost use Rattle.command_line.specs.Name.{GivesName};
 
-use crate::words::Refusal;
+use crate::asked::Refusal;
 use std::env::FillError;
 use std::io::ErrorKind;
 use std::rt::Env;

@@ -3,9 +3,9 @@ use Rattle.std.proofs.Common.{◌≡◌, ◌≢◌, ◌∙◌, ℕ, ap, ap₂, s
 use Rattle.std.proofs.KnownBytes.{Appends-nil}
 use Rattle.std.specs.Io.KnownBytes.{Appends}
 use Rattle.cap_codec.specs.declared.word.Word.{Word}
-use Rattle.command_line.specs.declared.words.Options.{Options}
-use Rattle.command_line.specs.declared.words.Refusal.{Refusal}
-use Rattle.command_line.specs.declared.words.Refusal.TheVariants.{Memory, Words}
+use Rattle.command_line.specs.declared.asked.Options.{Options}
+use Rattle.command_line.specs.declared.asked.Refusal.{Refusal}
+use Rattle.command_line.specs.declared.asked.Refusal.TheVariants.{Memory, Words}
 use Rattle.command_line.specs.Laws.{NamesWord-run, NamesWord-unique}
 use Rattle.command_line.specs.Words.{NamesNothing, NamesRun, NamesWord, Text}
 use Rattle.trace_text.specs.declared.fault.TraceFault.{TraceFault}
@@ -15,7 +15,7 @@ use Rattle.heap_trace.specs.Outcome.{IsOutcome}
 use Rattle.heap_trace.specs.Reading.{Script, trace_of}
 use Rattle.heap_trace.specs.Report.{report_text}
 use Rattle.heap_command.specs.declared.program.Answer.{Answer}
-use Rattle.heap_command.specs.Answer.{Answers, BeginsAnswer, IsAnswer, IsRunAnswer, image_shown, lacks_memory, most_read, names_fault, refusal_line, refusal_status, refuses, reports, shows_run, shows_word, status_of, text_of}
+use Rattle.heap_command.specs.Answer.{HasAnswered, BeginsAnswer, IsAnswer, IsRunAnswer, image_shown, lacks_memory, most_read, names_fault, refusal_line, refusal_status, refuses, reports, shows_run, shows_word, status_of, text_of}
 use Rattle.heap_command.specs.Device.{AppendsBeginning, ReadsUpTo}
 use Rattle.heap_command.specs.Text.{fault_text, memory_line, word_line}
 use Rattle.heap_command.specs.Words.{AskForNothing, IsTextOf}
@@ -90,9 +90,9 @@ IsAnswer-run words unread left input options (Err Memory) named reads is memory 
 IsAnswer-run words unread left input options (Err Words) named reads is memory = absurd cc
 
 -- An answer that was written whole.
-pub Answers-told : (words : List Text) (unread left : Option (List ℕ)) (status said : ℕ) (text : List ℕ) (old new : Option (List ℕ)) → IsAnswer words unread left said text
-    → (status ≡ said) × Appends old new text → Answers words unread left status old new
-Answers-told words unread left status said text old new is (same, written) = record { text = text; is = subst (λ n. IsAnswer words unread left n text) (sym same) is; written = written }
+pub HasAnswered-told : (words : List Text) (unread left : Option (List ℕ)) (status said : ℕ) (text : List ℕ) (old new : Option (List ℕ)) → IsAnswer words unread left said text
+    → (status ≡ said) × Appends old new text → HasAnswered words unread left status old new
+HasAnswered-told words unread left status said text old new is (same, written) = record { text = text; is = subst (λ n. IsAnswer words unread left n text) (sym same) is; written = written }
 
 -- An answer of which a beginning was written.
 pub BeginsAnswer-told : (words : List Text) (unread left : Option (List ℕ)) (said : ℕ) (text : List ℕ) (old new : Option (List ℕ)) → IsAnswer words unread left said text

@@ -2,9 +2,9 @@
 use Rattle.std.specs.Prelude.{◌≡◌, ℕ, List, [], ◌++◌, Option, Result, Ok, Err, map, if◌then◌else◌}
 use Rattle.std.specs.Io.KnownBytes.{Appends}
 use Rattle.cap_codec.specs.declared.word.Word.{Word}
-use Rattle.command_line.specs.declared.words.Options.{Options}
-use Rattle.command_line.specs.declared.words.Refusal.{Refusal}
-use Rattle.command_line.specs.declared.words.Refusal.TheVariants.{Memory, Words}
+use Rattle.command_line.specs.declared.asked.Options.{Options}
+use Rattle.command_line.specs.declared.asked.Refusal.{Refusal}
+use Rattle.command_line.specs.declared.asked.Refusal.TheVariants.{Memory, Words}
 use Rattle.command_line.specs.Words.{NamesRun, Text}
 use Rattle.trace_text.specs.declared.fault.TraceFault.{TraceFault}
 use Rattle.heap_reply.specs.declared.reply.Reply.{Reply}
@@ -63,7 +63,7 @@ pub data IsAnswer (words : List Text) (unread left : Option (List ℕ)) : ℕ �
   refuses : AskForNothing words → IsAnswer words unread left 2 usage_line
 
 -- The known bytes of a sink grew by the text of this status.
-pub record Answers (words : List Text) (unread left : Option (List ℕ)) (status : ℕ) (old new : Option (List ℕ)) : Type 0 where
+pub record HasAnswered (words : List Text) (unread left : Option (List ℕ)) (status : ℕ) (old new : Option (List ℕ)) : Type 0 where
   pub text : List ℕ
   pub is : IsAnswer words unread left status text
   pub written : Appends old new text

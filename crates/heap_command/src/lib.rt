@@ -2,10 +2,10 @@
 #![tactic(auto)]
 
 mod devices;
+mod lines;
 mod program;
 #[cfg(test)]
 mod tests;
-mod text;
 
 pub use crate::devices::{Failed, FromRead, FromWrite, Sink, Source};
 pub use crate::program::{refuse, tool};

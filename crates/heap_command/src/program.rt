@@ -3,16 +3,16 @@
 ghost use Rattle.std.specs.Prelude.{◌≡◌, ◌≢◌, ◌↔◌, ◌||◌, ◌++◌, IfErr, IfOk, Ok, false, length, string_bytes, true};
 ghost use Rattle.std.specs.Io.KnownBytes.{Appends};
 ghost use Rattle.cap_codec.specs.declared.word.Word.{Word};
-ghost use Rattle.command_line.specs.declared.words.Options.{Options as TheOptions};
+ghost use Rattle.command_line.specs.declared.asked.Options.{Options as TheOptions};
 ghost use Rattle.command_line.specs.Words.{AreWithinLimits, NamesRun, texts};
 ghost use Rattle.heap_trace.specs.Image.{image_of};
-ghost use Rattle.heap_command.specs.Answer.{Answers, BeginsAnswer, IsRunAnswer, image_shown, most_read, refusal_line, refusal_status, status_of, text_of};
+ghost use Rattle.heap_command.specs.Answer.{HasAnswered, BeginsAnswer, IsRunAnswer, image_shown, most_read, refusal_line, refusal_status, status_of, text_of};
 ghost use Rattle.heap_command.specs.Device.{AppendsBeginning, ReadsFew};
 ghost use Rattle.heap_command.specs.Text.{fault_text, word_line};
 ghost use Rattle.heap_command.specs.Words.{IsTextOf};
 
 use crate::devices::{Failed, ReadFault, Sink, Source, read_text, send};
-use crate::text::{fault_line, line_of};
+use crate::lines::{fault_line, line_of};
 use cap_codec::from_bytes;
 use command_line::{Asked, Options, Refusal, asked_by};
 use heap_trace::{Outcome, RunFault, TraceFault, image_text, run};
@@ -46,7 +46,7 @@ pub fn tool<'a, R: Threads + Sync, I: Source, O: Sink>(
 ) -> u8
     requires reader { I.failed reader.old ≡ false }
     requires writer { O.failed writer.old ≡ false }
-    ensures whole { result ≢ 4 → Answers (texts words.entry.now) (I.remaining reader.old) (I.remaining reader.new)
+    ensures whole { result ≢ 4 → HasAnswered (texts words.entry.now) (I.remaining reader.old) (I.remaining reader.new)
         result (O.contents writer.old) (O.contents writer.new) }
     ensures part { result ≡ 4 → BeginsAnswer (texts words.entry.now) (I.remaining reader.old) (I.remaining reader.new)
         (O.contents writer.old) (O.contents writer.new) }

@@ -4,14 +4,14 @@ use Rattle.std.proofs.lemmas.Bool.{cases_Bool}
 use Rattle.std.specs.Prelude.{All}
 use Rattle.heap_core.specs.Blocks.{IsApart, Span}
 use Rattle.heap_core.specs.Place.{IsFree, IsPlace, block_unit, granule_size}
-use Rattle.heap_core.specs.Table.{IsFirstRun, IsRun, IsTable, blocks_of, is_held, is_live, is_taken, table_state}
+use Rattle.heap_core.specs.Table.{IsFirstGap, IsGap, IsTable, blocks_of, is_held, is_live, is_taken, table_state}
 use Rattle.heap_core.proofs.BlockLaws.{All-block, All-blocks_of}
 use Rattle.heap_core.proofs.RunLaws.{is_taken_by, run_is_apart}
 use Rattle.heap_core.proofs.SizeLaws.{HasShape, le-block_length}
 use Rattle.heap_core.proofs.SpanLaws.{LiesWithin-table}
 
 -- Each block shares no address with a free run.
-All-IsApart : (keeps : Bool → Bool) (base : ℕ) (lengths : List ℕ) (marks : List Bool) (p n : ℕ) → IsRun lengths p n
+All-IsApart : (keeps : Bool → Bool) (base : ℕ) (lengths : List ℕ) (marks : List Bool) (p n : ℕ) → IsGap lengths p n
     → All (IsApart (base + 16 * p, 16 * n)) (blocks_of keeps base 0 lengths marks)
 All-IsApart keeps base lengths marks p n run =
     All-blocks_of (IsApart (base + 16 * p, 16 * n)) keeps base 0 lengths marks true
@@ -48,7 +48,7 @@ base_granule base lengths marks table = omega (arith, (LiesWithin-table base len
 
 -- A block may start at a free run from a multiple of its unit on.
 IsFree-from_run : (base : ℕ) (lengths : List ℕ) (marks : List Bool) (size p n unit : ℕ) → IsTable base lengths marks → HasShape size n unit
-    → IsRun lengths p n → (base / 16 + p) % unit ≡ 0 → IsFree (table_state base lengths marks) size (base + 16 * p)
+    → IsGap lengths p n → (base / 16 + p) % unit ≡ 0 → IsFree (table_state base lengths marks) size (base + 16 * p)
 IsFree-from_run base lengths marks size p n unit table has run multiple =
     let at : 16 * (base / 16 + p) ≡ base + 16 * p = omega (arith, base_granule base lengths marks table) in
     record {
@@ -61,9 +61,9 @@ IsFree-from_run base lengths marks size p n unit table has run multiple =
     }
 
 -- Where it may start, there is one.
-pub IsRun-from_free : (base : ℕ) (lengths : List ℕ) (marks : List Bool) (size a n unit : ℕ) → IsTable base lengths marks
-    → HasShape size n unit → IsFree (table_state base lengths marks) size a → IsRun lengths ((a - base) / 16) n
-IsRun-from_free base lengths marks size a n unit table has free =
+pub IsGap-from_free : (base : ℕ) (lengths : List ℕ) (marks : List Bool) (size a n unit : ℕ) → IsTable base lengths marks
+    → HasShape size n unit → IsFree (table_state base lengths marks) size a → IsGap lengths ((a - base) / 16) n
+IsGap-from_free base lengths marks size a n unit table has free =
     let p = (a - base) / 16 in
     let at : a ≡ base + 16 * ((a - base) / 16) = omega (arith, free.granule, free.from, base_granule base lengths marks table) in
     let end : (a - base) / 16 + n ≤ length lengths = omega (arith, free.end, has.length) in
@@ -89,12 +89,12 @@ too_long base lengths marks size asked a holds long free = omega (arith, free.fr
 
 -- The first such run is at the least place.
 pub IsPlace-from_run : (base : ℕ) (lengths : List ℕ) (marks : List Bool) (size p n unit : ℕ) → IsTable base lengths marks
-    → HasShape size n unit → IsFirstRun (base / 16) unit lengths p n → IsPlace (table_state base lengths marks) size (base + 16 * p)
+    → HasShape size n unit → IsFirstGap (base / 16) unit lengths p n → IsPlace (table_state base lengths marks) size (base + 16 * p)
 IsPlace-from_run base lengths marks size p n unit table has first =
     record {
       free = IsFree-from_run base lengths marks size p n unit table has first.run first.multiple;
       least = λ a free.
-          let le = first.least ((a - base) / 16) (IsRun-from_free base lengths marks size a n unit table has free)
+          let le = first.least ((a - base) / 16) (IsGap-from_free base lengths marks size a n unit table has free)
           (multiple-from_free base lengths marks size a n unit table has free) in
           omega (arith, free.from);
     }

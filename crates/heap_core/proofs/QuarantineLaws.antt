@@ -4,13 +4,13 @@ use Rattle.std.proofs.lemmas.Bool.{and_left, and_right, cases_Bool, cases_eq, eq
 use Rattle.std.proofs.lemmas.List.{set-get_or}
 use Rattle.std.proofs.lemmas.List.Elements.{All-head, All-tail}
 use Rattle.std.specs.Prelude.{All}
-use Rattle.heap_core.specs.Blocks.{Span, blocks_with, blocks_without, bytes_of, has_bounds, is_block}
+use Rattle.heap_core.specs.Blocks.{Span, blocks_with, blocks_without, bytes_in, has_bounds, is_block}
 use Rattle.heap_core.specs.Quarantine.{freed_of, with_held}
 use Rattle.heap_core.specs.Table.{IsBlockAt, IsTable, blocks_of, is_held, is_live, table_state}
 use Rattle.heap_core.specs.declared.block.Freed.TheVariants.{AlreadyHeld, Held, NotBlock}
 use Rattle.heap_core.proofs.BlockLaws.{All-blocks_of, blocks_of-set}
 use Rattle.heap_core.proofs.KeptLaws.{any-block, any-no_block}
-use Rattle.heap_core.proofs.SumLaws.{bytes_of-blocks_with, bytes_of_both}
+use Rattle.heap_core.proofs.SumLaws.{bytes_in-blocks_with, bytes_of_both}
 
 -- ---- which block has these bounds
 
@@ -129,14 +129,14 @@ IsTable-held base lengths marks k table = record {
 
 -- The bytes of the block go from the live to the held ones.
 pub record HasMoved (base : ℕ) (lengths : List ℕ) (marks : List Bool) (k : ℕ) : Type 0 where
-  pub live : bytes_of (blocks_of is_live base 0 lengths (set marks k true)) + 16 * get_or lengths k 0 ≡ bytes_of (blocks_of is_live base 0 lengths marks)
-  pub held : bytes_of (blocks_of is_held base 0 lengths (set marks k true)) ≡ bytes_of (blocks_of is_held base 0 lengths marks) + 16 * get_or lengths k 0
+  pub live : bytes_in (blocks_of is_live base 0 lengths (set marks k true)) + 16 * get_or lengths k 0 ≡ bytes_in (blocks_of is_live base 0 lengths marks)
+  pub held : bytes_in (blocks_of is_held base 0 lengths (set marks k true)) ≡ bytes_in (blocks_of is_held base 0 lengths marks) + 16 * get_or lengths k 0
 
 pub HasMoved-held : (base : ℕ) (lengths : List ℕ) (marks : List Bool) (start top k : ℕ) → length marks ≡ length lengths
     → IsBlockAt base lengths start top k → get_or marks k false ≡ false → HasMoved base lengths marks k
 HasMoved-held base lengths marks start top k same at live =
     let before = bytes_of_both base 0 lengths marks same in
     let after = bytes_of_both base 0 lengths (set marks k true) (length-set marks k true ∙ same) in
-    let more = ap bytes_of (held_blocks-held base lengths marks start top k same at live)
-    ∙ bytes_of-blocks_with (start, top - start) (blocks_of is_held base 0 lengths marks) in
+    let more = ap bytes_in (held_blocks-held base lengths marks start top k same at live)
+    ∙ bytes_in-blocks_with (start, top - start) (blocks_of is_held base 0 lengths marks) in
     record { live = omega (arith, at.top_is); held = omega (arith, at.top_is) }

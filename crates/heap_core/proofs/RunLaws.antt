@@ -4,7 +4,7 @@ use Rattle.std.proofs.lemmas.Bool.{cases_Bool, cases_eq, cases_lt, lt-ltb, ltb-t
 use Rattle.std.proofs.lemmas.Bool.Decides.{nat_tests}
 use Rattle.std.proofs.lemmas.List.{get_or-set_other, get_or-set_same}
 use Rattle.heap_core.specs.Blocks.{blocks_with}
-use Rattle.heap_core.specs.Table.{IsRun, IsTable, blocks_of, is_held, is_live, is_taken, table_state}
+use Rattle.heap_core.specs.Table.{IsGap, IsTable, blocks_of, is_held, is_live, is_taken, table_state}
 use Rattle.heap_core.proofs.BlockLaws.{blocks_of-set, blocks_of-set_other}
 
 -- ---- the granules taken
@@ -49,7 +49,7 @@ is_taken-set_other (m ∷ lengths) (suc p) n (suc k) none other =
 -- ---- free runs
 
 -- A block shares no granule with a free run.
-pub run_is_apart : (lengths : List ℕ) (p n k : ℕ) → IsRun lengths p n → 0 < get_or lengths k 0
+pub run_is_apart : (lengths : List ℕ) (p n k : ℕ) → IsGap lengths p n → 0 < get_or lengths k 0
     → (k + get_or lengths k 0 ≤ p) ⊎ (p + n ≤ k)
 run_is_apart lengths p n k run some =
     elim (cases_lt p (k + get_or lengths k 0)) [
@@ -68,7 +68,7 @@ run_is_apart lengths p n k run some =
     ]
 
 -- No block starts in it.
-pub run_is_empty : (lengths : List ℕ) (p n k : ℕ) → IsRun lengths p n → p ≤ k → k < p + n → get_or lengths k 0 ≡ 0
+pub run_is_empty : (lengths : List ℕ) (p n k : ℕ) → IsGap lengths p n → p ≤ k → k < p + n → get_or lengths k 0 ≡ 0
 run_is_empty lengths p n k run le lt =
     elim (cases_lt 0 (get_or lengths k 0)) [
       | inl some ↦ elim (run_is_apart lengths p n k run some) [ inl before ↦ absurd (omega arith) | inr after ↦ absurd (omega arith) ]
@@ -76,7 +76,7 @@ run_is_empty lengths p n k run le lt =
     ]
 
 -- None from before reaches into it.
-run_is_clear : (lengths : List ℕ) (p n j : ℕ) → IsRun lengths p n → j < p → j + get_or lengths j 0 ≤ p
+run_is_clear : (lengths : List ℕ) (p n j : ℕ) → IsGap lengths p n → j < p → j + get_or lengths j 0 ≤ p
 run_is_clear lengths p n j run lt =
     elim (cases_lt 0 (get_or lengths j 0)) [
       | inl some ↦ elim (run_is_apart lengths p n j run some) [ inl before ↦ before | inr after ↦ absurd (omega (arith, run.some)) ]
@@ -86,7 +86,7 @@ run_is_clear lengths p n j run lt =
 -- ---- a block at a free run
 
 inside-set : (lengths : List ℕ) (p n j : ℕ) → ((j : ℕ) → j < length lengths → j + get_or lengths j 0 ≤ length lengths)
-    → IsRun lengths p n → j < length lengths → j + get_or (set lengths p n) j 0 ≤ length lengths
+    → IsGap lengths p n → j < length lengths → j + get_or (set lengths p n) j 0 ≤ length lengths
 inside-set lengths p n j inside run lt =
     elim (cases_eq j p) [
       | inl is ↦
@@ -98,7 +98,7 @@ inside-set lengths p n j inside run lt =
     ]
 
 apart-set : (lengths : List ℕ) (p n j k : ℕ) → ((j k : ℕ) → j < k → 0 < get_or lengths k 0 → j + get_or lengths j 0 ≤ k)
-    → IsRun lengths p n → j < k → 0 < get_or (set lengths p n) k 0 → j + get_or (set lengths p n) j 0 ≤ k
+    → IsGap lengths p n → j < k → 0 < get_or (set lengths p n) k 0 → j + get_or (set lengths p n) j 0 ≤ k
 apart-set lengths p n j k apart run lt some =
     elim (cases_eq k p) [
       | inl is ↦
@@ -116,7 +116,7 @@ apart-set lengths p n j k apart run lt some =
           ]
     ]
 
-pub IsTable-set : (base : ℕ) (lengths : List ℕ) (marks : List Bool) (p n : ℕ) → IsTable base lengths marks → IsRun lengths p n
+pub IsTable-set : (base : ℕ) (lengths : List ℕ) (marks : List Bool) (p n : ℕ) → IsTable base lengths marks → IsGap lengths p n
     → IsTable base (set lengths p n) (set marks p false)
 IsTable-set base lengths marks p n table run =
     let long : length (set lengths p n) ≡ length lengths = length-set lengths p n in
@@ -131,7 +131,7 @@ IsTable-set base lengths marks p n table run =
     }
 
 -- One more block is live.
-pub live_blocks-set : (base : ℕ) (lengths : List ℕ) (marks : List Bool) (p n : ℕ) → length marks ≡ length lengths → IsRun lengths p n
+pub live_blocks-set : (base : ℕ) (lengths : List ℕ) (marks : List Bool) (p n : ℕ) → length marks ≡ length lengths → IsGap lengths p n
     → blocks_of is_live base 0 (set lengths p n) (set marks p false)
     ≡ blocks_with (base + 16 * p, 16 * n) (blocks_of is_live base 0 lengths marks)
 live_blocks-set base lengths marks p n same run =
@@ -139,13 +139,13 @@ live_blocks-set base lengths marks p n same run =
     blocks_of-set is_live base 0 lengths marks true p n (base + 16 * p) false (omega (arith, run.end, run.some)) same (rw none refl) run.some refl (omega arith)
 
 -- The same blocks are held.
-pub held_blocks-set : (base : ℕ) (lengths : List ℕ) (marks : List Bool) (p n : ℕ) → IsRun lengths p n
+pub held_blocks-set : (base : ℕ) (lengths : List ℕ) (marks : List Bool) (p n : ℕ) → IsGap lengths p n
     → blocks_of is_held base 0 (set lengths p n) (set marks p false) ≡ blocks_of is_held base 0 lengths marks
 held_blocks-set base lengths marks p n run =
     let none = run_is_empty lengths p n p run (omega arith) (omega (arith, run.some)) in
     blocks_of-set_other is_held base 0 lengths marks p n false none refl
 
-pub table_state-set : (base : ℕ) (lengths : List ℕ) (marks : List Bool) (p n : ℕ) → length marks ≡ length lengths → IsRun lengths p n
+pub table_state-set : (base : ℕ) (lengths : List ℕ) (marks : List Bool) (p n : ℕ) → length marks ≡ length lengths → IsGap lengths p n
     → table_state base (set lengths p n) (set marks p false)
     ≡ record (table_state base lengths marks) { live = blocks_with (base + 16 * p, 16 * n) (blocks_of is_live base 0 lengths marks) }
 table_state-set base lengths marks p n same run =

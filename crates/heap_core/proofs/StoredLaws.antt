@@ -14,7 +14,7 @@ use Rattle.heap_core.proofs.RunLaws.{is_taken-set_other, is_taken_by, is_taken_n
 use Rattle.heap_core.specs.Rows.{AreRows, granules_of}
 use Rattle.heap_core.specs.Shadow.{bits_of}
 use Rattle.heap_core.specs.Stored.{AreStored, length_in, lengths_of, marks_of}
-use Rattle.heap_core.specs.Table.{IsFirstRun, IsRun, is_held, is_live, is_taken, kept_lengths}
+use Rattle.heap_core.specs.Table.{IsFirstGap, IsGap, is_held, is_live, is_taken, kept_lengths}
 use Rattle.heap_core.specs.declared.rows.Rows.{Rows}
 use Rattle.heap_core.specs.declared.table.Table.TheInside.{Inside}
 use Rattle.tag_memory.specs.Laws.{is_set_zero}
@@ -178,21 +178,21 @@ module _ (words lengths : List ℕ) (count : ℕ) (long : length lengths ≡ cou
       let parts = and_parts (nat_lt k count) (not (is_taken k lengths)) (sym (bits k) ∙ set) in
       (ltb-true k count parts.0, not-true (is_taken k lengths) parts.1)
 
-  table_run : (p n : ℕ) → rows.IsRun words p n → IsRun lengths p n
+  table_run : (p n : ℕ) → rows.IsRun words p n → IsGap lengths p n
   table_run p n run = record {
     some = run.some;
     end = omega (arith, (free_there (p + n - 1) (run.free.each (p + n - 1) (omega (arith, run.some)) (omega (arith, run.some)))).0, run.some);
     free = λ k le lt. (free_there k (run.free.each k le lt)).1;
   }
 
-  pub row_run : (p n : ℕ) → count ≤ 64 * length words → IsRun lengths p n → rows.IsRun words p n
+  pub row_run : (p n : ℕ) → count ≤ 64 * length words → IsGap lengths p n → rows.IsRun words p n
   row_run p n room run = record {
     some = run.some;
     end = omega (arith, run.end);
     free = record { each = λ k le lt. bits k ∙ and_from (nat_lt k count) (not (is_taken k lengths)) (lt-ltb k count (omega (arith, run.end))) (ap not (run.free k le lt)) };
   }
 
-  pub table_first : {origin unit n p : ℕ} → count ≤ 64 * length words → IsFirstMultiple words origin unit n p → IsFirstRun origin unit lengths p n
+  pub table_first : {origin unit n p : ℕ} → count ≤ 64 * length words → IsFirstMultiple words origin unit n p → IsFirstGap origin unit lengths p n
   table_first {n = n} {p = p} room first = record {
     run = table_run p n first.run;
     multiple = first.multiple;
@@ -230,20 +230,20 @@ module _ (t : Inside) (stored : AreStored t) where
   pub room : n ≤ 64 * length t.rows.free
   room = omega (arith, stored.count, stored.rows.free)
 
-  pub first_place : {origin unit m p : ℕ} → IsFirstMultiple t.rows.free origin unit m p → IsFirstRun origin unit L p m
+  pub first_place : {origin unit m p : ℕ} → IsFirstMultiple t.rows.free origin unit m p → IsFirstGap origin unit L p m
   first_place first = table_first t.rows.free L n (length-lengths_of t.rows.starts.items t.lengths.items) stored.free room first
 
-  pub no_place : (origin unit m : ℕ) → ((p : ℕ) → (origin + p) % unit ≡ 0 → ¬ rows.IsRun t.rows.free p m) → (p : ℕ) → IsRun L p m → ¬ ((origin + p) % unit ≡ 0)
+  pub no_place : (origin unit m : ℕ) → ((p : ℕ) → (origin + p) % unit ≡ 0 → ¬ rows.IsRun t.rows.free p m) → (p : ℕ) → IsGap L p m → ¬ ((origin + p) % unit ≡ 0)
   no_place origin unit m none p run multiple =
       none p multiple (row_run t.rows.free L n (length-lengths_of t.rows.starts.items t.lengths.items) stored.free p m room run)
 
-  pub run_inside : {p m : ℕ} → IsRun L p m → p + m ≤ n
+  pub run_inside : {p m : ℕ} → IsGap L p m → p + m ≤ n
   run_inside run = omega (arith, run.end, length-lengths_of t.rows.starts.items t.lengths.items)
 
   pub not_held : (p : ℕ) → p < n → is_taken p L ≡ false → is_set_for t.rows.held.items p ≡ false
   not_held p inside none = stored.held p inside ∙ kept_not_taken is_held L M p none
 
-  module _ (s : Rows) (p m : ℕ) (run : IsRun L p m) (held : s.held.items ≡ t.rows.held.items)
+  module _ (s : Rows) (p m : ℕ) (run : IsGap L p m) (held : s.held.items ≡ t.rows.held.items)
       (starts : (k : ℕ) → is_set_for s.starts.items k ≡ (is_within p (p + 1) k || is_set_for t.rows.starts.items k)) where
     none_there : get_or L p 0 ≡ 0
     none_there = omega (arith, not_taken_ends L p p (run.free p (omega arith) (omega (arith, run.some))) (omega arith))

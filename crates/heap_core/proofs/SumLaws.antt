@@ -2,23 +2,23 @@
 use Rattle.std.proofs.Common.{◌≡◌, ◌<◌, ◌≤◌, ◌+◌, ◌-◌, ◌*◌, ◌⊎◌, inl, inr, nat_lt, ℕ, suc, Bool, List, [], ◌∷◌, length, get_or, sum, arith}
 use Rattle.std.proofs.lemmas.Bool.{cases_Bool, cases_lt, le-ltb, lt-ltb}
 use Rattle.std.proofs.lemmas.List.Sums.{sum_by-cons}
-use Rattle.heap_core.specs.Blocks.{Span, blocks_with, bytes_of, length_of, start_of}
+use Rattle.heap_core.specs.Blocks.{Span, blocks_with, bytes_in, length_of, start_of}
 use Rattle.heap_core.specs.Table.{IsTable, blocks_of, is_held, is_live}
 
-bytes_of-cons : (block : Span) (blocks : List Span) → bytes_of (block ∷ blocks) ≡ length_of block + bytes_of blocks
-bytes_of-cons block blocks = sum_by-cons length_of block blocks
+bytes_in-cons : (block : Span) (blocks : List Span) → bytes_in (block ∷ blocks) ≡ length_of block + bytes_in blocks
+bytes_in-cons block blocks = sum_by-cons length_of block blocks
 
-pub bytes_of-blocks_with : (block : Span) (blocks : List Span) → bytes_of (blocks_with block blocks) ≡ length_of block + bytes_of blocks
-bytes_of-blocks_with block [] = bytes_of-cons block []
-bytes_of-blocks_with block (b ∷ blocks) =
+pub bytes_in-blocks_with : (block : Span) (blocks : List Span) → bytes_in (blocks_with block blocks) ≡ length_of block + bytes_in blocks
+bytes_in-blocks_with block [] = bytes_in-cons block []
+bytes_in-blocks_with block (b ∷ blocks) =
     elim (cases_Bool (nat_lt (start_of block) (start_of b))) [
-      | inl is ↦ rw is (bytes_of-cons block (b ∷ blocks))
-      | inr is ↦ rw is (omega (arith, bytes_of-cons b (blocks_with block blocks), bytes_of-blocks_with block blocks, bytes_of-cons b blocks))
+      | inl is ↦ rw is (bytes_in-cons block (b ∷ blocks))
+      | inr is ↦ rw is (omega (arith, bytes_in-cons b (blocks_with block blocks), bytes_in-blocks_with block blocks, bytes_in-cons b blocks))
     ]
 
 -- Each block is live or held.
 pub bytes_of_both : (base i : ℕ) (lengths : List ℕ) (marks : List Bool) → length marks ≡ length lengths
-    → bytes_of (blocks_of is_live base i lengths marks) + bytes_of (blocks_of is_held base i lengths marks) ≡ 16 * sum lengths
+    → bytes_in (blocks_of is_live base i lengths marks) + bytes_in (blocks_of is_held base i lengths marks) ≡ 16 * sum lengths
 bytes_of_both base i [] marks same = omega arith
 bytes_of_both base i (n ∷ lengths) [] same = absurd (omega arith)
 bytes_of_both base i (n ∷ lengths) (mark ∷ marks) same =
@@ -28,8 +28,8 @@ bytes_of_both base i (n ∷ lengths) (mark ∷ marks) same =
     let all : sum (n ∷ lengths) ≡ n + sum lengths = sum_by-cons (λ x. x) n lengths in
     elim (cases_lt 0 n) [
       | inl some ↦ elim (cases_Bool mark) [
-        | inl is ↦ rw (lt-ltb 0 n some, is) (omega (arith, bytes_of-cons (base + 16 * i, 16 * n) held))
-        | inr is ↦ rw (lt-ltb 0 n some, is) (omega (arith, bytes_of-cons (base + 16 * i, 16 * n) live))
+        | inl is ↦ rw (lt-ltb 0 n some, is) (omega (arith, bytes_in-cons (base + 16 * i, 16 * n) held))
+        | inr is ↦ rw (lt-ltb 0 n some, is) (omega (arith, bytes_in-cons (base + 16 * i, 16 * n) live))
       ]
       | inr none ↦ rw (le-ltb 0 n none) (omega arith)
     ]
@@ -57,7 +57,7 @@ sum_fits taken (n ∷ lengths) none inside apart le =
 
 -- So do those of live and of held blocks together.
 pub granules_fit : (base : ℕ) (lengths : List ℕ) (marks : List Bool) (live held : ℕ) → IsTable base lengths marks
-    → 16 * live ≡ bytes_of (blocks_of is_live base 0 lengths marks) → 16 * held ≡ bytes_of (blocks_of is_held base 0 lengths marks)
+    → 16 * live ≡ bytes_in (blocks_of is_live base 0 lengths marks) → 16 * held ≡ bytes_in (blocks_of is_held base 0 lengths marks)
     → live + held ≤ length lengths
 granules_fit base lengths marks live held table live_is held_is =
     let all = sum_fits 0 lengths (λ k lt. absurd (omega arith)) table.inside table.apart (omega arith) in

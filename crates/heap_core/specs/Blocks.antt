@@ -51,5 +51,5 @@ abbrev pub lies_in : List Span → ℕ → Bool
 lies_in blocks a = list_any (has_address a) blocks
 
 -- The bytes of all the blocks.
-abbrev pub bytes_of : List Span → ℕ
-bytes_of blocks = sum_by length_of blocks
+abbrev pub bytes_in : List Span → ℕ
+bytes_in blocks = sum_by length_of blocks

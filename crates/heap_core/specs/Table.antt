@@ -55,17 +55,17 @@ pub record IsBlockAt (base : ℕ) (lengths : List ℕ) (start top k : ℕ) : Typ
   pub top_is : top ≡ start + 16 * slice_index lengths k
 
 -- The n granules from p on, at least one, lie in no block.
-pub record IsRun (lengths : List ℕ) (p n : ℕ) : Type 0 where
+pub record IsGap (lengths : List ℕ) (p n : ℕ) : Type 0 where
   pub some : 0 < n
   pub end : p + n ≤ length lengths
   pub free : (k : ℕ) → p ≤ k → k < p + n → is_taken k lengths ≡ false
 
 -- And p is the first such granule that is a multiple of the unit. Multiples are counted from address 0,
 -- of which the heap's base is granule `origin`.
-pub record IsFirstRun (origin unit : ℕ) (lengths : List ℕ) (p n : ℕ) : Type 0 where
-  pub run : IsRun lengths p n
+pub record IsFirstGap (origin unit : ℕ) (lengths : List ℕ) (p n : ℕ) : Type 0 where
+  pub run : IsGap lengths p n
   pub multiple : (origin + p) % unit ≡ 0
-  pub least : (q : ℕ) → IsRun lengths q n → (origin + q) % unit ≡ 0 → p ≤ q
+  pub least : (q : ℕ) → IsGap lengths q n → (origin + q) % unit ≡ 0 → p ≤ q
 
 -- The table is one of some pages that may begin at the base, and each block ends inside it and before the next one starts.
 pub record IsTable (base : ℕ) (lengths : List ℕ) (marks : List Bool) : Type 0 where

@@ -2,7 +2,7 @@
 
 ghost use Rattle.std.specs.Prelude.{◌≡◌, ◌↔◌, ◌≤◌, ◌+◌, ℕ, IfOk, IsOk, IsOkUnless, false, true};
 ghost use Rattle.cap_codec.specs.Rounding.{IsExact};
-ghost use Rattle.heap_core.specs.Blocks.{bytes_of};
+ghost use Rattle.heap_core.specs.Blocks.{bytes_in};
 ghost use Rattle.heap_core.specs.Heap.{IsSound, empty_heap};
 ghost use Rattle.heap_core.specs.Place.{IfOkSome, IsFree, IsPlace, block_length, with_live};
 ghost use Rattle.tag_memory.specs.Span as span;
@@ -109,21 +109,21 @@ impl Heap {
 
     /// The bytes of the live blocks.
     pub fn live_bytes(&self) -> u64
-        ensures { result ≡ bytes_of self.now.live }
+        ensures { result ≡ bytes_in self.now.live }
     {
         GRANULE * u64::from(self.live_granules)
     }
 
     /// The bytes of the held blocks.
     pub fn held_bytes(&self) -> u64
-        ensures { result ≡ bytes_of self.now.held }
+        ensures { result ≡ bytes_in self.now.held }
     {
         GRANULE * u64::from(self.held_granules)
     }
 
     /// The bytes of the heap that lie in no block.
     pub fn free_bytes(&self) -> u64
-        ensures rest { bytes_of self.now.live + bytes_of self.now.held + result ≡ self.now.size }
+        ensures rest { bytes_in self.now.live + bytes_in self.now.held + result ≡ self.now.size }
         // What holds of every heap.
         ensures sound { IsSound self.now }
     {

@@ -1,7 +1,7 @@
 //! The blocks of a heap, by the granules at which they start.
 
 ghost use Rattle.std.specs.Prelude.{◌≡◌, ◌<◌, ◌≤◌, ◌+◌, ◌*◌, ◌%◌, ◌^◌, ℕ, IfOk, IfSome, false, length, replicate, slice_index, slice_index_or, slice_set, true};
-ghost use Rattle.heap_core.specs.Table.{IsBlockAt, IsFirstRun, IsRun, is_held, is_live, is_taken, kept_lengths};
+ghost use Rattle.heap_core.specs.Table.{IsBlockAt, IsFirstGap, IsGap, is_held, is_live, is_taken, kept_lengths};
 
 use crate::block::Shape;
 use crate::rows::Rows;
@@ -60,9 +60,9 @@ impl Table {
         requires some { 0 < shape.granules }
         requires unit { 0 < shape.unit }
         requires unit_limit { shape.unit ≤ 2 ^ 60 }
-        ensures none { result ≡ None → (p : ℕ) → IsRun self.old.lengths p shape.granules → ¬ ((origin + p) % shape.unit ≡ 0) }
+        ensures none { result ≡ None → (p : ℕ) → IsGap self.old.lengths p shape.granules → ¬ ((origin + p) % shape.unit ≡ 0) }
         ensures unchanged { result ≡ None → self.new ≡ self.old }
-        ensures first { IfSome result (λ p. IsFirstRun origin shape.unit self.old.lengths p shape.granules) }
+        ensures first { IfSome result (λ p. IsFirstGap origin shape.unit self.old.lengths p shape.granules) }
         ensures lengths { IfSome result (λ p. self.new.lengths ≡ slice_set self.old.lengths p shape.granules) }
         ensures marks { IfSome result (λ p. self.new.marks ≡ slice_set self.old.marks p false) }
     {

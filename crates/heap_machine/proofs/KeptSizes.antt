@@ -16,7 +16,7 @@ use Rattle.heap_reply.specs.declared.reply.Reply.TheVariants.{Block, NoSpace, He
 use Rattle.heap_reply.specs.declared.reply.Trap.{Trap as TheTrap}
 use Rattle.heap_machine.specs.Parts.{AreParts, state_of}
 use Rattle.heap_machine.specs.Safety.{FitsTypes, IsSafe}
-use Rattle.heap_machine.specs.Sound.{IsSound}
+use Rattle.heap_machine.specs.Sound.{IsMachine}
 use Rattle.heap_machine.specs.State.{State, with_cell}
 use Rattle.heap_machine.specs.Step.{Effect, Step, StepAfter, checks, first_failed, index_in, swept, with_granule}
 
@@ -81,7 +81,7 @@ StepAfter-sizes None old c r new sizes step = Effect-sizes old c r new sizes ste
 StepAfter-sizes (Some t) old c r new sizes step = subst HasSizes (sym step.1) sizes
 
 -- A step to a safe state is one to a sound state.
-Step-sound : (old : State) (c : Command) (r : Reply) (new : State) → IsSound old → IsSafe new → Step old c r new → IsSound new
+Step-sound : (old : State) (c : Command) (r : Reply) (new : State) → IsMachine old → IsSafe new → Step old c r new → IsMachine new
 Step-sound old c r new sound safe step =
     let before : HasSizes old = record { granules = sound.granules; count = sound.count; zero = sound.zero } in
     let sizes = StepAfter-sizes (first_failed (checks old c)) old c r new before step in

@@ -10,7 +10,7 @@ use Rattle.trace_text.specs.declared.trace.Command.TheVariants.{Malloc, Free, Co
 use Rattle.heap_reply.specs.declared.reply.Reply.{Reply}
 use Rattle.heap_reply.specs.declared.reply.Reply.TheVariants.{Block, NoSpace, Held, Done, Cleared, Swept, Shown, Trap}
 use Rattle.heap_reply.specs.declared.reply.Trap.{Trap as TheTrap}
-use Rattle.heap_machine.specs.Safety.{AreInUse, HoldsGuarded, IsGuarded, IsInUse, IsRevoked, IsSafe, TellsNoSweep}
+use Rattle.heap_machine.specs.Safety.{AreInUse, HoldsGuarded, IsGuarded, IsInUse, LeavesInUse, IsSafe, TellsNoSweep}
 use Rattle.heap_machine.specs.State.{State}
 use Rattle.heap_machine.specs.Step.{Effect, Step, StepAfter, checks, first_failed}
 
@@ -57,7 +57,7 @@ After-silent : (t : Option TheTrap) (old : State) (c : Command) (r : Reply) (new
 After-silent None old c r new effect step = effect step
 After-silent (Some t) old c r new effect step = silent r (Trap t) tt step.0
 
-pub Step-revoked : (old : State) (c : Command) (r : Reply) (new : State) → IsSafe new → Step old c r new → IsRevoked c r new
+pub Step-revoked : (old : State) (c : Command) (r : Reply) (new : State) → IsSafe new → Step old c r new → LeavesInUse c r new
 Step-revoked old (Malloc rd size) r new safe step = Malloc-silent old rd size r new step
 Step-revoked old (Free rs) r new safe step = After-silent (first_failed (checks old (Free rs))) old (Free rs) r new (λ e. silent r _ tt e.0) step
 Step-revoked old (Copy rd rs) r new safe step = silent r Done tt step.0

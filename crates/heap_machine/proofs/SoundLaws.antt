@@ -11,7 +11,7 @@ use Rattle.heap_core.specs.Blocks.{IsApart, Span}
 use Rattle.tag_memory.specs.Span.{is_base, is_size}
 use Rattle.tag_memory.specs.Cells.{Cell, Granule, cell_of, new_registers, null_cell}
 use Rattle.heap_machine.specs.Safety.{HoldsGuarded, IsGuarded, IsLiveOrHeld, IsSafe}
-use Rattle.heap_machine.specs.Sound.{IsSound}
+use Rattle.heap_machine.specs.Sound.{IsMachine}
 use Rattle.heap_machine.specs.State.{State, first_state, register, with_cell}
 use Rattle.heap_machine.specs.Step.{granule_at, index_in, with_granule}
 use Rattle.heap_machine.proofs.GuardLaws.{IsGuarded-in, IsGuarded-untagged, LiesInside, LiesInside-guarded}
@@ -85,8 +85,8 @@ IsSafe-in s heap sound still safe = record {
 }
 
 -- The first state of a machine has no tagged word.
-pub IsSound-first : (s : State) (base pages : ℕ) → IsSoundHeap s.heap → s.heap ≡ empty_heap base pages → s.cells ≡ replicate (256 * pages) (0, false) → s.registers ≡ new_registers → IsSound s
-IsSound-first s base pages sound heap cells registers =
+pub IsMachine-first : (s : State) (base pages : ℕ) → IsSoundHeap s.heap → s.heap ≡ empty_heap base pages → s.cells ≡ replicate (256 * pages) (0, false) → s.registers ≡ new_registers → IsMachine s
+IsMachine-first s base pages sound heap cells registers =
     let size_is : s.heap.size ≡ 4096 * pages = ap (λ (h : HeapState). h.size) heap in
     let count : length s.cells ≡ 256 * pages = ap length cells ∙ length-replicate (256 * pages) (0, false) in
     record {
@@ -101,8 +101,8 @@ IsSound-first s base pages sound heap cells registers =
     }
 
 -- A heap without blocks is sound.
-IsSound-empty : (base pages : ℕ) → is_size pages ≡ true → is_base base pages ≡ true → IsSoundHeap (empty_heap base pages)
-IsSound-empty base pages size place = record {
+IsMachine-empty : (base pages : ℕ) → is_size pages ≡ true → is_base base pages ≡ true → IsSoundHeap (empty_heap base pages)
+IsMachine-empty base pages size place = record {
   pages = pages;
   bytes = refl;
   size = size;
@@ -115,4 +115,4 @@ IsSound-empty base pages size place = record {
 }
 
 pub IsSafe-first : (base pages : ℕ) → is_size pages ≡ true → is_base base pages ≡ true → IsSafe (first_state base pages)
-IsSafe-first base pages size place = (IsSound-first (first_state base pages) base pages (IsSound-empty base pages size place) refl refl refl).safe
+IsSafe-first base pages size place = (IsMachine-first (first_state base pages) base pages (IsMachine-empty base pages size place) refl refl refl).safe

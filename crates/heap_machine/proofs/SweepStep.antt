@@ -2,10 +2,10 @@
 use Rattle.std.proofs.Common.{◌≡◌, ◌∙◌, ◌<◌, ◌+◌, ℕ, List, length, get_or, drop, sym, ap}
 use Rattle.std.specs.Prelude.{count_by}
 use Rattle.heap_core.specs.Heap.{HeapState}
-use Rattle.sweep_pool.specs.Sweep.{TakeTags, swept_granules, swept_registers, takes_tag}
-use Rattle.tag_memory.specs.Cells.{Cell, Granule, MemoryState, null_cell, register_in}
+use Rattle.sweep_pool.specs.Sweep.{TakeTags, swept_granules, swept_cells, takes_tag}
+use Rattle.tag_memory.specs.Cells.{Cell, Granule, MemoryState, null_cell, register_at}
 use Rattle.tag_memory.specs.Tags.{is_set, without_tags}
-use Rattle.heap_machine.specs.Sound.{IsSound}
+use Rattle.heap_machine.specs.Sound.{IsMachine}
 use Rattle.heap_machine.specs.State.{tags_of}
 use Rattle.heap_machine.specs.Step.{swept}
 use Rattle.heap_machine.proofs.ClearedRegisters.{registers-swept, without_tag_if}
@@ -15,12 +15,12 @@ use Rattle.heap_machine.proofs.SweptState.{without_tags-swept}
 pub record AreSwept (heap : HeapState) (old : MemoryState) (registers : List Cell) (new : MemoryState) (left : List Cell) : Type 0 where
   pub base : new.base ≡ heap.base
   pub cells : new.cells ≡ swept_granules heap.held old.cells
-  pub registers_are : left ≡ swept_registers heap.held registers
+  pub registers_are : left ≡ swept_cells heap.held registers
 
 pub AreSwept-masks : (heap : HeapState) (old new : MemoryState) (registers left : List Cell) (masks : List ℕ) (mask : ℕ)
-    → IsSound (record { heap = heap; cells = old.cells; registers = registers }) → old.base ≡ heap.base → TakeTags old heap.held masks
+    → IsMachine (record { heap = heap; cells = old.cells; registers = registers }) → old.base ≡ heap.base → TakeTags old heap.held masks
     → new ≡ record old { cells = without_tags masks old.cells }
-    → ((r : ℕ) → r < 32 → is_set mask r ≡ takes_tag heap.held (register_in registers r))
+    → ((r : ℕ) → r < 32 → is_set mask r ≡ takes_tag heap.held (register_at registers r))
     → length left ≡ 32 → get_or left 0 null_cell ≡ null_cell
     → ((r : ℕ) → r < 32 → get_or left r null_cell ≡ without_tag_if (is_set mask r) (get_or registers r null_cell))
     → AreSwept heap old registers new left

@@ -11,10 +11,10 @@ use Rattle.std.proofs.lemmas.List.Folds.{list_any-from_Any}
 use Rattle.std.proofs.lemmas.List.FromFn.{get_or-enumerate_from, length-enumerate_from}
 use Rattle.std.proofs.lemmas.List.Sums.{sum_by-cons}
 use Rattle.cap_codec.specs.declared.word.Word.{Word}
-use Rattle.heap_core.specs.Blocks.{Span, bytes_of, end_of, has_address, length_of, start_of}
+use Rattle.heap_core.specs.Blocks.{Span, bytes_in, end_of, has_address, length_of, start_of}
 use Rattle.heap_core.specs.Heap.{HeapState, IsInside, IsSound as IsSoundHeap}
 use Rattle.heap_core.specs.Quarantine.{without_held}
-use Rattle.sweep_pool.specs.Sweep.{TakeTags, is_revoked, swept_cell, swept_granule, swept_granules, swept_registers, tags_taken}
+use Rattle.sweep_pool.specs.Sweep.{TakeTags, is_revoked, swept_cell, swept_granule, swept_granules, swept_cells, tags_taken}
 use Rattle.tag_memory.specs.Cells.{Cell, Granule, MemoryState, cell_of}
 use Rattle.tag_memory.specs.Tags.{is_set_for, without_tags}
 use Rattle.heap_machine.specs.Safety.{HoldsGuarded, IsGuarded, IsSafe, LieIn}
@@ -81,17 +81,17 @@ count-swept_granules held (g ∷ granules) =
       here,
     )
 
-count-swept_registers : (held : List Span) (registers : List Cell)
-    → count_by (λ (c : Cell). c.1) (swept_registers held registers) + count_by (λ (c : Cell). c.1 && is_revoked held c.0) registers
+count-swept_cells : (held : List Span) (registers : List Cell)
+    → count_by (λ (c : Cell). c.1) (swept_cells held registers) + count_by (λ (c : Cell). c.1 && is_revoked held c.0) registers
     ≡ count_by (λ (c : Cell). c.1) registers
-count-swept_registers held [] = refl
-count-swept_registers held (c ∷ registers) =
+count-swept_cells held [] = refl
+count-swept_cells held (c ∷ registers) =
     let taken : Cell → Bool = λ x. x.1 && is_revoked held x.0 in
-    let rest = count-swept_registers held registers in
+    let rest = count-swept_cells held registers in
     let here = kept_or_taken c.1 (is_revoked held c.0) in
     omega (
       arith,
-      sum_by-cons (λ (x : Cell). cond x.1 1 0) (swept_cell held c) (swept_registers held registers),
+      sum_by-cons (λ (x : Cell). cond x.1 1 0) (swept_cell held c) (swept_cells held registers),
       sum_by-cons (λ (x : Cell). cond (taken x) 1 0) c registers,
       sum_by-cons (λ (x : Cell). cond x.1 1 0) c registers,
       rest,
@@ -103,7 +103,7 @@ tags_of-swept s =
     let held = s.heap.held in
     let taken = count_by (λ (c : Cell). c.1 && is_revoked s.heap.held c.0) (drop 1 s.registers) in
     let registers = subst (λ (xs : List Cell). count_by (λ (c : Cell). c.1) xs + taken ≡ count_by (λ (c : Cell). c.1) (drop 1 s.registers))
-    (sym (drop-map (swept_cell held) 1 s.registers)) (count-swept_registers held (drop 1 s.registers)) in
+    (sym (drop-map (swept_cell held) 1 s.registers)) (count-swept_cells held (drop 1 s.registers)) in
     omega (arith, count-swept_granules held s.cells, registers)
 
 -- So what is counted before and after tells how many it takes.
@@ -145,29 +145,29 @@ IsSafe-swept s safe sound =
 
 -- ---- where nothing is held
 
-no_spans : (heap : HeapState) (blocks : List Span) → All (IsInside heap) blocks → bytes_of blocks ≡ 0 → blocks ≡ []
+no_spans : (heap : HeapState) (blocks : List Span) → All (IsInside heap) blocks → bytes_in blocks ≡ 0 → blocks ≡ []
 no_spans heap [] inside none = refl
 no_spans heap (b ∷ blocks) inside none =
     let some = (All-head (IsInside heap) b blocks inside).some in
     absurd (omega (arith, some, none, sum_by-cons length_of b blocks))
 
 -- Every block has a byte at least, so where held blocks have none there is none.
-pub no_blocks : (heap : HeapState) → IsSoundHeap heap → bytes_of heap.held ≡ 0 → heap.held ≡ []
+pub no_blocks : (heap : HeapState) → IsSoundHeap heap → bytes_in heap.held ≡ 0 → heap.held ≡ []
 no_blocks heap sound none = no_spans heap heap.held sound.held_inside none
 
 swept_granules-none : (granules : List Granule) → swept_granules [] granules ≡ granules
 swept_granules-none [] = refl
 swept_granules-none (g ∷ granules) = λ i. (g.0, and-true g.1 i) ∷ swept_granules-none granules i
 
-swept_registers-none : (registers : List Cell) → swept_registers [] registers ≡ registers
-swept_registers-none [] = refl
-swept_registers-none (c ∷ registers) = λ i. (c.0, and-true c.1 i) ∷ swept_registers-none registers i
+swept_cells-none : (registers : List Cell) → swept_cells [] registers ≡ registers
+swept_cells-none [] = refl
+swept_cells-none (c ∷ registers) = λ i. (c.0, and-true c.1 i) ∷ swept_cells-none registers i
 
 -- A sweep then leaves the state as it is, and takes no tag.
 pub swept-none : (s : State) → s.heap.held ≡ [] → swept s ≡ s
 swept-none s none =
-    subst (λ (held : List Span). record s { heap = record s.heap { held = [] }; cells = swept_granules held s.cells; registers = swept_registers held s.registers } ≡ s) (sym none)
-    (λ i. record s { heap = record s.heap { held = sym none i }; cells = swept_granules-none s.cells i; registers = swept_registers-none s.registers i })
+    subst (λ (held : List Span). record s { heap = record s.heap { held = [] }; cells = swept_granules held s.cells; registers = swept_cells held s.registers } ≡ s) (sym none)
+    (λ i. record s { heap = record s.heap { held = sym none i }; cells = swept_granules-none s.cells i; registers = swept_cells-none s.registers i })
 
 pub tags_taken-none : (s : State) → s.heap.held ≡ [] → tags_taken s.heap.held s.cells s.registers ≡ 0
 tags_taken-none s none = omega (arith, tags_of-swept s, ap tags_of (swept-none s none))

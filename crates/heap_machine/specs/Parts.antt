@@ -1,6 +1,6 @@
 -- A machine as it is kept: its parts.
 use Rattle.std.specs.Prelude.{◌≡◌}
-use Rattle.heap_machine.specs.Sound.{IsSound}
+use Rattle.heap_machine.specs.Sound.{IsMachine}
 use Rattle.heap_machine.specs.State.{State}
 use Rattle.heap_machine.specs.declared.parts.Parts.{Parts}
 
@@ -11,4 +11,4 @@ state_of m = record { heap = m.heap; cells = m.memory.cells; registers = m.regis
 -- The memory lies where the heap does, and the state is sound.
 pub record AreParts (m : Parts) : Type 0 where
   pub base : m.memory.base ≡ m.heap.base
-  pub sound : IsSound (state_of m)
+  pub sound : IsMachine (state_of m)

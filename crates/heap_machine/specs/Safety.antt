@@ -106,23 +106,23 @@ TellsNoSweep (Trap trap) = Unit {0}
 
 -- After a sweep no tagged word is left that points into a block that was given up: each is in use. No other
 -- command tells of a sweep.
-abbrev pub IsRevoked : Command → Reply → State → Type 0
-IsRevoked (Malloc rd size) r s = TellsNoSweep r
-IsRevoked (Free rs) r s = TellsNoSweep r
-IsRevoked (Copy rd rs) r s = TellsNoSweep r
-IsRevoked (SetAddr rd rs address) r s = TellsNoSweep r
-IsRevoked (Narrow rd rs length) r s = TellsNoSweep r
-IsRevoked (AndPerm rd rs mask) r s = TellsNoSweep r
-IsRevoked (StoreCap ra rs) r s = TellsNoSweep r
-IsRevoked (LoadCap rd ra) r s = TellsNoSweep r
-IsRevoked (Write ra bytes) r s = TellsNoSweep r
-IsRevoked (Show rs) r s = TellsNoSweep r
-IsRevoked Sweep r s = AreInUse s
+abbrev pub LeavesInUse : Command → Reply → State → Type 0
+LeavesInUse (Malloc rd size) r s = TellsNoSweep r
+LeavesInUse (Free rs) r s = TellsNoSweep r
+LeavesInUse (Copy rd rs) r s = TellsNoSweep r
+LeavesInUse (SetAddr rd rs address) r s = TellsNoSweep r
+LeavesInUse (Narrow rd rs length) r s = TellsNoSweep r
+LeavesInUse (AndPerm rd rs mask) r s = TellsNoSweep r
+LeavesInUse (StoreCap ra rs) r s = TellsNoSweep r
+LeavesInUse (LoadCap rd ra) r s = TellsNoSweep r
+LeavesInUse (Write ra bytes) r s = TellsNoSweep r
+LeavesInUse (Show rs) r s = TellsNoSweep r
+LeavesInUse Sweep r s = AreInUse s
 
 -- A command so answered hands out bytes safely: what it hands out is unused before, and what a sweep leaves is in use.
 pub record IsReuseSafe (old : State) (c : Command) (r : Reply) (new : State) : Type 0 where
   pub unused : IsUnused old c r
-  pub revoked : IsRevoked c r new
+  pub revoked : LeavesInUse c r new
 
 -- The numbers of the command fit their types, as those of every command of the program do.
 abbrev pub FitsTypes : Command → Type 0

@@ -5,7 +5,7 @@ use Rattle.heap_machine.specs.Safety.{IsSafe}
 use Rattle.heap_machine.specs.State.{State}
 
 -- There is a granule for each 16 bytes of the heap, and there are 32 registers, the first of them null.
-pub record IsSound (s : State) : Type 0 where
+pub record IsMachine (s : State) : Type 0 where
   pub granules : 16 * length s.cells ≡ s.heap.size
   pub count : length s.registers ≡ 32
   pub zero : slice_index_or s.registers 0 null_cell ≡ null_cell

@@ -1,7 +1,7 @@
 -- The state of a machine: one heap, its memory and 32 registers (this project's own profile).
 use Rattle.std.specs.Prelude.{ℕ, ◌+◌, List, count_by, drop}
 use Rattle.heap_core.specs.Heap.{HeapState, empty_heap}
-use Rattle.tag_memory.specs.Cells.{Cell, Granule, new_memory, new_registers, register_in, with_register}
+use Rattle.tag_memory.specs.Cells.{Cell, Granule, new_memory, new_registers, register_at, with_register}
 
 pub record State : Type 0 where
   pub heap : HeapState
@@ -14,7 +14,7 @@ first_state base pages = record { heap = empty_heap base pages; cells = (new_mem
 
 -- What a register reads as.
 abbrev pub register : State → ℕ → Cell
-register s r = register_in s.registers r
+register s r = register_at s.registers r
 
 -- The state after a write to a register.
 abbrev pub with_cell : State → ℕ → Cell → State

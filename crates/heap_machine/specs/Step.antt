@@ -5,10 +5,10 @@ use Rattle.std.specs.Prelude.{◌≡◌, ℕ, ◌+◌, ◌-◌, ◌/◌, ◌%◌
 use Rattle.cap_codec.specs.declared.word.Word.{Word}
 use Rattle.cap_codec.specs.Bytes.{bits_of_bytes}
 use Rattle.cap_codec.specs.Words.{address_in, allows, bounds_in, capability_of, is_exact, keeps_bounds, lie_within, load, load_capability, narrowed, store, store_capability, with_address, with_perms}
-use Rattle.heap_core.specs.Blocks.{bytes_of, is_block}
+use Rattle.heap_core.specs.Blocks.{bytes_in, is_block}
 use Rattle.heap_core.specs.Place.{IsFree, IsPlace, block_length, with_live}
 use Rattle.heap_core.specs.Quarantine.{with_held, without_held}
-use Rattle.sweep_pool.specs.Sweep.{swept_granules, swept_registers, tags_taken}
+use Rattle.sweep_pool.specs.Sweep.{swept_granules, swept_cells, tags_taken}
 use Rattle.tag_memory.specs.Cells.{Cell, Granule, null_cell}
 use Rattle.trace_text.specs.declared.trace.Command.{Command}
 use Rattle.trace_text.specs.declared.trace.Command.TheVariants.{Malloc, Free, Copy, SetAddr, Narrow, AndPerm, StoreCap, LoadCap, Write, Show, Sweep}
@@ -54,7 +54,7 @@ abbrev pub swept : State → State
 swept s = record s {
   heap = without_held s.heap;
   cells = swept_granules s.heap.held s.cells;
-  registers = swept_registers s.heap.held s.registers;
+  registers = swept_cells s.heap.held s.registers;
 }
 
 -- ---- steps
@@ -127,7 +127,7 @@ Effect old (LoadCap rd ra) answer new =
 Effect old (Write ra bytes) answer new = (answer ≡ Done) × (new ≡ with_granule old (register old ra).0 (bits_of_bytes bytes, false))
 Effect old (Show rs) answer new = (answer ≡ reply.Shown (shown_of (register old rs))) × (new ≡ old)
 Effect old Sweep answer new =
-    (answer ≡ Swept (tags_taken old.heap.held old.cells old.registers) (bytes_of old.heap.held)) × (new ≡ swept old)
+    (answer ≡ Swept (tags_taken old.heap.held old.cells old.registers) (bytes_in old.heap.held)) × (new ≡ swept old)
 
 -- The step where a check fails, and where none does.
 abbrev pub StepAfter : Option Trap → State → Command → Reply → State → Type 0

@@ -4,7 +4,7 @@ ghost use Rattle.std.specs.Prelude.{◌≡◌, ℕ, true};
 ghost use Rattle.tag_memory.specs.Span.{is_base, is_size};
 ghost use Rattle.trace_text.specs.declared.trace.Command.{Command as TheCommand};
 ghost use Rattle.heap_reply.specs.declared.reply.Reply.{Reply as TheReply};
-ghost use Rattle.heap_machine.specs.Safety.{FitsTypes, IsRevoked, IsSafe, IsUnused};
+ghost use Rattle.heap_machine.specs.Safety.{FitsTypes, LeavesInUse, IsSafe, IsUnused};
 ghost use Rattle.heap_machine.specs.State.{State, first_state};
 ghost use Rattle.heap_machine.specs.Step.{Step};
 
@@ -26,7 +26,7 @@ pub fn steps()
     ensures unused { (old : State) (command : TheCommand) (reply : TheReply) (new : State) →
         IsSafe old → Step old command reply new → IsUnused old command reply }
     ensures revoked { (old : State) (command : TheCommand) (reply : TheReply) (new : State) →
-        IsSafe old → FitsTypes command → Step old command reply new → IsRevoked command reply new }
+        IsSafe old → FitsTypes command → Step old command reply new → LeavesInUse command reply new }
 {
     derivations();
     changes();

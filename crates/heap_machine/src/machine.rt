@@ -1,10 +1,10 @@
 //! The machine that runs the commands of a trace.
 
 ghost use Rattle.std.specs.Prelude.{◌≡◌, ◌↔◌, ◌+◌, IfErr, IfOk, IsOk, OnErr, false, true};
-ghost use Rattle.heap_core.specs.Blocks.{bytes_of};
+ghost use Rattle.heap_core.specs.Blocks.{bytes_in};
 ghost use Rattle.tag_memory.specs.Span as span;
 ghost use Rattle.trace_text.specs.Command.{IsValid};
-ghost use Rattle.heap_machine.specs.Safety.{IsRevoked, IsSafe, IsUnused};
+ghost use Rattle.heap_machine.specs.Safety.{LeavesInUse, IsSafe, IsUnused};
 ghost use Rattle.heap_machine.specs.State.{first_state};
 ghost use Rattle.heap_machine.specs.Step.{Step, TakesNoMemory};
 
@@ -85,7 +85,7 @@ impl Machine {
         ensures ok { TakesNoMemory command → IsOk result }
         ensures safe { IsSafe self.new }
         ensures unused { IfOk result (λ reply. IsUnused self.old command reply) }
-        ensures revoked { IfOk result (λ reply. IsRevoked command reply self.new) }
+        ensures revoked { IfOk result (λ reply. LeavesInUse command reply self.new) }
     {
         // From a sound state each step leads to one.
         steps();
@@ -109,21 +109,21 @@ impl Machine {
 
     /// The bytes in live blocks.
     pub fn live_bytes(&self) -> u64
-        ensures { result ≡ bytes_of self.now.heap.live }
+        ensures { result ≡ bytes_in self.now.heap.live }
     {
         self.parts.heap.live_bytes()
     }
 
     /// The bytes in held blocks.
     pub fn held_bytes(&self) -> u64
-        ensures { result ≡ bytes_of self.now.heap.held }
+        ensures { result ≡ bytes_in self.now.heap.held }
     {
         self.parts.heap.held_bytes()
     }
 
     /// The bytes in no block.
     pub fn free_bytes(&self) -> u64
-        ensures { bytes_of self.now.heap.live + bytes_of self.now.heap.held + result
+        ensures { bytes_in self.now.heap.live + bytes_in self.now.heap.held + result
             ≡ self.now.heap.size }
     {
         self.parts.heap.free_bytes()

@@ -4,7 +4,7 @@ use Rattle.std.specs.Prelude.{All}
 use Rattle.std.proofs.lemmas.List.Elements.{All-head, All-tail}
 use Rattle.trace_text.specs.declared.trace.Command.{Command}
 use Rattle.heap_reply.specs.declared.reply.Reply.{Reply}
-use Rattle.heap_machine.specs.Safety.{FitsTypes, IsReuseSafe, IsRevoked, IsSafe, IsUnused}
+use Rattle.heap_machine.specs.Safety.{FitsTypes, IsReuseSafe, LeavesInUse, IsSafe, IsUnused}
 use Rattle.heap_machine.specs.State.{State}
 use Rattle.heap_machine.specs.Step.{Step}
 use Rattle.heap_trace.specs.Run.{IsSafeRun, Run}
@@ -13,7 +13,7 @@ use Rattle.heap_trace.specs.Run.{IsSafeRun, Run}
 pub record SafeSteps : Type 0 where
   pub safe : (old : State) (c : Command) (r : Reply) (new : State) → IsSafe old → FitsTypes c → Step old c r new → IsSafe new
   pub unused : (old : State) (c : Command) (r : Reply) (new : State) → IsSafe old → Step old c r new → IsUnused old c r
-  pub revoked : (old : State) (c : Command) (r : Reply) (new : State) → IsSafe old → FitsTypes c → Step old c r new → IsRevoked c r new
+  pub revoked : (old : State) (c : Command) (r : Reply) (new : State) → IsSafe old → FitsTypes c → Step old c r new → LeavesInUse c r new
 
 pub Run-safe : SafeSteps → (old : State) (cs : List Command) (rs : List Reply) (new : State) (run : Run old cs rs new) → IsSafe old → All FitsTypes cs
     → IsSafeRun old cs rs new run

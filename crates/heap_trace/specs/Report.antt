@@ -2,7 +2,7 @@
 use Rattle.std.specs.Prelude.{ℕ, ◌-◌, List, [], ◌∷◌, ◌++◌, codes}
 use Rattle.std.specs.Fmt.{decimal}
 use Rattle.std.specs.List.{concat}
-use Rattle.heap_core.specs.Blocks.{bytes_of}
+use Rattle.heap_core.specs.Blocks.{bytes_in}
 use Rattle.heap_core.specs.Heap.{HeapState}
 use Rattle.trace_text.specs.declared.trace.Command.{Command}
 use Rattle.trace_text.specs.declared.trace.Command.TheVariants.{Malloc, Free, Copy, SetAddr, Narrow, AndPerm, StoreCap, LoadCap, Write, Show, Sweep}
@@ -35,13 +35,13 @@ lines_text (c ∷ cs) [] = []
 
 -- The bytes in no block.
 abbrev pub free_of : HeapState → ℕ
-free_of h = h.size - bytes_of h.live - bytes_of h.held
+free_of h = h.size - bytes_in h.live - bytes_in h.held
 
 -- The last line: the bytes in live blocks, in held blocks and in neither, and the tags.
 abbrev pub end_text : State → List ℕ
 end_text s =
     concat (
-    codes "end live " ∷ decimal (bytes_of s.heap.live) ∷ codes " held " ∷ decimal (bytes_of s.heap.held)
+    codes "end live " ∷ decimal (bytes_in s.heap.live) ∷ codes " held " ∷ decimal (bytes_in s.heap.held)
     ∷ codes " free " ∷ decimal (free_of s.heap) ∷ codes " tags " ∷ decimal (tags_of s) ∷ codes "\n" ∷ []
     )
 

@@ -15,8 +15,8 @@ use mathlib.Core.Option.{none, some, some-ne-none}
 use lib.ListN.{get_elem?}
 use Rattle.mark_board.specs.declared.rule.Shape.{Shape}
 use Rattle.mark_board.specs.declared.rule.View.{View}
-use Rattle.mark_board.specs.Bits.{Apart, IsInside, Within, bit, gains, without}
-use Rattle.mark_board.specs.Board.{IsSound, words_for}
+use Rattle.mark_board.specs.Bits.{Apart, LiesOnBoard, Within, bit, gains, without}
+use Rattle.mark_board.specs.Board.{IsSeat, words_for}
 use Rattle.mark_board.specs.Identity.{BoardId}
 use Rattle.mark_board.specs.Laws.{bit-gains_other, bit-gains_same, bit-none, bit-united, bit-without, gains-keep, length-gains, same_bits}
 use Rattle.mark_board.specs.Rule.{IsHonest, IsLawful, IsLawfulState, Marks, Settles, both_parts, cut_part, first_view, kept_part, marked, seat_of, settled, spent, view}
@@ -155,7 +155,7 @@ module _ (ws : List ℕ) (i k : ℕ) (inside : i < length ws) (v : View) (mine_w
             });
       }
 
-pub marks : (shape : Shape) (slots id : ℕ) (z : BoardId) (me : Me (Unit {0}) View) (i k : ℕ) → i < words_for shape.bits → k < 2 ^ 64 → ((j : ℕ) → shape.bits ≤ 64 * i + j → bit_at k j ≡ 0) → IsSound (seat_of z me.0)
+pub marks : (shape : Shape) (slots id : ℕ) (z : BoardId) (me : Me (Unit {0}) View) (i k : ℕ) → i < words_for shape.bits → k < 2 ^ 64 → ((j : ℕ) → shape.bits ≤ 64 * i + j → bit_at k j ≡ 0) → IsSeat (seat_of z me.0)
     → Allows (IsLawfulState shape) slots id me i (λ n. bit_or n k) (Marks (step slots i k 0 none) me)
 marks shape slots id z me i k there fits mask sound s r _ at small =
     let v : View = me.0 in
@@ -276,8 +276,8 @@ settles shape slots id me some_part s r _ at _ =
     )
 
 -- The words at the end are what a seat with all parts has set first, and what it has seen.
-pub ends : (shape : Shape) (ws : List ℕ) (xs : List (Unit {0})) (id : ℕ) (z : BoardId) (v : View) → v.parts ≡ shape.parts → IsSound (seat_of z v) → Final (Seen (IsLawfulState shape) id v) ws xs
-    → (ws ≡ v.mine) × (ws ≡ v.seen) × IsInside shape.bits ws
+pub ends : (shape : Shape) (ws : List ℕ) (xs : List (Unit {0})) (id : ℕ) (z : BoardId) (v : View) → v.parts ≡ shape.parts → IsSeat (seat_of z v) → Final (Seen (IsLawfulState shape) id v) ws xs
+    → (ws ≡ v.mine) × (ws ≡ v.seen) × LiesOnBoard shape.bits ws
 ends shape ws xs id z v all sound last =
     let r = last.1.0 in
     let h = r.honest id v last.1.1 in
@@ -286,5 +286,5 @@ ends shape ws xs id z v all sound last =
     sym (r.first i j) ∙ all_here (λ u. bit u.mine i j) (λ u. u.parts) last.0.views id v (λ k u e no_part. (r.honest k u e).none no_part i j) last.1.1 (r.parts ∙ sym all) in (
       sym last.2 ∙ same_bits last.0.words v.mine (wide ∙ sym sound.mine_width) same,
       sym last.2 ∙ same_bits last.0.words v.seen (wide ∙ sym sound.seen_width) (λ i j. let a = same i j in let b = h.own i j in let c = h.set i j in omega arith),
-      subst (λ (words : List ℕ). IsInside shape.bits words) last.2 r.inside,
+      subst (λ (words : List ℕ). LiesOnBoard shape.bits words) last.2 r.inside,
     )

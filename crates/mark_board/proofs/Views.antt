@@ -9,8 +9,8 @@ use Rattle.std.specs.Prelude.{bit_or}
 use Rattle.atomic_table.specs.Table.{Me}
 use mathlib.Core.Logic.{dite}
 use Rattle.mark_board.specs.declared.rule.View.{View}
-use Rattle.mark_board.specs.Bits.{AreWords, IsInside, Within, bit, gains, united, without}
-use Rattle.mark_board.specs.Board.{IsSound, words_for}
+use Rattle.mark_board.specs.Bits.{AreWords, LiesOnBoard, Within, bit, gains, united, without}
+use Rattle.mark_board.specs.Board.{IsSeat, words_for}
 use Rattle.mark_board.specs.Identity.{BoardId}
 use Rattle.mark_board.specs.Laws.{bit-gains_other, bit-gains_same, bit-none, bit-united, bit-without, length-gains, length-united}
 use Rattle.mark_board.specs.Rule.{IsKept, both_parts, cut_part, kept_part, marked, seat_of, settled}
@@ -30,7 +30,7 @@ own-marked mine seen i k x in_mine in_seen fits word own w j = dite (ℕ_discret
     let a = own w j in
     omega arith)
 
-pub inside-gains : (bits : ℕ) (words : List ℕ) (i more : ℕ) → i < length words → ((j : ℕ) → bits ≤ 64 * i + j → bit_at more j ≡ 0) → IsInside bits words → IsInside bits (gains words i more)
+pub inside-gains : (bits : ℕ) (words : List ℕ) (i more : ℕ) → i < length words → ((j : ℕ) → bits ≤ 64 * i + j → bit_at more j ≡ 0) → LiesOnBoard bits words → LiesOnBoard bits (gains words i more)
 inside-gains bits words i more there none inside w j past = dite (ℕ_discrete w i)
     (λ here. subst (λ (z : ℕ). bit (gains words i more) z j ≡ 0) (sym here)
     (let q : bits ≤ 64 * i + j = omega arith in
@@ -48,7 +48,7 @@ own-united a b c d first second w j =
     let y = second w j in
     omega arith
 
-inside-united : (bits : ℕ) (a b : List ℕ) → IsInside bits a → IsInside bits b → IsInside bits (united a b)
+inside-united : (bits : ℕ) (a b : List ℕ) → LiesOnBoard bits a → LiesOnBoard bits b → LiesOnBoard bits (united a b)
 inside-united bits a b first second w j past =
     let m = bit-united a b w j in
     let x = first w j past in
@@ -93,7 +93,7 @@ none-within count words w j = let z = bit-none count w j in omega arith
 
 pub sound-marked : (z : BoardId) (v : View) (i k x : ℕ) → i < words_for v.shape.bits → k < 2 ^ 64 → x < 2 ^ 64
     → ((j : ℕ) → v.shape.bits ≤ 64 * i + j → bit_at x j ≡ 0) → ((j : ℕ) → v.shape.bits ≤ 64 * i + j → bit_at k j ≡ 0)
-    → IsSound (seat_of z v) → IsSound (seat_of z (marked v i k x))
+    → IsSeat (seat_of z v) → IsSeat (seat_of z (marked v i k x))
 sound-marked z v i k x there fits word found mask s = record {
   mine_width = length-gains v.mine i (without k x) ∙ s.mine_width;
   seen_width = length-gains v.seen i (bit_or x k) ∙ s.seen_width;
@@ -109,7 +109,7 @@ sound-marked z v i k x there fits word found mask s = record {
 kept-same : (parts : ℕ) (z z' : BoardId) (me me' : Me (Unit {0}) View) → IsKept parts z me → z' ≡ z → me' ≡ me → IsKept parts z' me'
 kept-same parts z z' me me' kept board is = subst (λ (m : Me (Unit {0}) View). IsKept parts z' m) (sym is) (subst (λ (b : BoardId). IsKept parts b me) (sym board) kept)
 
-pub sound-kept : (z : BoardId) (v : View) → 1 < v.parts → IsSound (seat_of z v) → IsSound (seat_of z (kept_part v))
+pub sound-kept : (z : BoardId) (v : View) → 1 < v.parts → IsSeat (seat_of z v) → IsSeat (seat_of z (kept_part v))
 sound-kept z v more s = record {
   mine_width = s.mine_width;
   seen_width = s.seen_width;
@@ -121,7 +121,7 @@ sound-kept z v more s = record {
   parts = let e = s.parts in omega arith;
 }
 
-pub sound-cut : (z : BoardId) (v : View) → IsSound (seat_of z v) → IsSound (seat_of z (cut_part v))
+pub sound-cut : (z : BoardId) (v : View) → IsSeat (seat_of z v) → IsSeat (seat_of z (cut_part v))
 sound-cut z v s = record {
   mine_width = length-replicate (length v.mine) 0 ∙ s.mine_width;
   seen_width = s.seen_width;
@@ -133,7 +133,7 @@ sound-cut z v s = record {
   parts = let e = s.some in let f = s.parts in omega arith;
 }
 
-pub sound-both : (z z' : BoardId) (v w : View) → w.shape.bits ≡ v.shape.bits → v.parts + w.parts ≤ v.shape.parts → IsSound (seat_of z v) → IsSound (seat_of z' w) → IsSound (seat_of z (both_parts v w))
+pub sound-both : (z z' : BoardId) (v w : View) → w.shape.bits ≡ v.shape.bits → v.parts + w.parts ≤ v.shape.parts → IsSeat (seat_of z v) → IsSeat (seat_of z' w) → IsSeat (seat_of z (both_parts v w))
 sound-both z z' v w same few s t =
     let wide = ap words_for same in
     record {
@@ -142,7 +142,7 @@ sound-both z z' v w same few s t =
       mine_words = words-united v.mine w.mine s.mine_words t.mine_words;
       seen_words = words-united v.seen w.seen s.seen_words t.seen_words;
       own = own-united v.mine w.mine v.seen w.seen s.own t.own;
-      inside = inside-united v.shape.bits v.seen w.seen s.inside (subst (λ (n : ℕ). IsInside n w.seen) same t.inside);
+      inside = inside-united v.shape.bits v.seen w.seen s.inside (subst (λ (n : ℕ). LiesOnBoard n w.seen) same t.inside);
       some = let e = s.some in omega arith;
       parts = few;
     }

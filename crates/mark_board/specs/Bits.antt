@@ -20,8 +20,8 @@ abbrev pub Apart : List ℕ → List ℕ → Type 0
 Apart first second = (w j : ℕ) → bit first w j + bit second w j ≤ 1
 
 -- No bit of the set stands at the place `bits` or past it.
-abbrev pub IsInside : ℕ → List ℕ → Type 0
-IsInside bits words = (w j : ℕ) → bits ≤ 64 * w + j → bit words w j ≡ 0
+abbrev pub LiesOnBoard : ℕ → List ℕ → Type 0
+LiesOnBoard bits words = (w j : ℕ) → bits ≤ 64 * w + j → bit words w j ≡ 0
 
 -- The set with these bits of word w, too.
 abbrev pub gains : List ℕ → ℕ → ℕ → List ℕ

@@ -1,12 +1,12 @@
 -- A board and its seats as callers see them (this project's own profile).
 use Rattle.std.specs.Prelude.{◌≡◌, ℕ, ◌+◌, ◌-◌, ◌*◌, ◌/◌, ◌^◌, ◌<◌, ◌≤◌, ◌&&◌, Bool, List, length, nat_le, replicate, true}
 use Rattle.std.specs.Int.{bit_at}
-use Rattle.mark_board.specs.Bits.{AreWords, IsInside, Within, bit}
+use Rattle.mark_board.specs.Bits.{AreWords, LiesOnBoard, Within, bit}
 use Rattle.mark_board.specs.Identity.{BoardId}
 
 -- A board may have so many bits.
-abbrev pub is_size : ℕ → Bool
-is_size bits = nat_le 1 bits && nat_le bits 262144
+abbrev pub is_board_size : ℕ → Bool
+is_board_size bits = nat_le 1 bits && nat_le bits 262144
 
 -- The seats of a board may have so many parts together.
 abbrev pub are_parts : ℕ → Bool
@@ -28,7 +28,7 @@ pub record SeatState : Type 0 where
 
 -- What holds of every board.
 abbrev pub IsBoard : BoardState → Type 0
-IsBoard board = (is_size board.bits ≡ true) × (are_parts board.parts ≡ true)
+IsBoard board = (is_board_size board.bits ≡ true) × (are_parts board.parts ≡ true)
 
 -- The words of 64 bits that so many bits take.
 abbrev pub words_for : ℕ → ℕ
@@ -60,12 +60,12 @@ HasAllSeen seat word found = (j : ℕ) → bit seat.seen word j ≤ bit_at found
 -- What holds of every seat: its sets have a word of 64 bits for each of the board's, it has seen what it
 -- set, all that it has seen stands before the board's end, and it has a part, even where it has set
 -- nothing, and no more parts than there are.
-pub record IsSound (seat : SeatState) : Type 0 where
+pub record IsSeat (seat : SeatState) : Type 0 where
   pub mine_width : length seat.mine ≡ word_count seat.board
   pub seen_width : length seat.seen ≡ word_count seat.board
   pub mine_words : AreWords seat.mine
   pub seen_words : AreWords seat.seen
   pub own : Within seat.mine seat.seen
-  pub inside : IsInside seat.board.bits seat.seen
+  pub inside : LiesOnBoard seat.board.bits seat.seen
   pub some : 0 < seat.parts
   pub parts : seat.parts ≤ seat.board.parts

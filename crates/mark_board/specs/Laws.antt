@@ -7,8 +7,8 @@ use Rattle.std.proofs.lemmas.Nat.Bits.{bit_at_above, bit_at_and, bit_at_not, bit
 use Rattle.std.specs.Int.{bit_at, bit_not, w64}
 use Rattle.std.specs.Prelude.{bit_or}
 use mathlib.Core.Logic.{dite}
-use Rattle.mark_board.specs.Bits.{IsInside, bit, gains, united, without}
-use Rattle.mark_board.specs.Board.{BoardState, IsMask, IsOf, IsSound, SeatState, word_count}
+use Rattle.mark_board.specs.Bits.{LiesOnBoard, bit, gains, united, without}
+use Rattle.mark_board.specs.Board.{BoardState, IsMask, IsOf, IsSeat, SeatState, word_count}
 
 -- The empty set has no bit.
 pub bit-none : (count w j : ℕ) → bit (replicate count 0) w j ≡ 0
@@ -77,9 +77,9 @@ same_bits (x ∷ xs) (y ∷ ys) width same =
     λ k. p k ∷ q k
 
 -- What is known of a seat of this board.
-pub seat-of_board : (board : BoardState) (seat : SeatState) → IsOf board seat → IsSound seat
-    → (length seat.mine ≡ word_count board) × (length seat.seen ≡ word_count board) × (seat.parts ≤ board.parts) × IsInside board.bits seat.seen
-seat-of_board board seat is s = subst (λ (b : BoardState). (length seat.mine ≡ word_count b) × (length seat.seen ≡ word_count b) × (seat.parts ≤ b.parts) × IsInside b.bits seat.seen) is
+pub seat-of_board : (board : BoardState) (seat : SeatState) → IsOf board seat → IsSeat seat
+    → (length seat.mine ≡ word_count board) × (length seat.seen ≡ word_count board) × (seat.parts ≤ board.parts) × LiesOnBoard board.bits seat.seen
+seat-of_board board seat is s = subst (λ (b : BoardState). (length seat.mine ≡ word_count b) × (length seat.seen ≡ word_count b) × (seat.parts ≤ b.parts) × LiesOnBoard b.bits seat.seen) is
     (s.mine_width, s.seen_width, s.parts, s.inside)
 
 -- A mask of a board has no bit at or past the board's end.

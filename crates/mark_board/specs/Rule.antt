@@ -5,8 +5,8 @@ use Rattle.std.specs.Int.{bit_at}
 use Rattle.atomic_table.specs.Table.{Me, State, Step}
 use mathlib.Core.Option.{some}
 use lib.ListN.{get_elem?}
-use Rattle.mark_board.specs.Bits.{Apart, AreWords, IsInside, Within, bit, gains, united, without}
-use Rattle.mark_board.specs.Board.{IsSound, SeatState, words_for}
+use Rattle.mark_board.specs.Bits.{Apart, AreWords, LiesOnBoard, Within, bit, gains, united, without}
+use Rattle.mark_board.specs.Board.{IsSeat, SeatState, words_for}
 use Rattle.mark_board.specs.Identity.{BoardId}
 use Rattle.mark_board.specs.declared.rule.Shape.{Shape}
 use Rattle.mark_board.specs.declared.rule.View.{View}
@@ -29,7 +29,7 @@ seat_of id v = record { board = record { identity = id; bits = v.shape.bits; par
 
 -- What a seat keeps: its number of parts is its view's, it holds no slot, and what it knows is sound.
 abbrev pub IsKept : ℕ → BoardId → Me (Unit {0}) View → Type 0
-IsKept parts id me = (parts ≡ me.0.parts) × (me.1 ≡ []) × IsSound (seat_of id me.0)
+IsKept parts id me = (parts ≡ me.0.parts) × (me.1 ≡ []) × IsSeat (seat_of id me.0)
 
 -- Both of a seat's sets are of words, what it set first it has seen, what it has seen is set, without a
 -- part it has set nothing first, with one it knows the board's shape, and the two that it was joined from
@@ -48,7 +48,7 @@ pub record IsHonest (shape : Shape) (words : List ℕ) (v : View) : Type 0 where
 pub record IsLawful (shape : Shape) (words : List ℕ) (views : List View) : Type 0 where
   pub width : length words ≡ words_for shape.bits
   pub are_words : AreWords words
-  pub inside : IsInside shape.bits words
+  pub inside : LiesOnBoard shape.bits words
   pub parts : sum_by (λ v. v.parts) views ≡ shape.parts
   pub first : (w j : ℕ) → sum_by (λ v. bit v.mine w j) views ≡ bit words w j
   pub honest : (id : ℕ) (v : View) → get_elem? views id ≡ some v → IsHonest shape words v

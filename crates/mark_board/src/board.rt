@@ -3,9 +3,9 @@
 ghost use Rattle.std.specs.Prelude.{◌≡◌, ◌↔◌, ◌+◌, ◌<◌, ◌≤◌, ◌^◌, ℕ, IfOk, IsOkUnless, bit_or, false, length, true};
 ghost use Rattle.std.specs.Int.{bit_at};
 ghost use Rattle.std.specs.Slots.{IsFull, slots_items, slots_len};
-ghost use Rattle.mark_board.specs.Bits.{Apart, IsInside, bit, gains, united, without};
+ghost use Rattle.mark_board.specs.Bits.{Apart, LiesOnBoard, bit, gains, united, without};
 ghost use Rattle.mark_board.specs.Board as spec;
-ghost use Rattle.mark_board.specs.Board.{HasAllSeen, IsBoard, IsMask, IsOf, IsSound, are_parts, first_seat, is_size, no_bits, word_count};
+ghost use Rattle.mark_board.specs.Board.{HasAllSeen, IsBoard, IsMask, IsOf, IsSeat, are_parts, first_seat, is_board_size, no_bits, word_count};
 
 use crate::fault::BoardFault;
 use crate::rule::{Both, Cut, Marks, Settles, Shape, View};
@@ -30,7 +30,7 @@ pub struct Board {
 
 impl Model for Board {
     ghost use Rattle.std.specs.Prelude.{◌≡◌, true};
-    ghost use Rattle.mark_board.specs.Board.{BoardState, are_parts, is_size, words_for};
+    ghost use Rattle.mark_board.specs.Board.{BoardState, are_parts, is_board_size, words_for};
     ghost use Rattle.mark_board.specs.Codes.{board_code};
     ghost use Rattle.mark_board.specs.Identity.{board_id};
 
@@ -40,21 +40,21 @@ impl Model for Board {
 
     ghost view = { λ b. record { identity = board_id b.table.shared.table_id; bits = b.table.shared.key.bits; parts = b.table.shared.key.parts } };
 
-    ghost invariant = { λ b. (b.bits ≡ b.table.shared.key.bits) × (b.table.shared.table_id.words ≡ words_for b.bits) × (b.table.shared.table_id.slots ≡ 0) × (is_size b.bits ≡ true) × (are_parts b.table.shared.key.parts ≡ true) };
+    ghost invariant = { λ b. (b.bits ≡ b.table.shared.key.bits) × (b.table.shared.table_id.words ≡ words_for b.bits) × (b.table.shared.table_id.slots ≡ 0) × (is_board_size b.bits ≡ true) × (are_parts b.table.shared.key.parts ≡ true) };
 }
 
 impl Board {
     /// A board of `bits` bits, none of them set, and the seat that has all `parts` parts. It errs with
     /// `BadSize` first, then `BadParts`, and `Memory` last.
     pub fn new(alloc: Global, bits: u32, parts: u32) -> Result<(Board, MarkSeat), BoardFault>
-        ensures bad_size { (result ≡ Err BoardFault.BadSize) ↔ (is_size bits ≡ false) }
+        ensures bad_size { (result ≡ Err BoardFault.BadSize) ↔ (is_board_size bits ≡ false) }
         ensures bad_parts { (result ≡ Err BoardFault.BadParts)
-            ↔ ((is_size bits ≡ true) × (are_parts parts ≡ false)) }
-        ensures memory { is_size bits ≡ true → are_parts parts ≡ true
+            ↔ ((is_board_size bits ≡ true) × (are_parts parts ≡ false)) }
+        ensures memory { is_board_size bits ≡ true → are_parts parts ≡ true
             → IsOkUnless result BoardFault.Memory }
         ensures board { IfOk result (λ made. (made.0.bits ≡ bits) × (made.0.parts ≡ parts)) }
         ensures seat { IfOk result (λ made. made.1 ≡ first_seat made.0) }
-        ensures sound { IfOk result (λ made. IsSound made.1) }
+        ensures sound { IfOk result (λ made. IsSeat made.1) }
     {
         if !(1..=MOST_BITS).contains(&bits) {
             return Err(BoardFault::BadSize);
@@ -97,7 +97,7 @@ impl Board {
             × (result ≡ without mask found)
             × (seat.new.seen ≡ gains seat.old.seen word (bit_or found mask)) }
         ensures mine { seat.new.mine ≡ gains seat.old.mine word result }
-        ensures sound { IsSound seat.new }
+        ensures sound { IsSeat seat.new }
     {
         let found = self
             .table
@@ -115,7 +115,7 @@ impl Board {
         ensures all_seen { HasAllSeen seat.old word result }
         ensures mine { seat.new.mine ≡ seat.old.mine }
         ensures seen { seat.new.seen ≡ gains seat.old.seen word result }
-        ensures sound { IsSound seat.new }
+        ensures sound { IsSeat seat.new }
     {
         self.table.shared.fetch_or::<Marks>(&mut seat.seat, word, 0)
     }
@@ -129,7 +129,7 @@ impl Board {
         ensures parts { (result.0.parts + 1 ≡ seat.parts) × (result.1.parts ≡ 1) }
         ensures mine { (result.0.mine ≡ seat.mine) × (result.1.mine ≡ no_bits self.now) }
         ensures seen { (result.0.seen ≡ seat.seen) × (result.1.seen ≡ seat.seen) }
-        ensures sound { IsSound result.0 × IsSound result.1 }
+        ensures sound { IsSeat result.0 × IsSeat result.1 }
     {
         let MarkSeat { mut seat, parts } = seat;
         let other = self.table.shared.split_seat::<Cut>(&mut seat);
@@ -152,7 +152,7 @@ impl Board {
         ensures apart { Apart a.mine b.mine }
         ensures mine { result.mine ≡ united a.mine b.mine }
         ensures seen { result.seen ≡ united a.seen b.seen }
-        ensures sound { IsSound result }
+        ensures sound { IsSeat result }
     {
         let MarkSeat { mut seat, parts } = a;
         let MarkSeat {
@@ -176,7 +176,7 @@ impl Board {
         ensures memory { IsOkUnless result BoardFault.Memory }
         ensures mine { IfOk result (λ words. words.items ≡ seat.mine) }
         ensures seen { IfOk result (λ words. words.items ≡ seat.seen) }
-        ensures inside { IfOk result (λ words. IsInside self.bits words.items) }
+        ensures inside { IfOk result (λ words. LiesOnBoard self.bits words.items) }
     {
         let row = vec![in alloc; 0; self.words()]?;
         let Board { table, bits: _ } = self;

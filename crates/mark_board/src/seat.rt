@@ -1,7 +1,7 @@
 //! What a thread touches a board with.
 
 ghost use Rattle.std.specs.Prelude.{◌≡◌};
-ghost use Rattle.mark_board.specs.Board.{IsSound};
+ghost use Rattle.mark_board.specs.Board.{IsSeat};
 
 use crate::rule::View;
 use atomic_table::Seat;
@@ -34,7 +34,7 @@ impl MarkSeat {
     /// The share of the board's parts.
     pub fn parts(&self) -> u32
         ensures value { result ≡ self.now.parts }
-        ensures sound { IsSound self.now }
+        ensures sound { IsSeat self.now }
     {
         self.parts
     }

@@ -28,8 +28,8 @@ abbrev pub swept_granule : List Span → Granule → Granule
 swept_granule held granule = (granule.0, granule.1 && not (is_revoked held (cell_of granule).0))
 
 -- All registers, and all granules, after the sweep.
-abbrev pub swept_registers : List Span → List Cell → List Cell
-swept_registers held registers = map (swept_cell held) registers
+abbrev pub swept_cells : List Span → List Cell → List Cell
+swept_cells held registers = map (swept_cell held) registers
 
 abbrev pub swept_granules : List Span → List Granule → List Granule
 swept_granules held granules = map (swept_granule held) granules

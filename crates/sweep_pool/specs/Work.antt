@@ -1,6 +1,6 @@
 -- What a worker is given, and what it gives back.
 use Rattle.std.specs.Prelude.{◌≡◌, ◌≤◌, Bool, IfErr, IfOk, List}
-use Rattle.mark_board.specs.Board.{BoardState, IsOf, IsSound, no_bits}
+use Rattle.mark_board.specs.Board.{BoardState, IsOf, IsSeat, no_bits}
 use Rattle.sweep_pool.specs.Claims.{IsDone}
 use Rattle.sweep_pool.specs.Tasks.{Cut}
 use Rattle.sweep_pool.specs.declared.workers.Job.{Job}
@@ -14,7 +14,7 @@ pub record IsJob (board : BoardState) (job : Job) : Type 0 where
   pub part : job.seat.parts ≡ 1
   pub none : job.seat.mine ≡ no_bits board
   pub start : job.start ≤ board.bits
-  pub sound : IsSound job.seat
+  pub sound : IsSeat job.seat
 
 -- The seat, and the tasks that it claimed, swept, where no memory was refused.
 pub record IsWork (m : MemoryState) (shadow : List Bool) (c : Cut) (board : BoardState) (work : Work) : Type 0 where

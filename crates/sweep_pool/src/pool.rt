@@ -1,7 +1,7 @@
 //! A sweep of a whole memory, by several threads.
 
 ghost use Rattle.heap_core.specs.Heap.{HeapState};
-ghost use Rattle.mark_board.specs.Board.{IsOf, IsSound, first_seat};
+ghost use Rattle.mark_board.specs.Board.{IsOf, IsSeat, first_seat};
 ghost use Rattle.std.specs.Prelude.{◌≡◌, ◌<◌, ◌≤◌, IfErr, IfOk};
 ghost use Rattle.sweep_pool.specs.Claims.{AreAllSwept, HasTasks, IsDone};
 ghost use Rattle.sweep_pool.specs.Sweep.{AreMasks, IsShadowOf, TakeTags};
@@ -106,7 +106,7 @@ fn board_for(
     requires most { workers ≤ 64 }
     ensures board { IfOk result (λ made. HasTasks cutting.now memory.now made.0 × (made.0.parts ≡ workers)) }
     ensures seat { IfOk result (λ made. made.1 ≡ first_seat made.0) }
-    ensures sound { IfOk result (λ made. IsSound made.1) }
+    ensures sound { IfOk result (λ made. IsSeat made.1) }
     ensures err { IfErr result (λ fault. fault ≡ SweepFault.Memory) }
 {
     match Board::new(alloc, tasks_of(memory, cutting), workers) {

@@ -1,6 +1,6 @@
 //! The workers of a sweep: what each does, and what they come to together.
 
-ghost use Rattle.mark_board.specs.Board.{IsOf, IsSound, no_bits};
+ghost use Rattle.mark_board.specs.Board.{IsOf, IsSeat, no_bits};
 ghost use Rattle.std.specs.Prelude.{◌≡◌, ◌<◌, ◌≤◌, ◌+◌, All, IfErr, IfOk, OnOk, vec_len};
 ghost use Rattle.sweep_pool.specs.Claims.{Accounts, HasRun, HasTasks, IsDone};
 ghost use Rattle.sweep_pool.specs.Gather.{IsSwept};
@@ -62,13 +62,13 @@ fn sweep_from<G: Gate>(
     requires from { from ≤ shared.now.board.now.bits }
     requires swept { All (IsSwept shared.now.memory.now shared.now.shadow.now shared.now.cutting.now) found.old.items }
     requires accounts { Accounts seat.old.mine found.old.items }
-    requires sound { IsSound seat.old }
+    requires sound { IsSeat seat.old }
     ensures board { IsOf shared.now.board.now seat.new }
     ensures parts { seat.new.parts ≡ seat.old.parts }
     ensures swept { OnOk result (All (IsSwept shared.now.memory.now shared.now.shadow.now shared.now.cutting.now) found.new.items) }
     ensures accounts { OnOk result (Accounts seat.new.mine found.new.items) }
     ensures tried { OnOk result (HasRun seat.new.seen from shared.now.board.now.bits) }
-    ensures sound { IsSound seat.new }
+    ensures sound { IsSeat seat.new }
     ensures err { IfErr result (λ fault. fault ≡ SweepFault.Memory) }
 {
     let tasks = shared.board.bits();
@@ -106,7 +106,7 @@ fn sweep_both<G: Gate>(
     requires tasks { HasTasks shared.now.cutting.now shared.now.memory.now shared.now.board.now }
     requires start { start ≤ shared.now.board.now.bits }
     requires none { seat.old.mine ≡ no_bits shared.now.board.now }
-    requires sound { IsSound seat.old }
+    requires sound { IsSeat seat.old }
     ensures board { IsOf shared.now.board.now seat.new }
     ensures parts { seat.new.parts ≡ seat.old.parts }
     ensures found { IfOk result (λ found.
@@ -154,7 +154,7 @@ pub(crate) fn deal(
     requires some { 0 < workers }
     requires most { workers ≤ 64 }
     requires none { seat.mine ≡ no_bits board.now }
-    requires sound { IsSound seat }
+    requires sound { IsSeat seat }
     ensures count { IfOk result (λ jobs. vec_len jobs ≡ workers) }
     ensures jobs { IfOk result (λ jobs. All (IsJob board.now) jobs.items) }
     ensures err { IfErr result (λ fault. fault ≡ SweepFault.Memory) }

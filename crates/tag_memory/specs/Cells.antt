@@ -54,8 +54,8 @@ abbrev pub new_registers : List Cell
 new_registers = replicate 32 null_cell
 
 -- What register r reads as. Register 0 is always null.
-abbrev pub register_in : List Cell → ℕ → Cell
-register_in cells r = if r == 0 then null_cell else slice_index_or cells r null_cell
+abbrev pub register_at : List Cell → ℕ → Cell
+register_at cells r = if r == 0 then null_cell else slice_index_or cells r null_cell
 
 -- The registers after a write. One to register 0 changes nothing.
 abbrev pub with_register : List Cell → ℕ → Cell → List Cell

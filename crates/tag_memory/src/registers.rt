@@ -1,7 +1,7 @@
 //! The registers of a machine.
 
 ghost use Rattle.std.specs.Prelude.{◌≡◌, ◌<◌, ◌&&◌, ℕ, count_by, drop, false, length, not, slice_index_or};
-ghost use Rattle.tag_memory.specs.Cells.{AreRegisters, new_registers, null_cell, register_in, with_register};
+ghost use Rattle.tag_memory.specs.Cells.{AreRegisters, new_registers, null_cell, register_at, with_register};
 ghost use Rattle.tag_memory.specs.Tags.{is_set};
 
 use crate::bits::bit;
@@ -49,7 +49,7 @@ impl Registers {
     /// A register's word and tag.
     pub fn get(&self, r: u8) -> (Word, bool)
         requires { r < 32 }
-        ensures value { result ≡ register_in self.now r }
+        ensures value { result ≡ register_at self.now r }
     {
         self.cells[usize::from(r)]
     }
@@ -68,7 +68,7 @@ impl Registers {
     /// Takes a register's tag and keeps its bits.
     pub fn clear(&mut self, r: u8)
         requires { r < 32 }
-        ensures { self.new ≡ with_register self.old r ((register_in self.old r).0, false) }
+        ensures { self.new ≡ with_register self.old r ((register_at self.old r).0, false) }
     {
         let (word, _) = self.get(r);
         self.set(r, word, false);

@@ -7,7 +7,7 @@ use Rattle.trace_text.specs.declared.trace.Command.{Command}
 use Rattle.trace_text.specs.declared.trace.Command.TheVariants.{Malloc, Free, Copy, SetAddr, Narrow, AndPerm, StoreCap, LoadCap, Write, Show, Sweep}
 use Rattle.trace_text.specs.declared.fault.LineFault.{LineFault}
 use Rattle.trace_text.specs.declared.fault.LineFault.TheVariants as line_fault
-use Rattle.trace_text.specs.Grammar.{FirstLacks, Form, Register, Number, Mask, Data, HasFault, HasForm, HaveForms, IsCommand, IsData, IsMask, IsNumber, IsRegister, fault_of, forms_of}
+use Rattle.trace_text.specs.Grammar.{FirstLacks, Form, Register, Number, Mask, Data, HasFault, HasForm, HaveForms, IsCommand, IsData, IsMask, IsNumber, IsRegister, form_fault, forms_of}
 use Rattle.trace_text.specs.Reading.{◌>>=◌, below, command_of, data_from, data_in, mask_in, none_of, number_in, number_of, one_of, register_in, register_of, three_of, two_of}
 use Rattle.trace_text.proofs.Operands.{IsMask-read, IsNumber-read, IsRegister-read, below-IsMask, number_of-IsNumber, register_of-IsRegister, same_bytes}
 
@@ -15,7 +15,7 @@ use Rattle.trace_text.proofs.Operands.{IsMask-read, IsNumber-read, IsRegister-re
 
 -- what is read of a word that has to have this form
 abbrev Reads : {A : Type 0} → Form → List ℕ → Result A LineFault → Type 0
-Reads form word read = MatchResult read (λ _. HasForm form word) (λ fault. (fault_of form ≡ fault) × ¬ HasForm form word)
+Reads form word read = MatchResult read (λ _. HasForm form word) (λ fault. (form_fault form ≡ fault) × ¬ HasForm form word)
 
 reads_register : (word : List ℕ) → Reads Register word (register_in word)
 reads_register word = go (register_of word) refl where
@@ -109,12 +109,12 @@ length-HaveForms (form ∷ forms) (word ∷ words) have = ap suc (length-HaveFor
 abbrev WordsFault : List Form → List (List ℕ) → LineFault → Type 0
 WordsFault forms words fault =
     ((length words ≢ length forms) × (line_fault.BadCount ≡ fault))
-    ⊎ ((form : Form) × (length words ≡ length forms) × FirstLacks forms words form × (fault_of form ≡ fault))
+    ⊎ ((form : Form) × (length words ≡ length forms) × FirstLacks forms words form × (form_fault form ≡ fault))
 
 HasFault-words : (name : List ℕ) (forms : List Form) (words : List (List ℕ)) (fault : LineFault) → forms_of name ≡ Some forms → WordsFault forms words fault → HasFault (name ∷ words) fault
 HasFault-words name forms words fault is (inl h) = subst (HasFault (name ∷ words)) h.1 (forms, is, h.0)
 HasFault-words name forms words fault is (inr h) = subst (HasFault (name ∷ words)) h.3 (go h.0 h.2) where
-  go : (form : Form) → FirstLacks forms words form → HasFault (name ∷ words) (fault_of form)
+  go : (form : Form) → FirstLacks forms words form → HasFault (name ∷ words) (form_fault form)
   go Register lacks = (forms, Register, is, h.1, lacks, refl)
   go Number lacks = (forms, Number, is, h.1, lacks, refl)
   go Mask lacks = (forms, Mask, is, h.1, lacks, refl)
@@ -137,7 +137,7 @@ one_words_fault forms words f g (inl a) (inl b) = sym a.1 ∙ b.1
 one_words_fault forms words f g (inl a) (inr b) = absurd (a.0 b.1)
 one_words_fault forms words f g (inr a) (inl b) = absurd (b.0 a.1)
 one_words_fault forms words f g (inr a) (inr b) =
-    sym a.3 ∙ ap fault_of (one_lacks forms words a.0 b.0 (Lacks-from forms words a.0 a.2) (Lacks-from forms words b.0 b.2)) ∙ b.3
+    sym a.3 ∙ ap form_fault (one_lacks forms words a.0 b.0 (Lacks-from forms words a.0 a.2) (Lacks-from forms words b.0 b.2)) ∙ b.3
 
 one_fault : (name : List ℕ) (words : List (List ℕ)) (f g : LineFault) → HasFault (name ∷ words) f → HasFault (name ∷ words) g → f ≡ g
 one_fault name words f g a b = go (Faults-from name words f a) (Faults-from name words g b) where
@@ -237,7 +237,7 @@ three_read {A} {B} {C} name form1 form2 form3 read1 read2 read3 is reads1 reads2
 three_read {A} {B} {C} name form1 form2 form3 read1 read2 read3 is reads1 reads2 reads3 build built (a ∷ b ∷ []) = HasFault-words name (form1 ∷ form2 ∷ form3 ∷ []) (a ∷ b ∷ []) line_fault.BadCount is (inl (λ e. omega arith, refl))
 three_read {A} {B} {C} name form1 form2 form3 read1 read2 read3 is reads1 reads2 reads3 build built (a ∷ b ∷ c ∷ []) =
     go (read1 a) (read2 b) (read3 c) refl refl refl (reads1 a) (reads2 b) (reads3 c) where
-      lacks_one : (fault : LineFault) (form : Form) → (fault_of form ≡ fault) → Lacks (form1 ∷ form2 ∷ form3 ∷ []) (a ∷ b ∷ c ∷ []) form → HasFault (name ∷ a ∷ b ∷ c ∷ []) fault
+      lacks_one : (fault : LineFault) (form : Form) → (form_fault form ≡ fault) → Lacks (form1 ∷ form2 ∷ form3 ∷ []) (a ∷ b ∷ c ∷ []) form → HasFault (name ∷ a ∷ b ∷ c ∷ []) fault
       lacks_one fault form e lacks = HasFault-words name (form1 ∷ form2 ∷ form3 ∷ []) (a ∷ b ∷ c ∷ []) fault is (inr (form, refl, FirstLacks-from _ _ form lacks, e))
 
       go : (r : Result A LineFault) (s : Result B LineFault) (t : Result C LineFault) → read1 a ≡ r → read2 b ≡ s → read3 c ≡ t

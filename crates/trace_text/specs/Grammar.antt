@@ -83,11 +83,11 @@ HasForm Data word = (bytes : List ℕ) × IsData word bytes
 HasForm Mask word = (mask : ℕ) × IsMask word mask
 
 -- what is wrong with a word that lacks its form
-abbrev pub fault_of : Form → LineFault
-fault_of Register = line_fault.BadRegister
-fault_of Number = line_fault.BadNumber
-fault_of Mask = line_fault.BadNumber
-fault_of Data = line_fault.BadData
+abbrev pub form_fault : Form → LineFault
+form_fault Register = line_fault.BadRegister
+form_fault Number = line_fault.BadNumber
+form_fault Mask = line_fault.BadNumber
+form_fault Data = line_fault.BadData
 
 -- the table of commands: each name, and the forms of the words after it
 abbrev pub forms_of : List ℕ → Option (List Form)
@@ -132,7 +132,7 @@ HasFault (name ∷ words) line_fault.BadCount =
     (forms : List Form) × (forms_of name ≡ Some forms) × (length words ≢ length forms)
 HasFault (name ∷ words) fault =
     (forms : List Form) × (form : Form) × (forms_of name ≡ Some forms) × (length words ≡ length forms)
-    × FirstLacks forms words form × (fault_of form ≡ fault)
+    × FirstLacks forms words form × (form_fault form ≡ fault)
 
 -- ---- the heap line
 

@@ -1,7 +1,7 @@
 //! What a process is asked, by whatever name it was started.
 
+use crate::asked::{Asked, Refusal, asked_by};
 use crate::process::arguments;
-use crate::words::{Asked, Refusal, asked_by};
 use std::alloc::Global;
 use std::env::FillError;
 use std::rt::Env;

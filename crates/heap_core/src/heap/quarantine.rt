@@ -1,7 +1,7 @@
 //! Blocks that are given up, and wait until their bytes may be used again.
 
 ghost use Rattle.std.specs.Prelude.{◌≡◌, IfErr, IfOk, IsOk, true};
-ghost use Rattle.heap_core.specs.Blocks.{bytes_of};
+ghost use Rattle.heap_core.specs.Blocks.{bytes_in};
 ghost use Rattle.heap_core.specs.Heap.{IsSound};
 ghost use Rattle.heap_core.specs.Quarantine.{IsShadow, freed_of, with_held, without_held};
 
@@ -62,7 +62,7 @@ impl Heap {
 
     /// Makes the held blocks free, and answers their bytes.
     pub fn give_back(&mut self) -> u64
-        ensures bytes { result ≡ bytes_of self.old.held }
+        ensures bytes { result ≡ bytes_in self.old.held }
         ensures free { self.new ≡ without_held self.old }
         ensures sound { IsSound self.new }
     {

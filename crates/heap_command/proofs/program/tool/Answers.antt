@@ -2,7 +2,7 @@ use Rattle.std.proofs.Common.{ap, rules, Err}
 use Rattle.command_line.specs.Words.{NamesRun, NamesWord, texts}
 use Rattle.command_line.specs.Laws.{NamesRun-limits}
 use Rattle.heap_command.specs.Answer.{IsAnswer, lacks_memory, refusal_line, refusal_status, status_of, text_of}
-use Rattle.heap_command.proofs.AnswerLaws.{Answers-told, BeginsAnswer-told, BeginsAnswer-unwritten, IsAnswer-refusal, IsAnswer-run, IsAnswer-word}
+use Rattle.heap_command.proofs.AnswerLaws.{HasAnswered-told, BeginsAnswer-told, BeginsAnswer-unwritten, IsAnswer-refusal, IsAnswer-run, IsAnswer-word}
 use Rattle.heap_command.proofs.program.tool.Given.{Over}
 use Rattle.heap_command.proofs.program.tool.Goals as goal
 
@@ -14,7 +14,7 @@ word_is g c =
     IsAnswer-word (texts c.args.words.now) _ _ c.in-Ok-Word.hex.now c.word_answer.result named c.word_answer.ensures.status c.word_answer.ensures.ok c.word_answer.ensures.refused
 
 pub returns-in-Ok-Word-clause-whole : goal.returns-in-Ok-Word-clause-whole
-returns-in-Ok-Word-clause-whole g c = λ e. Answers-told _ _ _ _ _ _ _ _ (word_is g c) (c.tell.ensures.whole e)
+returns-in-Ok-Word-clause-whole g c = λ e. HasAnswered-told _ _ _ _ _ _ _ _ (word_is g c) (c.tell.ensures.whole e)
 
 pub returns-in-Ok-Word-clause-part : goal.returns-in-Ok-Word-clause-part
 returns-in-Ok-Word-clause-part g c = λ e. BeginsAnswer-told _ _ _ _ _ _ _ (word_is g c) (c.tell.ensures.part e)
@@ -30,7 +30,7 @@ run_is g c =
     IsAnswer-run (texts c.args.words.now) _ _ c.in-Ok.text.items c.in-Ok-Run.options c.run_answer.result named c.in-Ok.ensures.ok (search rules) c.run_answer.ensures.err
 
 pub returns-in-Ok-clause-whole : goal.returns-in-Ok-clause-whole
-returns-in-Ok-clause-whole g c = λ e. Answers-told _ _ _ _ _ _ _ _ (run_is g c) (c.tell-in-Ok.ensures.whole e)
+returns-in-Ok-clause-whole g c = λ e. HasAnswered-told _ _ _ _ _ _ _ _ (run_is g c) (c.tell-in-Ok.ensures.whole e)
 
 pub returns-in-Ok-clause-part : goal.returns-in-Ok-clause-part
 returns-in-Ok-clause-part g c = λ e. BeginsAnswer-told _ _ _ _ _ _ _ (run_is g c) (c.tell-in-Ok.ensures.part e)
@@ -38,7 +38,7 @@ returns-in-Ok-clause-part g c = λ e. BeginsAnswer-told _ _ _ _ _ _ _ (run_is g 
 -- ---- a text that wasn't read
 
 pub returns-in-Err-Memory-clause-whole : goal.returns-in-Err-Memory-clause-whole
-returns-in-Err-Memory-clause-whole g c = λ e. Answers-told _ _ _ _ _ _ _ _ lacks_memory (c.refuse.ensures.whole e)
+returns-in-Err-Memory-clause-whole g c = λ e. HasAnswered-told _ _ _ _ _ _ _ _ lacks_memory (c.refuse.ensures.whole e)
 
 pub returns-in-Err-Memory-clause-part : goal.returns-in-Err-Memory-clause-part
 returns-in-Err-Memory-clause-part g c = λ e. BeginsAnswer-told _ _ _ _ _ _ _ lacks_memory (c.refuse.ensures.part e)
@@ -52,7 +52,7 @@ refused : (g : Over) (c : goal.After-refuse-in-Err g) → IsAnswer (texts c.args
 refused g c = IsAnswer-refusal (texts c.args.words.now) _ _ c.in-Err.refusal (λ e. c.in-Err.ensures.refused (ap Err e))
 
 pub returns-in-Err-clause-whole : goal.returns-in-Err-clause-whole
-returns-in-Err-clause-whole g c = λ e. Answers-told _ _ _ _ _ _ _ _ (refused g c) (c.refuse-in-Err.ensures.whole e)
+returns-in-Err-clause-whole g c = λ e. HasAnswered-told _ _ _ _ _ _ _ _ (refused g c) (c.refuse-in-Err.ensures.whole e)
 
 pub returns-in-Err-clause-part : goal.returns-in-Err-clause-part
 returns-in-Err-clause-part g c = λ e. BeginsAnswer-told _ _ _ _ _ _ _ (refused g c) (c.refuse-in-Err.ensures.part e)

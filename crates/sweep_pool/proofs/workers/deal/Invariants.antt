@@ -1,6 +1,6 @@
 use Rattle.std.proofs.Common.{◌≡◌, ◌+◌, All}
 use Rattle.std.specs.Vec.{vec_len}
-use Rattle.mark_board.specs.Board.{IsOf, IsSound, no_bits}
+use Rattle.mark_board.specs.Board.{IsOf, IsSeat, no_bits}
 use Rattle.sweep_pool.specs.Work.{IsJob}
 use Rattle.sweep_pool.proofs.workers.deal.Given as goal
 
@@ -10,6 +10,6 @@ invariant-loop-worker l = record {
   parts : l.rest.parts + l.worker ≡ l.workers + 1;
   count : vec_len l.jobs + 1 ≡ l.worker;
   none : l.rest.mine ≡ no_bits l.board;
-  sound : IsSound l.rest;
+  sound : IsSeat l.rest;
   jobs : All (IsJob l.board) l.jobs.items;
 }

@@ -1,5 +1,5 @@
 use Rattle.std.proofs.Common.{◌≡◌, ◌≤◌, ◌-◌, All}
-use Rattle.mark_board.specs.Board.{IsOf, IsSound}
+use Rattle.mark_board.specs.Board.{IsOf, IsSeat}
 use Rattle.sweep_pool.specs.Claims.{Accounts, HasRun}
 use Rattle.sweep_pool.specs.Gather.{IsSwept}
 use Rattle.sweep_pool.proofs.workers.sweep_from.Given as goal
@@ -13,7 +13,7 @@ invariant-loop-next g l = record {
   swept : All (IsSwept l.shared.memory.now l.shared.shadow.now l.shared.cutting.now) l.found.items;
   accounts : Accounts l.seat.mine l.found.items;
   tried : HasRun l.seat.seen l.from l.next;
-  sound : IsSound l.seat;
+  sound : IsSeat l.seat;
 }
 
 abbrev pub decreases-loop-next : goal.decreases-loop-next

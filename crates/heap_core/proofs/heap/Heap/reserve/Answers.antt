@@ -3,12 +3,12 @@ use Rattle.cap_codec.specs.Rounding.{IsExact, length_for, unit_for}
 use Rattle.heap_core.specs.Blocks.{Span}
 use Rattle.heap_core.specs.Heap.{IsSound}
 use Rattle.heap_core.specs.Table.{blocks_of, is_live}
-use Rattle.heap_core.proofs.PlaceLaws.{IsPlace-from_run, IsRun-from_free, multiple-from_free, too_long}
+use Rattle.heap_core.proofs.PlaceLaws.{IsPlace-from_run, IsGap-from_free, multiple-from_free, too_long}
 use Rattle.heap_core.proofs.RunLaws.{IsTable-set, held_blocks-set, live_blocks-set, table_state-set}
 use Rattle.heap_core.proofs.SizeLaws.{HasShape-shape}
 use Rattle.heap_core.proofs.SoundLaws.{IsSound-from_table}
 use Rattle.heap_core.proofs.SpanLaws.{LiesWithin-span, LiesWithin-table}
-use Rattle.heap_core.proofs.SumLaws.{bytes_of-blocks_with, granules_fit}
+use Rattle.heap_core.proofs.SumLaws.{bytes_in-blocks_with, granules_fit}
 use Rattle.heap_core.proofs.heap.Heap.reserve.Goals as goal
 
 pub returns-then-asked-granules-clause-none : goal.returns-then-asked-granules-clause-none
@@ -26,7 +26,7 @@ returns-in_default-clause-none c =
     let has = HasShape-shape c.args.size _ _ _ c.granules_for-asked.ensures shape.ensures.some shape.ensures.granules shape.ensures.unit in (
       λ _ a given.
           let free = rw (← c.self.view_is) at given in
-          c.put.ensures.none c.in_default.is _ (IsRun-from_free _ _ _ _ a _ _ h.table has free) (multiple-from_free _ _ _ _ a _ _ h.table has free),
+          c.put.ensures.none c.in_default.is _ (IsGap-from_free _ _ _ _ a _ _ h.table has free) (multiple-from_free _ _ _ _ a _ _ h.table has free),
       λ _. refl,
     )
 
@@ -49,7 +49,7 @@ invariant_of-self-2 c =
     let live = blocks_of is_live c.self.inside.base 0 c.self.inside.table.lengths c.self.inside.table.marks in
     record {
       table = rw (put.lengths, put.marks) (IsTable-set _ _ _ c.in-Some.start n h.table run);
-      live = rw (put.lengths, put.marks, live_blocks-set _ _ _ c.in-Some.start n h.table.same run) (omega (arith, bytes_of-blocks_with block live, h.live));
+      live = rw (put.lengths, put.marks, live_blocks-set _ _ _ c.in-Some.start n h.table.same run) (omega (arith, bytes_in-blocks_with block live, h.live));
       held = rw (put.lengths, put.marks, held_blocks-set _ _ _ c.in-Some.start n run) h.held;
     }
 

@@ -1,11 +1,11 @@
 use Rattle.std.proofs.Common.{ℕ, ◌≡◌, ◌+◌, ◌%◌, refl, subst, arith}
 use Rattle.heap_core.proofs.StoredLaws.{AreStored-put, first_place, lengths_put, marks_put, no_place, run_inside}
-use Rattle.heap_core.specs.Table.{IsFirstRun, IsRun, TableState}
+use Rattle.heap_core.specs.Table.{IsFirstGap, IsGap, TableState}
 use Rattle.heap_core.proofs.table.Table.put.Goals as goal
 
 pub returns-in_err-start-clause-none : goal.returns-in_err-start-clause-none
 returns-in_err-start-clause-none c = λ _.
-    subst (λ (s : TableState). (p : ℕ) → IsRun s.lengths p c.args.shape.granules → ¬ ((c.args.origin + p) % c.args.shape.unit ≡ 0)) c.self.view_is
+    subst (λ (s : TableState). (p : ℕ) → IsGap s.lengths p c.args.shape.granules → ¬ ((c.args.origin + p) % c.args.shape.unit ≡ 0)) c.self.view_is
     (no_place c.self.inside c.self.invariant c.args.origin c.args.shape.unit c.args.shape.granules c.in_err-start.ensures)
 
 pub index_mut-requires : goal.index_mut-requires
@@ -20,7 +20,7 @@ put-requires-clause-end c =
 
 pub returns-clause-first : goal.returns-clause-first
 returns-clause-first c =
-    subst (λ (s : TableState). IsFirstRun c.args.origin c.args.shape.unit s.lengths c.in_ok-start.start c.args.shape.granules) c.self.view_is
+    subst (λ (s : TableState). IsFirstGap c.args.origin c.args.shape.unit s.lengths c.in_ok-start.start c.args.shape.granules) c.self.view_is
     (first_place c.self.inside c.self.invariant c.in_ok-start.ensures)
 
 pub invariant_of-self : goal.invariant_of-self

@@ -4,7 +4,7 @@ use Rattle.heap_core.specs.declared.block.Freed.TheVariants as TheFreed
 use Rattle.heap_core.specs.declared.block.Freed.{Freed}
 use Rattle.heap_core.specs.declared.fault.HeapFault.{HeapFault}
 use Rattle.cap_codec.specs.Words.{bounds_in}
-use Rattle.tag_memory.specs.Cells.{Cell, register_in}
+use Rattle.tag_memory.specs.Cells.{Cell, register_at}
 use Rattle.heap_machine.specs.Parts.{state_of}
 use Rattle.heap_machine.proofs.FreedBlock.{Step-free}
 use Rattle.heap_machine.proofs.parts.Parts.free.Goals as goal
@@ -15,9 +15,9 @@ one_answer p q = cc
 pub returns-clause-step : goal.returns-clause-step
 returns-clause-step c =
     let s = state_of c.args.self.now in
-    let is : c.bounds-base.result ≡ bounds_in (register_in c.args.self.now.registers c.args.rs).0 =
+    let is : c.bounds-base.result ≡ bounds_in (register_at c.args.self.now.registers c.args.rs).0 =
     c.bounds-base.ensures.value ∙ ap (λ (cell : Cell). bounds_in cell.0) c.get-tag.ensures.value in
-    let tagged : (register_in c.args.self.now.registers c.args.rs).1 ≡ true = sym (ap (λ (cell : Cell). cell.1) c.get-tag.ensures.value) ∙ c.if-not-tag.false in
+    let tagged : (register_at c.args.self.now.registers c.args.rs).1 ≡ true = sym (ap (λ (cell : Cell). cell.1) c.get-tag.ensures.value) ∙ c.if-not-tag.false in
     let same = c.release.ensures.held (c.in-Ok.is ∙ ap Ok c.in-Held.is) in
     let held : freed_of c.args.self.now.heap c.bounds-base.result.base c.bounds-base.result.top ≡ TheFreed.Held =
     one_answer c.release.ensures.answer c.in-Ok.is ∙ c.in-Held.is in

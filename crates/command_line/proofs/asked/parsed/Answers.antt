@@ -6,7 +6,7 @@ use Rattle.clap.specs.Kinds.{Kinds}
 use Rattle.clap.specs.declared.error.Error.{Error}
 use Rattle.clap.specs.declared.error.kind.ErrorKind.TheVariants.{OutOfMemory}
 use Rattle.command_line.specs.Words.{AreTaken, subcommand_named, tool_app}
-use Rattle.command_line.proofs.words.parsed.Goals as goal
+use Rattle.command_line.proofs.asked.parsed.Goals as goal
 
 no_fault : {T : Type 0} (kinds : Kinds) (r : Result T Error) → FailsBy kinds r → OnOk r (kinds ≡ [])
 no_fault kinds (Ok x) h = h

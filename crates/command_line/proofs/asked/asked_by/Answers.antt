@@ -7,7 +7,7 @@ use Rattle.clap.specs.declared.parser.matches.ArgMatches.{ArgMatches}
 use Rattle.command_line.specs.Words.{AreTaken, Names, NamesRun, NamesWord, subcommand_named}
 use Rattle.command_line.specs.Laws.{NamesRun-unique, NamesWord-unique, Names-unique}
 use Rattle.command_line.specs.NumberLaws.{GivesNumber-cut, GivesNumber-workers}
-use Rattle.command_line.proofs.words.asked_by.Goals as goal
+use Rattle.command_line.proofs.asked.asked_by.Goals as goal
 
 both : {B N R : Type 0} (f : B → N) (g : B → R) (n : N) (r : R) (o : Option B) → option_map f o ≡ Some n → option_map (λ (p : N × R). p.1) (option_map {U = N × R} (λ b. (f b, g b)) o) ≡ Some r
     → option_map {U = N × R} (λ b. (f b, g b)) o ≡ Some (n, r)

@@ -2,7 +2,7 @@ use Rattle.std.proofs.Common.{codes, arith, ◌∙◌}
 use Rattle.clap.specs.Words.{found_of}
 use Rattle.clap.proofs.WalkLemmas.{one_text-rows}
 use Rattle.command_line.specs.NumberLaws.{HasNumber-get_one}
-use Rattle.command_line.proofs.words.options_of.Goals as goal
+use Rattle.command_line.proofs.asked.options_of.Goals as goal
 
 pub unwrap-requires : goal.unwrap-requires
 unwrap-requires c = (HasNumber-get_one (found_of c.args.matches.now) (codes "workers") 64 c.get_one.result c.requires.workers c.get_one.ensures.value (omega arith)).0

@@ -1,5 +1,5 @@
 use Rattle.std.proofs.Common.{append-nil}
-use Rattle.heap_command.proofs.text.EncodingDisplay.fmt.Goals as goal
+use Rattle.heap_command.proofs.lines.EncodingDisplay.fmt.Goals as goal
 
 pub returns-clause-writes : goal.returns-clause-writes
 returns-clause-writes g c =

@@ -1,6 +1,6 @@
 use Rattle.std.proofs.Common.{◌≡◌, rules, subst, List, ℕ, IfOk, string_bytes}
 use Rattle.heap_command.specs.Text.{line_with, word_line}
-use Rattle.heap_command.proofs.text.line_of.Goals as goal
+use Rattle.heap_command.proofs.lines.line_of.Goals as goal
 
 pub returns : goal.returns
 returns c =
