@@ -17,7 +17,7 @@ use Rattle.heap_trace.specs.Report.{report_text}
 use Rattle.heap_command.specs.declared.program.Answer.{Answer}
 use Rattle.heap_command.specs.Answer.{HasAnswered, BeginsAnswer, IsAnswer, IsRunAnswer, image_shown, lacks_memory, most_read, names_fault, refusal_line, refusal_status, refuses, reports, shows_run, shows_word, status_of, text_of}
 use Rattle.heap_command.specs.Device.{AppendsBeginning, ReadsUpTo}
-use Rattle.heap_command.specs.Text.{fault_text, memory_line, word_line}
+use Rattle.heap_command.specs.Text.{line_of_fault, memory_line, word_line}
 use Rattle.heap_command.specs.Words.{AskForNothing, IsTextOf}
 
 -- ---- words
@@ -44,7 +44,7 @@ IsRunAnswer-report input options script o (Err refusal) reads is told = tt
 
 -- The line of a fault is the answer where the text has that fault.
 pub IsRunAnswer-fault : (input : List ℕ) (options : Options) (fault : TraceFault) (r : Result Answer Refusal) → trace_of input ≡ Err fault
-    → IfOk r (λ answer. (answer.status ≡ 3) × (answer.text.items ≡ fault_text fault)) → IfOk r (λ answer. IsRunAnswer input options answer.status answer.text.items)
+    → IfOk r (λ answer. (answer.status ≡ 3) × (answer.text.items ≡ line_of_fault fault)) → IfOk r (λ answer. IsRunAnswer input options answer.status answer.text.items)
 IsRunAnswer-fault input options fault (Ok answer) reads is =
     subst (λ status. IsRunAnswer input options status answer.text.items) (sym is.0) (subst (IsRunAnswer input options 3) (sym is.1) (names_fault fault reads))
 IsRunAnswer-fault input options fault (Err refusal) reads is = tt

@@ -1,5 +1,5 @@
 -- What the program answers: its exit status, and what it writes with it.
-use Rattle.std.specs.Prelude.{◌≡◌, ℕ, List, [], ◌++◌, Option, Result, Ok, Err, map, if◌then◌else◌}
+use Rattle.std.specs.Prelude.{◌≡◌, ◌+◌, ℕ, List, [], ◌++◌, Option, Result, Ok, Err, map, if◌then◌else◌}
 use Rattle.std.specs.Io.KnownBytes.{Appends}
 use Rattle.cap_codec.specs.declared.word.Word.{Word}
 use Rattle.command_line.specs.declared.asked.Options.{Options}
@@ -8,6 +8,7 @@ use Rattle.command_line.specs.declared.asked.Refusal.TheVariants.{Memory, Words}
 use Rattle.command_line.specs.Words.{NamesRun, Text}
 use Rattle.trace_text.specs.declared.fault.TraceFault.{TraceFault}
 use Rattle.heap_reply.specs.declared.reply.Reply.{Reply}
+use Rattle.heap_trace.specs.Lines.{longest_text}
 use Rattle.heap_trace.specs.Reading.{Script, trace_of}
 use Rattle.heap_trace.specs.Report.{report_text}
 use Rattle.heap_trace.specs.Run.{Run}
@@ -15,7 +16,7 @@ use Rattle.heap_trace.specs.Image.{image_of}
 use Rattle.heap_trace.specs.State.{State, first_state}
 use Rattle.heap_command.specs.declared.program.Answer.{Answer}
 use Rattle.heap_command.specs.Device.{AppendsBeginning, ReadsUpTo}
-use Rattle.heap_command.specs.Text.{fault_text, memory_line, usage_line, word_line}
+use Rattle.heap_command.specs.Text.{line_of_fault, memory_line, usage_line, word_line}
 use Rattle.heap_command.specs.Words.{AskForNothing, AsksForLineOf}
 
 -- The status of a refusal, and its line.
@@ -47,11 +48,11 @@ pub data IsRunAnswer (input : List ℕ) (options : Options) : ℕ → List ℕ �
   reports : (script : Script) (replies : List Reply) (last : State) → trace_of input ≡ Ok script
       → Run (first_state script.base script.pages) (map (λ c. c.1) script.commands) replies last
       → IsRunAnswer input options 0 (report_text script.commands replies last ++ image_shown options (image_of last.heap.base last.cells))
-  names_fault : (fault : TraceFault) → trace_of input ≡ Err fault → IsRunAnswer input options 3 (fault_text fault)
+  names_fault : (fault : TraceFault) → trace_of input ≡ Err fault → IsRunAnswer input options 3 (line_of_fault fault)
 
 -- The most bytes that are read: one more than a trace has.
 abbrev pub most_read : ℕ
-most_read = 4194305
+most_read = longest_text + 1
 
 -- The text that goes with a status below 4, for these words and a reader whose known bytes were unread and
 -- are left now.

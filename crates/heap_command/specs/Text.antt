@@ -10,7 +10,7 @@ use Rattle.cap_codec.specs.Words.{bounds_in}
 use Rattle.cap_codec.specs.Mantissas.{exponent_of}
 use Rattle.heap_trace.specs.Display.{bit_text, hexadecimal_text, place_text}
 use Rattle.trace_text.specs.declared.fault.TraceFault.{TraceFault}
-use Rattle.trace_text.specs.declared.fault.TraceFault.TheVariants.{BadCommand, BadCount, BadData, BadHeap, BadNumber, BadRegister, Memory, NoHeap, TooLong}
+use Rattle.trace_text.specs.Fault.{fault_text}
 
 -- What a word with these fields allows, and its type.
 abbrev pub rights_text : Fields → List ℕ
@@ -38,21 +38,9 @@ word_line w = line_with (fields_of w) (bounds_in w) (exponent_of (fields_of w))
 abbrev pub memory_line : List ℕ
 memory_line = codes "fault memory\n"
 
--- The fault with this name, at the line with this number.
-abbrev pub fault_at_line : List ℕ → ℕ → List ℕ
-fault_at_line name line = concat (codes "fault " ∷ name ∷ codes " " ∷ decimal line ∷ codes "\n" ∷ [])
-
 -- What is written of a text that is no trace. Its fault is never want of memory.
-abbrev pub fault_text : TraceFault → List ℕ
-fault_text Memory = memory_line
-fault_text TooLong = codes "fault too-long\n"
-fault_text (NoHeap line) = fault_at_line (codes "no-heap") line
-fault_text (BadHeap line) = fault_at_line (codes "bad-heap") line
-fault_text (BadCommand line) = fault_at_line (codes "bad-command") line
-fault_text (BadCount line) = fault_at_line (codes "bad-count") line
-fault_text (BadRegister line) = fault_at_line (codes "bad-register") line
-fault_text (BadNumber line) = fault_at_line (codes "bad-number") line
-fault_text (BadData line) = fault_at_line (codes "bad-data") line
+abbrev pub line_of_fault : TraceFault → List ℕ
+line_of_fault fault = concat (codes "fault " ∷ fault_text fault ∷ codes "\n" ∷ [])
 
 -- What is written where the words are refused.
 abbrev pub usage_line : List ℕ

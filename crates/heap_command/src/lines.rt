@@ -1,7 +1,7 @@
 //! The lines that the program writes.
 
 ghost use Rattle.std.specs.Prelude.{◌≡◌, IfOk, Some, string_bytes};
-ghost use Rattle.heap_command.specs.Text.{encoding_text, fault_text, rights_text, word_line};
+ghost use Rattle.heap_command.specs.Text.{encoding_text, line_of_fault, rights_text, word_line};
 
 use cap_codec::{Fields, Word, bounds, exponent, fields};
 use heap_trace::{Place, TraceFault, bit};
@@ -70,17 +70,7 @@ pub fn line_of(alloc: Global, w: Word) -> Result<String, AllocError>
 
 /// The line that names the fault of a text that is no trace.
 pub fn fault_line(alloc: Global, fault: &TraceFault) -> Result<String, AllocError>
-    ensures { IfOk result (λ text. string_bytes text ≡ fault_text fault.now) }
+    ensures { IfOk result (λ text. string_bytes text ≡ line_of_fault fault.now) }
 {
-    match *fault {
-        TraceFault::Memory => format!(in alloc; "fault memory\n"),
-        TraceFault::TooLong => format!(in alloc; "fault too-long\n"),
-        TraceFault::NoHeap(line) => format!(in alloc; "fault no-heap {line}\n"),
-        TraceFault::BadHeap(line) => format!(in alloc; "fault bad-heap {line}\n"),
-        TraceFault::BadCommand(line) => format!(in alloc; "fault bad-command {line}\n"),
-        TraceFault::BadCount(line) => format!(in alloc; "fault bad-count {line}\n"),
-        TraceFault::BadRegister(line) => format!(in alloc; "fault bad-register {line}\n"),
-        TraceFault::BadNumber(line) => format!(in alloc; "fault bad-number {line}\n"),
-        TraceFault::BadData(line) => format!(in alloc; "fault bad-data {line}\n"),
-    }
+    format!(in alloc; "fault {fault}\n")
 }

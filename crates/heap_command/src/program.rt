@@ -8,7 +8,7 @@ ghost use Rattle.command_line.specs.Words.{AreWithinLimits, NamesRun, texts};
 ghost use Rattle.heap_trace.specs.Image.{image_of};
 ghost use Rattle.heap_command.specs.Answer.{HasAnswered, BeginsAnswer, IsRunAnswer, image_shown, most_read, refusal_line, refusal_status, status_of, text_of};
 ghost use Rattle.heap_command.specs.Device.{AppendsBeginning, ReadsFew};
-ghost use Rattle.heap_command.specs.Text.{fault_text, word_line};
+ghost use Rattle.heap_command.specs.Text.{line_of_fault, word_line};
 ghost use Rattle.heap_command.specs.Words.{IsTextOf};
 
 use crate::devices::{Failed, ReadFault, Sink, Source, read_text, send};
@@ -172,7 +172,7 @@ fn cutting_of(options: Options) -> Cutting
 
 // The line of the fault of a text that is no trace.
 fn fault_answer(alloc: Global, fault: &TraceFault) -> Result<Answer, Refusal>
-    ensures ok { IfOk result (λ answer. (answer.status ≡ 3) × (answer.text.items ≡ fault_text fault.now)) }
+    ensures ok { IfOk result (λ answer. (answer.status ≡ 3) × (answer.text.items ≡ line_of_fault fault.now)) }
     ensures err { IfErr result (λ refusal. refusal ≡ Refusal.Memory) }
 {
     match fault_line(alloc, fault) {

@@ -1,7 +1,7 @@
 //! The parts of a machine, and what each command does to them.
 
 ghost use Rattle.std.specs.Prelude.{◌≡◌, ◌<◌, IfErr, IfOk, IsOk, None, OnErr, OnOk, Some, length};
-ghost use Rattle.tag_memory.specs.Cells.{register_at};
+ghost use Rattle.tag_memory.specs.Cells.{register_at, register_count};
 ghost use Rattle.trace_text.specs.Command.{IsValid};
 ghost use Rattle.heap_machine.specs.Parts.{AreParts, state_of};
 ghost use Rattle.heap_machine.specs.Safety.{FitsTypes};
@@ -155,7 +155,7 @@ impl Parts {
     // The index of the granule at a register's address, for an access that is allowed so.
     fn granule_index(&self, ra: u8, allowed: bool) -> Result<usize, Trap>
         requires parts { AreParts self.now }
-        requires register { ra < 32 }
+        requires register { ra < register_count }
         ensures passed { OnOk result (first_failed (access (register_at self.now.registers ra) allowed) ≡ None) }
         ensures index { IfOk result (λ i. i ≡ index_in (state_of self.now) (register_at self.now.registers ra).0) }
         ensures there { IfOk result (λ i. i < length self.now.memory.cells) }

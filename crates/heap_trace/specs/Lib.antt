@@ -1,5 +1,6 @@
 -- the grammar's, for the crates above
 pub use Rattle.trace_text.specs.Command
+pub use Rattle.trace_text.specs.Fault
 pub use Rattle.trace_text.specs.Grammar
 pub use Rattle.trace_text.specs.Heap
 pub use Rattle.trace_text.specs.Lines

@@ -14,4 +14,4 @@ pub use crate::image::image_text;
 pub use crate::laws::runs;
 pub use crate::running::{Outcome, RunFault, run};
 pub use heap_machine::{Hexadecimal, Machine, MachineFault, Place, Reply, Shown, Trap, bit, steps};
-pub use trace_text::{Command, Trace, TraceFault, command_lines, parse, texts};
+pub use trace_text::{Command, LONGEST_TEXT, Trace, TraceFault, command_lines, parse, texts};

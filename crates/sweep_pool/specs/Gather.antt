@@ -6,6 +6,7 @@ use Rattle.sweep_pool.specs.declared.gathering.GatherFault.{GatherFault}
 use Rattle.sweep_pool.specs.declared.gathering.GatherFault.TheVariants.{Double, Memory, Missing, Stranger, WrongSize}
 use Rattle.sweep_pool.specs.declared.task.Swept.{Swept}
 use Rattle.tag_memory.specs.Cells.{MemoryState}
+use Rattle.tag_memory.specs.Span.{page_words}
 
 -- The item has the masks of its task.
 abbrev pub IsSwept : MemoryState → List Bool → Cut → Swept → Type 0
@@ -29,13 +30,13 @@ pub record AreSound (c : Cut) (tasks pages : ℕ) (items : List Swept) : Type 0 
 -- The item's words stand in these masks where its task's pages are.
 abbrev pub IsPlaced : Cut → List ℕ → Swept → Type 0
 IsPlaced c masks s = (w : ℕ) → w < length s.masks.items
-    → slice_index masks (4 * first_page c s.task + w) ≡ slice_index s.masks.items w
+    → slice_index masks (page_words * first_page c s.task + w) ≡ slice_index s.masks.items w
 
 -- The masks of all pages, each task's in its place, from a list that has each task once.
 pub record AreGathered (c : Cut) (tasks pages : ℕ) (items : List Swept) (masks : List ℕ) : Type 0 where
   pub sound : AreSound c tasks pages items
   pub all : (k : ℕ) → k < tasks → times k items ≡ 1
-  pub count : length masks ≡ 4 * pages
+  pub count : length masks ≡ page_words * pages
   pub placed : All (IsPlaced c masks) items
 
 -- Item s stands in the list at a place before which nothing is wrong. `before` is what stands there.

@@ -19,6 +19,7 @@ use Rattle.heap_core.specs.Quarantine.{IsShadow}
 use Rattle.sweep_pool.specs.Sweep.{AreBits, AreMasks, ArePageMasks, IsShadowOf, TakePageTags, TakeTags, is_hit, is_painted, takes_tag}
 use Rattle.sweep_pool.specs.Tasks.{Cut, IsTask, IsTaskCount}
 use Rattle.tag_memory.specs.Cells.{Cell, MemoryState, cell_of}
+use Rattle.tag_memory.specs.Span.{page_words}
 
 -- ---- tasks
 
@@ -83,7 +84,7 @@ AreBits-unique test granules a b a_fits b_fits p q =
     (sym (is_set_for-at a w j below) ∙ (p.bits (64 * w + j) inside ∙ (sym (q.bits (64 * w + j) inside) ∙ is_set_for-at b w j below)))))
 
 -- The masks of so many pages are four words for each.
-pub AreBits-words : (test : ℕ → Bool) (pages : ℕ) (masks : List ℕ) → AreBits test (256 * pages) masks → length masks ≡ 4 * pages
+pub AreBits-words : (test : ℕ → Bool) (pages : ℕ) (masks : List ℕ) → AreBits test (256 * pages) masks → length masks ≡ page_words * pages
 AreBits-words test pages masks are = let n = are.count in omega arith
 
 -- So masks by the shadow are those of the tags that the sweep takes.

@@ -5,7 +5,7 @@ ghost use Rattle.std.specs.Prelude.{◌≡◌, ◌<◌, ◌≤◌, ◌*◌, ◌+
 ghost use Rattle.sweep_pool.specs.Sweep.{IsShadowOf, is_hit, is_hit_at, takes_tag};
 ghost use Rattle.sweep_pool.specs.Sweep as sweep;
 ghost use Rattle.sweep_pool.specs.declared.sweep.SweepFault.TheVariants.{Memory};
-ghost use Rattle.tag_memory.specs.Cells.{register_at};
+ghost use Rattle.tag_memory.specs.Cells.{register_at, register_count};
 ghost use Rattle.tag_memory.specs.Tags.{is_set};
 
 use cap_codec::{Word, bounds};
@@ -89,7 +89,7 @@ fn tagged_mask(memory: &Memory, shadow: &Shadow, w: usize) -> u64
 
 // Whether a register is tagged, and the base of its word lies in a painted granule.
 fn is_register_hit(registers: &Registers, shadow: &Shadow, base: u64, r: u8) -> bool
-    requires { r < 32 }
+    requires { r < register_count }
     ensures { result ≡ is_hit shadow.now base (register_at registers.now r) }
 {
     let (word, tag) = registers.get(r);
@@ -103,8 +103,8 @@ fn is_register_hit(registers: &Registers, shadow: &Shadow, base: u64, r: u8) -> 
 /// of the heap that starts at `base`, which for that heap's shadow is in a held block.
 pub fn swept_registers(registers: &Registers, shadow: &Shadow, base: u64) -> u32
     ensures held { (heap : HeapState) → IsShadowOf heap base shadow.now
-        → (r : ℕ) → r < 32 → is_set result r ≡ takes_tag heap.held (register_at registers.now r) }
-    ensures painted { (r : ℕ) → r < 32 → is_set result r ≡ is_hit shadow.now base (register_at registers.now r) }
+        → (r : ℕ) → r < register_count → is_set result r ≡ takes_tag heap.held (register_at registers.now r) }
+    ensures painted { (r : ℕ) → r < register_count → is_set result r ≡ is_hit shadow.now base (register_at registers.now r) }
 {
     let mut mask = 0;
     for r in 0..REGISTERS {

@@ -43,15 +43,19 @@ cell_of granule = (record { bits = granule.0 }, granule.1)
 abbrev pub null_cell : Cell
 null_cell = (record { bits = 0 }, false)
 
+-- How many registers there are.
+abbrev pub register_count : ℕ
+register_count = 32
+
 -- What holds of all registers: there are 32, register 0 is null, and the words have 128 bits.
 pub record AreRegisters (cells : List Cell) : Type 0 where
-  pub count : length cells ≡ 32
+  pub count : length cells ≡ register_count
   pub zero : slice_index_or cells 0 null_cell ≡ null_cell
   pub numbers : All (λ cell. cell.0.bits < 2 ^ 128) cells
 
 -- The 32 registers of a new machine.
 abbrev pub new_registers : List Cell
-new_registers = replicate 32 null_cell
+new_registers = replicate register_count null_cell
 
 -- What register r reads as. Register 0 is always null.
 abbrev pub register_at : List Cell → ℕ → Cell

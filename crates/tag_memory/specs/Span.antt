@@ -9,3 +9,7 @@ is_size pages = nat_le 1 pages && nat_le pages 1024
 -- So many pages may begin at base.
 abbrev pub is_base : ℕ → ℕ → Bool
 is_base base pages = (base % 4096 == 0) && nat_le (base + 4096 * pages) (2 ^ 64)
+
+-- How many words the tags of a page have, one a granule.
+abbrev pub page_words : ℕ
+page_words = 4

@@ -43,14 +43,14 @@ impl Model for Memory {
     ghost use Rattle.std.specs.List.{All};
     ghost use Rattle.std.specs.Prelude.{◌≡◌, ◌<◌, ◌*◌, ◌^◌, length, true};
     ghost use Rattle.tag_memory.specs.Cells.{MemoryState};
-    ghost use Rattle.tag_memory.specs.Span.{is_base, is_size};
+    ghost use Rattle.tag_memory.specs.Span.{is_base, is_size, page_words};
     ghost use Rattle.tag_memory.specs.Tags.{granules_of};
 
     ghost Value = { MemoryState };
 
     ghost view = { λ m. record { base = m.base; cells = granules_of m.bits.items m.tags.items } };
 
-    ghost invariant = { λ m. (length m.bits.items ≡ 256 * m.pages) × (length m.tags.items ≡ 4 * m.pages) × (is_size m.pages ≡ true) × (is_base m.base m.pages ≡ true) × All (λ number. number < 2 ^ 128) m.bits.items };
+    ghost invariant = { λ m. (length m.bits.items ≡ 256 * m.pages) × (length m.tags.items ≡ page_words * m.pages) × (is_size m.pages ≡ true) × (is_base m.base m.pages ≡ true) × All (λ number. number < 2 ^ 128) m.bits.items };
 }
 
 impl Memory {

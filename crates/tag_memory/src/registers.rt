@@ -1,7 +1,7 @@
 //! The registers of a machine.
 
 ghost use Rattle.std.specs.Prelude.{◌≡◌, ◌<◌, ◌&&◌, ℕ, count_by, drop, false, length, not, slice_index_or};
-ghost use Rattle.tag_memory.specs.Cells.{AreRegisters, new_registers, null_cell, register_at, with_register};
+ghost use Rattle.tag_memory.specs.Cells.{AreRegisters, new_registers, null_cell, register_at, register_count, with_register};
 ghost use Rattle.tag_memory.specs.Tags.{is_set};
 
 use crate::bits::bit;
@@ -48,7 +48,7 @@ impl Registers {
 
     /// A register's word and tag.
     pub fn get(&self, r: u8) -> (Word, bool)
-        requires { r < 32 }
+        requires { r < register_count }
         ensures value { result ≡ register_at self.now r }
     {
         self.cells[usize::from(r)]
@@ -56,7 +56,7 @@ impl Registers {
 
     /// Writes a register's word and tag.
     pub fn set(&mut self, r: u8, word: Word, tag: bool)
-        requires { r < 32 }
+        requires { r < register_count }
         ensures { self.new ≡ with_register self.old r (word, tag) }
     {
         if r == 0 {
@@ -67,7 +67,7 @@ impl Registers {
 
     /// Takes a register's tag and keeps its bits.
     pub fn clear(&mut self, r: u8)
-        requires { r < 32 }
+        requires { r < register_count }
         ensures { self.new ≡ with_register self.old r ((register_at self.old r).0, false) }
     {
         let (word, _) = self.get(r);
@@ -76,9 +76,9 @@ impl Registers {
 
     /// Takes the tag of each register r where bit r of the mask is 1.
     pub fn clear_tags(&mut self, mask: u32)
-        ensures count { length self.new ≡ 32 }
+        ensures count { length self.new ≡ register_count }
         ensures zero { slice_index_or self.new 0 null_cell ≡ null_cell }
-        ensures cells { (r : ℕ) → r < 32 → slice_index_or self.new r null_cell
+        ensures cells { (r : ℕ) → r < register_count → slice_index_or self.new r null_cell
             ≡ (
               (slice_index_or self.old r null_cell).0,
               (slice_index_or self.old r null_cell).1 && not (is_set mask r),

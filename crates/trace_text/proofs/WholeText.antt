@@ -9,7 +9,7 @@ use Rattle.trace_text.specs.declared.fault.LineFault.TheVariants as line_fault
 use Rattle.trace_text.specs.declared.fault.TraceFault.{TraceFault}
 use Rattle.trace_text.specs.declared.fault.TraceFault.TheVariants.{Memory, TooLong, NoHeap, BadHeap, BadCommand, BadCount, BadRegister, BadNumber, BadData}
 use Rattle.trace_text.specs.Grammar.{AreCommands, BeginsAsHeap, ComesAfter, HasFault, HasFaultyLine, IsCommand, IsFaulty, IsFine, IsHeapLine, IsPassedOver, IsShort, IsTrace, LacksHeap}
-use Rattle.trace_text.specs.Lines.{is_passed_over, lines_of, words_of}
+use Rattle.trace_text.specs.Lines.{is_passed_over, lines_of, longest_text, words_of}
 use Rattle.trace_text.specs.Reading.{◌>>=◌, Fails, Opening, Script, command_at, command_of, commands_from, fault_at, heap_at, listed, opened, opening_from, read_at, trace_of}
 use Rattle.trace_text.proofs.CommandLines.{Read, command_of-HasFault, command_of-IsCommand, command_read}
 use Rattle.trace_text.proofs.HeapLines.{HeapFault, HeapRead, heap_at-IsHeapLine, heap_at-fault, heap_at-passed, heap_at-read}
@@ -208,14 +208,14 @@ opened_read text short = go (opening_from 1 (lines_of text)) (opening_from-read 
 
 trace_of-read : (text : List ℕ) → TraceRead text (trace_of text)
 unfolding trace_of
-trace_of-read text = go (nat_lt 4194304 (length text)) refl where
-  go : (long : Bool) → nat_lt 4194304 (length text) ≡ long → TraceRead text (cond long (Err TooLong) (then_opened (opening_from 1 (lines_of text))))
+trace_of-read text = go (nat_lt longest_text (length text)) refl where
+  go : (long : Bool) → nat_lt longest_text (length text) ≡ long → TraceRead text (cond long (Err TooLong) (then_opened (opening_from 1 (lines_of text))))
   go true is = λ short. absurd (grind (arith, nat_tests, is, short))
   go false is = opened_read text (grind (arith, nat_tests, is))
 
 short_text : (text : List ℕ) → IsShort text → trace_of text ≡ then_opened (opening_from 1 (lines_of text))
 unfolding trace_of
-short_text text short = let t : nat_lt 4194304 (length text) ≡ false = grind (arith, nat_tests, short) in rw t refl
+short_text text short = let t : nat_lt longest_text (length text) ≡ false = grind (arith, nat_tests, short) in rw t refl
 
 opening_is : (text : List ℕ) (number base pages : ℕ) (line : List ℕ) (rest : List (List ℕ)) → ComesAfter IsPassedOver 1 (lines_of text) number line rest → IsHeapLine (words_of line) base pages
     → opening_from 1 (lines_of text) ≡ Ok (record { base = base; pages = pages; next = number + 1; rest = rest })
@@ -243,7 +243,7 @@ trace_of-line text number kind short h =
 
 too_long : (text : List ℕ) → ¬ IsShort text → trace_of text ≡ Err TooLong
 unfolding trace_of
-too_long text long = let t : nat_lt 4194304 (length text) ≡ true = grind (arith, nat_tests, long) in rw t refl
+too_long text long = let t : nat_lt longest_text (length text) ≡ true = grind (arith, nat_tests, long) in rw t refl
 
 begins_counts : (line : List ℕ) → BeginsAsHeap (words_of line) → ¬ IsPassedOver line
 begins_counts line h over = let e = ap is_passed_over h.1 in cc

@@ -12,14 +12,15 @@ use Rattle.trace_text.specs.declared.fault.TraceFault.TheVariants.{Memory, TooLo
 use Rattle.trace_text.specs.declared.trace.Command.{Command}
 use Rattle.trace_text.specs.declared.trace.Command.TheVariants.{Malloc, Free, Copy, SetAddr, Narrow, AndPerm, StoreCap, LoadCap, Write, Show, Sweep}
 use Rattle.trace_text.specs.Heap.{IsHeap}
-use Rattle.trace_text.specs.Lines.{is_passed_over, lines_of, words_of}
+use Rattle.trace_text.specs.Lines.{is_passed_over, lines_of, longest_text, words_of}
 use Rattle.trace_text.specs.Reading.{Script}
+use Rattle.tag_memory.specs.Cells.{register_count}
 
 -- ---- words
 
 -- `c0` to `c31`, without leading zeros
 abbrev pub IsRegister : List ℕ → ℕ → Type 0
-IsRegister word register = (register < 32) × (word ≡ codes "c" ++ decimal register)
+IsRegister word register = (register < register_count) × (word ≡ codes "c" ++ decimal register)
 
 -- 1 to `most` digits in the radix, perhaps with leading zeros, that write this number below 2 ^ 64
 pub record AreDigits (radix most : ℕ) (digits : List ℕ) (number : ℕ) : Type 0 where
@@ -201,7 +202,7 @@ pub record HasFaultyLine (lines : List (List ℕ)) (number : ℕ) (fault : LineF
 -- ---- texts
 
 abbrev pub IsShort : List ℕ → Type 0
-IsShort text = length text ≤ 4194304
+IsShort text = length text ≤ longest_text
 
 -- The first line that isn't passed over is the heap line, and each later line is passed over or a command.
 pub record IsTrace (text : List ℕ) (script : Script) : Type 0 where

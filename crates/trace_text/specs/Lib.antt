@@ -1,4 +1,5 @@
 pub mod Command
+pub mod Fault
 pub mod Grammar
 pub mod Heap
 pub mod Lines

@@ -2,6 +2,10 @@
 use Rattle.std.specs.Prelude.{ℕ, Bool, true, false, List, [], ◌∷◌, filter, nat_eq, codes, ◌==◌, ◌||◌, if◌then◌else◌}
 use Rattle.std.specs.List.{slice_split, onto_first, starts_with}
 
+-- The most bytes that the text of a trace has.
+abbrev pub longest_text : ℕ
+longest_text = 4194304
+
 -- Byte 10 ends a line. The last line may lack it, and an empty piece after the last byte 10 is no line.
 abbrev pub lines_of : List ℕ → List (List ℕ)
 lines_of [] = []

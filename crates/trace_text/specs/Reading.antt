@@ -13,8 +13,9 @@ use Rattle.trace_text.specs.declared.fault.TraceFault.TheVariants.{Memory, TooLo
 use Rattle.trace_text.specs.declared.trace.Command.{Command}
 use Rattle.trace_text.specs.declared.trace.Command.TheVariants.{Malloc, Free, Copy, SetAddr, Narrow, AndPerm, StoreCap, LoadCap, Write, Show, Sweep}
 use Rattle.trace_text.specs.declared.trace.Trace.{Trace}
-use Rattle.trace_text.specs.Lines.{is_passed_over, lines_of, words_of}
+use Rattle.trace_text.specs.Lines.{is_passed_over, lines_of, longest_text, words_of}
 use Rattle.tag_memory.specs.Span.{is_base, is_size}
+use Rattle.tag_memory.specs.Cells.{register_count}
 
 -- then, unless there is a fault
 infixl 10 ◌>>=◌
@@ -58,7 +59,7 @@ has_leading_zero digits = nat_lt 1 (length digits) && starts_with nat_eq digits 
 abbrev pub register_of : List ℕ → Option ℕ
 register_of word =
     if bytes_eq (take 1 word) (codes "c") && not (has_leading_zero (drop 1 word))
-    then below 32 (numeral_of 10 2 (drop 1 word)) else None
+    then below register_count (numeral_of 10 2 (drop 1 word)) else None
 
 -- a register, or what is wrong with a word that names none
 abbrev pub register_in : List ℕ → Result ℕ LineFault
@@ -232,7 +233,7 @@ script_of trace = record { base = trace.base; pages = trace.pages; commands = tr
 -- the trace that a text is, or its fault
 unfoldable pub trace_of : List ℕ → Result Script TraceFault
 trace_of text =
-    if nat_lt 4194304 (length text) then Err TooLong
+    if nat_lt longest_text (length text) then Err TooLong
     else (opening_from 1 (lines_of text) >>= λ o. commands_from o.next o.rest >>= λ commands.
     Ok (record { base = o.base; pages = o.pages; commands = commands }))
 

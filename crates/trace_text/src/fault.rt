@@ -1,10 +1,12 @@
 //! What can be wrong with the text of a trace.
 
-ghost use Rattle.std.specs.Prelude.{◌≡◌};
+ghost use Rattle.std.specs.Prelude.{◌≡◌, Some};
 ghost use Rattle.trace_text.specs.declared.fault.TraceFault.TheVariants.{Memory};
+ghost use Rattle.trace_text.specs.Fault.{fault_text};
 
 use std::alloc::AllocFailed;
-use thiserror::Error;
+use std::error::Error;
+use std::fmt;
 
 /// What is wrong with a line that should be a command.
 #[derive(Clone, Copy, Debug, PartialEq, Eq)]
@@ -34,27 +36,47 @@ impl LineFault {
 }
 
 /// Why a text is no trace: its first fault, with the number of the faulty line, counted from 1.
-#[derive(Debug, PartialEq, Eq, Drop, Error)]
+#[derive(Debug, PartialEq, Eq, Drop)]
 pub enum TraceFault {
-    #[error("Memory")]
+    /// Memory of the simulator itself ran out.
     Memory,
-    #[error("TooLong")]
+    /// The text has more bytes than a trace has.
     TooLong,
-    #[error("NoHeap")]
+    /// The first line that counts is no heap line, or there is none.
     NoHeap(u32),
-    #[error("BadHeap")]
+    /// The heap line isn't of its form, or its numbers are out of their range.
     BadHeap(u32),
-    #[error("BadCommand")]
+    /// No command has this name.
     BadCommand(u32),
-    #[error("BadCount")]
+    /// The command has more or fewer words.
     BadCount(u32),
-    #[error("BadRegister")]
+    /// A word should be a register.
     BadRegister(u32),
-    #[error("BadNumber")]
+    /// A word should be a number, or one in its range.
     BadNumber(u32),
-    #[error("BadData")]
+    /// A word should be 32 hexadecimal digits.
     BadData(u32),
 }
+
+impl fmt::Display for TraceFault {
+    ghost output = { λ fault. Some (fault_text fault) };
+
+    fn fmt<W: fmt::Write>(&self, f: &mut fmt::Formatter<W>) -> fmt::Result {
+        match *self {
+            TraceFault::Memory => write!(f, "memory"),
+            TraceFault::TooLong => write!(f, "too-long"),
+            TraceFault::NoHeap(line) => write!(f, "no-heap {line}"),
+            TraceFault::BadHeap(line) => write!(f, "bad-heap {line}"),
+            TraceFault::BadCommand(line) => write!(f, "bad-command {line}"),
+            TraceFault::BadCount(line) => write!(f, "bad-count {line}"),
+            TraceFault::BadRegister(line) => write!(f, "bad-register {line}"),
+            TraceFault::BadNumber(line) => write!(f, "bad-number {line}"),
+            TraceFault::BadData(line) => write!(f, "bad-data {line}"),
+        }
+    }
+}
+
+impl Error for TraceFault {}
 
 impl<T: Drop> From<AllocFailed<T>> for TraceFault {
     ghost from_gives = { λ _ fault. fault ≡ Memory };

@@ -13,5 +13,5 @@ mod words;
 
 pub use crate::fault::TraceFault;
 pub use crate::laws::{command_lines, texts};
-pub use crate::text::parse;
+pub use crate::text::{LONGEST_TEXT, parse};
 pub use crate::trace::{Command, Trace};

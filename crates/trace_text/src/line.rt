@@ -5,6 +5,7 @@ ghost use Rattle.trace_text.specs.Command.{IsValid};
 ghost use Rattle.trace_text.specs.Heap.{IsHeap};
 ghost use Rattle.trace_text.specs.Lines.{words_of};
 ghost use Rattle.trace_text.specs.Reading.{command_of, command_at, data_in, heap_at, heap_of, is_heap, mask_in, none_of, number_in, one_of, register_in, three_of, two_of};
+ghost use Rattle.tag_memory.specs.Cells.{register_count};
 
 use crate::fault::{LineFault, TraceFault};
 use crate::operand::{data, mask, number, operand_number, register};
@@ -28,7 +29,7 @@ fn no_operands(operands: &[u8]) -> Result<(), LineFault>
 #[tactic(auto, unfolding(crate::specs::Reading::two_of))]
 fn register_and_number(operands: &[u8]) -> Result<(u8, u64), LineFault>
     ensures value { result ≡ two_of register_in number_in (words_of operands.now) }
-    ensures valid { IfOk result (λ read. read.0 < 32) }
+    ensures valid { IfOk result (λ read. read.0 < register_count) }
 {
     let Some((first, second)) = two_words(operands) else {
         return Err(LineFault::BadCount);
@@ -42,7 +43,7 @@ fn register_and_number(operands: &[u8]) -> Result<(u8, u64), LineFault>
 #[tactic(auto, unfolding(crate::specs::Reading::two_of))]
 fn two_registers(operands: &[u8]) -> Result<(u8, u8), LineFault>
     ensures value { result ≡ two_of register_in register_in (words_of operands.now) }
-    ensures valid { IfOk result (λ read. (read.0 < 32) × (read.1 < 32)) }
+    ensures valid { IfOk result (λ read. (read.0 < register_count) × (read.1 < register_count)) }
 {
     let Some((first, second)) = two_words(operands) else {
         return Err(LineFault::BadCount);
@@ -56,7 +57,7 @@ fn two_registers(operands: &[u8]) -> Result<(u8, u8), LineFault>
 #[tactic(auto, unfolding(crate::specs::Reading::three_of))]
 fn registers_and_number(operands: &[u8]) -> Result<(u8, u8, u64), LineFault>
     ensures value { result ≡ three_of register_in register_in number_in (words_of operands.now) }
-    ensures valid { IfOk result (λ read. (read.0 < 32) × (read.1 < 32)) }
+    ensures valid { IfOk result (λ read. (read.0 < register_count) × (read.1 < register_count)) }
 {
     let Some((first, second, third)) = three_words(operands) else {
         return Err(LineFault::BadCount);
@@ -71,7 +72,7 @@ fn registers_and_number(operands: &[u8]) -> Result<(u8, u8, u64), LineFault>
 #[tactic(auto, unfolding(crate::specs::Reading::three_of))]
 fn registers_and_mask(operands: &[u8]) -> Result<(u8, u8, u16), LineFault>
     ensures value { result ≡ three_of register_in register_in mask_in (words_of operands.now) }
-    ensures valid { IfOk result (λ read. (read.0 < 32) × (read.1 < 32)) }
+    ensures valid { IfOk result (λ read. (read.0 < register_count) × (read.1 < register_count)) }
 {
     let Some((first, second, third)) = three_words(operands) else {
         return Err(LineFault::BadCount);
@@ -86,7 +87,7 @@ fn registers_and_mask(operands: &[u8]) -> Result<(u8, u8, u16), LineFault>
 #[tactic(auto, unfolding(crate::specs::Reading::two_of))]
 fn register_and_data(operands: &[u8]) -> Result<(u8, [u8; 16]), LineFault>
     ensures value { result ≡ two_of register_in data_in (words_of operands.now) }
-    ensures valid { IfOk result (λ read. read.0 < 32) }
+    ensures valid { IfOk result (λ read. read.0 < register_count) }
 {
     let Some((first, second)) = two_words(operands) else {
         return Err(LineFault::BadCount);
@@ -100,7 +101,7 @@ fn register_and_data(operands: &[u8]) -> Result<(u8, [u8; 16]), LineFault>
 #[tactic(auto, unfolding(crate::specs::Reading::one_of))]
 fn one_register(operands: &[u8]) -> Result<u8, LineFault>
     ensures value { result ≡ one_of register_in (words_of operands.now) }
-    ensures valid { IfOk result (λ register. register < 32) }
+    ensures valid { IfOk result (λ register. register < register_count) }
 {
     let Some(word) = one_word(operands) else {
         return Err(LineFault::BadCount);

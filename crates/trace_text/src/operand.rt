@@ -2,6 +2,7 @@
 
 ghost use Rattle.std.specs.Prelude.{◌≡◌, ◌<◌, ◌≤◌, IfOk, IfSome};
 ghost use Rattle.trace_text.specs.Reading.{data_in, mask_in, number_in, number_of, numeral_of, register_in, register_of};
+ghost use Rattle.tag_memory.specs.Cells.{register_count};
 
 use crate::fault::LineFault;
 use hex::FromHex;
@@ -38,7 +39,7 @@ pub fn number(word: &[u8]) -> Option<u64>
 // The register that a word names.
 fn register_number(word: &[u8]) -> Option<u8>
     ensures value { result ≡ register_of word.now }
-    ensures below { IfSome result (λ register. register < 32) }
+    ensures below { IfSome result (λ register. register < register_count) }
 {
     let digits = word.strip_prefix(b"c")?;
     if digits.len() > 1 && digits.starts_with(b"0") {
@@ -55,7 +56,7 @@ fn register_number(word: &[u8]) -> Option<u8>
 /// The register that an operand names.
 pub fn register(word: &[u8]) -> Result<u8, LineFault>
     ensures value { result ≡ register_in word.now }
-    ensures below { IfOk result (λ register. register < 32) }
+    ensures below { IfOk result (λ register. register < register_count) }
 {
     register_number(word).ok_or(LineFault::BadRegister)
 }

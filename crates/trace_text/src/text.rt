@@ -4,7 +4,7 @@ ghost use Rattle.std.specs.Prelude.{◌≢◌, ◌≤◌, ◌<◌, ◌+◌, ◌^
 ghost use Rattle.trace_text.specs.Command.{IsListed};
 ghost use Rattle.trace_text.specs.Grammar.{IsFaulty, IsTrace};
 ghost use Rattle.trace_text.specs.Heap.{IsHeap};
-ghost use Rattle.trace_text.specs.Lines.{lines_of};
+ghost use Rattle.trace_text.specs.Lines.{lines_of, longest_text};
 ghost use Rattle.trace_text.specs.Reading.{Gives, commands_from, opening_from, script_of, trace_of};
 
 use crate::fault::TraceFault;
@@ -26,7 +26,7 @@ struct Opening<'a> {
 }
 
 fn read_heap(text: &[u8]) -> Result<Opening<'_>, TraceFault>
-    requires { length text.now ≤ 4194304 }
+    requires { length text.now ≤ longest_text }
     ensures value { Gives (λ o. record { base = o.base; pages = o.pages; next = o.next; rest = lines_of o.rest.now })
         result (opening_from 1 (lines_of text.now)) }
     ensures heap { IfOk result (λ o. IsHeap o.base o.pages) }

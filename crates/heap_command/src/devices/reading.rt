@@ -9,9 +9,10 @@ ghost use Rattle.heap_command.specs.Device.{FailsByError, ReadsFew, ReadsMore, R
 use crate::devices::Failed;
 use std::alloc::{AllocError, Global};
 use std::io::Read;
+use trace_text::LONGEST_TEXT;
 
 // The most bytes that are read: one more than a trace has, so that a longer one is told.
-const MOST_READ: usize = 4_194_305;
+const MOST_READ: usize = LONGEST_TEXT + 1;
 
 // The most bytes that are read at once.
 const CHUNK: usize = 65_536;

@@ -351,15 +351,15 @@ fn commands_that_are_valid(rt: HostRuntime) {
 #[test]
 fn faults_by_their_names(rt: HostRuntime) -> Result<(), Fail> {
     let cases = [
-        (TraceFault::Memory, "Memory"),
-        (TraceFault::TooLong, "TooLong"),
-        (TraceFault::NoHeap(1), "NoHeap"),
-        (TraceFault::BadHeap(1), "BadHeap"),
-        (TraceFault::BadCommand(2), "BadCommand"),
-        (TraceFault::BadCount(2), "BadCount"),
-        (TraceFault::BadRegister(2), "BadRegister"),
-        (TraceFault::BadNumber(2), "BadNumber"),
-        (TraceFault::BadData(2), "BadData"),
+        (TraceFault::Memory, "memory"),
+        (TraceFault::TooLong, "too-long"),
+        (TraceFault::NoHeap(1), "no-heap 1"),
+        (TraceFault::BadHeap(1), "bad-heap 1"),
+        (TraceFault::BadCommand(2), "bad-command 2"),
+        (TraceFault::BadCount(2), "bad-count 2"),
+        (TraceFault::BadRegister(2), "bad-register 2"),
+        (TraceFault::BadNumber(2), "bad-number 2"),
+        (TraceFault::BadData(2), "bad-data 2"),
     ];
     for (fault, name) in cases {
         let message = format!(in rt.alloc(); "{fault}")?;
