@@ -15,7 +15,7 @@ use Rattle.heap_trace.specs.Outcome.{IsOutcome}
 use Rattle.heap_trace.specs.Reading.{Script, trace_of}
 use Rattle.heap_trace.specs.Report.{report_text}
 use Rattle.heap_command.specs.declared.program.Answer.{Answer}
-use Rattle.heap_command.specs.Answer.{HasAnswered, BeginsAnswer, IsAnswer, IsRunAnswer, image_shown, lacks_memory, most_read, names_fault, refusal_line, refusal_status, refuses, reports, shows_run, shows_word, status_of, text_of}
+use Rattle.heap_command.specs.Answer.{BeginsAnswer, HasAnswered, IsAnswer, IsRunAnswer, image_shown, lacks_memory, most_read, names_fault, refusal_line, refusal_status, refuses, reports, shows_run, shows_word, status_of, text_of}
 use Rattle.heap_command.specs.Device.{AppendsBeginning, ReadsUpTo}
 use Rattle.heap_command.specs.Text.{line_of_fault, memory_line, word_line}
 use Rattle.heap_command.specs.Words.{AskForNothing, IsTextOf}

@@ -6,7 +6,7 @@ ghost use Rattle.cap_codec.specs.declared.word.Word.{Word};
 ghost use Rattle.command_line.specs.declared.asked.Options.{Options as TheOptions};
 ghost use Rattle.command_line.specs.Words.{AreWithinLimits, NamesRun, texts};
 ghost use Rattle.heap_trace.specs.Image.{image_of};
-ghost use Rattle.heap_command.specs.Answer.{HasAnswered, BeginsAnswer, IsRunAnswer, image_shown, most_read, refusal_line, refusal_status, status_of, text_of};
+ghost use Rattle.heap_command.specs.Answer.{BeginsAnswer, HasAnswered, IsRunAnswer, image_shown, most_read, refusal_line, refusal_status, status_of, text_of};
 ghost use Rattle.heap_command.specs.Device.{AppendsBeginning, ReadsFew};
 ghost use Rattle.heap_command.specs.Text.{line_of_fault, word_line};
 ghost use Rattle.heap_command.specs.Words.{IsTextOf};

@@ -10,7 +10,7 @@ use Rattle.trace_text.specs.declared.trace.Command.TheVariants.{Malloc, Free, Co
 use Rattle.heap_reply.specs.declared.reply.Reply.{Reply}
 use Rattle.heap_reply.specs.declared.reply.Reply.TheVariants.{Block, NoSpace, Held, Done, Cleared, Swept, Shown, Trap}
 use Rattle.heap_reply.specs.declared.reply.Trap.{Trap as TheTrap}
-use Rattle.heap_machine.specs.Safety.{AreInUse, HoldsGuarded, IsGuarded, IsInUse, LeavesInUse, IsSafe, TellsNoSweep}
+use Rattle.heap_machine.specs.Safety.{AreInUse, HoldsGuarded, IsGuarded, IsInUse, IsSafe, LeavesInUse, TellsNoSweep}
 use Rattle.heap_machine.specs.State.{State}
 use Rattle.heap_machine.specs.Step.{Effect, Step, StepAfter, checks, first_failed}
 

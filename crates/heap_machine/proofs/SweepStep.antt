@@ -2,7 +2,7 @@
 use Rattle.std.proofs.Common.{◌≡◌, ◌∙◌, ◌<◌, ◌+◌, ℕ, List, length, get_or, drop, sym, ap}
 use Rattle.std.specs.Prelude.{count_by}
 use Rattle.heap_core.specs.Heap.{HeapState}
-use Rattle.sweep_pool.specs.Sweep.{TakeTags, swept_granules, swept_cells, takes_tag}
+use Rattle.sweep_pool.specs.Sweep.{TakeTags, swept_cells, swept_granules, takes_tag}
 use Rattle.tag_memory.specs.Cells.{Cell, Granule, MemoryState, null_cell, register_at}
 use Rattle.tag_memory.specs.Tags.{is_set, without_tags}
 use Rattle.heap_machine.specs.Sound.{IsMachine}

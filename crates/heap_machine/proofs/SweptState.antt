@@ -14,7 +14,7 @@ use Rattle.cap_codec.specs.declared.word.Word.{Word}
 use Rattle.heap_core.specs.Blocks.{Span, bytes_in, end_of, has_address, length_of, start_of}
 use Rattle.heap_core.specs.Heap.{HeapState, IsInside, IsSound as IsSoundHeap}
 use Rattle.heap_core.specs.Quarantine.{without_held}
-use Rattle.sweep_pool.specs.Sweep.{TakeTags, is_revoked, swept_cell, swept_granule, swept_granules, swept_cells, tags_taken}
+use Rattle.sweep_pool.specs.Sweep.{TakeTags, is_revoked, swept_cell, swept_cells, swept_granule, swept_granules, tags_taken}
 use Rattle.tag_memory.specs.Cells.{Cell, Granule, MemoryState, cell_of}
 use Rattle.tag_memory.specs.Tags.{is_set_for, without_tags}
 use Rattle.heap_machine.specs.Safety.{HoldsGuarded, IsGuarded, IsSafe, LieIn}

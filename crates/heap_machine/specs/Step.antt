@@ -8,7 +8,7 @@ use Rattle.cap_codec.specs.Words.{address_in, allows, bounds_in, capability_of, 
 use Rattle.heap_core.specs.Blocks.{bytes_in, is_block}
 use Rattle.heap_core.specs.Place.{IsFree, IsPlace, block_length, with_live}
 use Rattle.heap_core.specs.Quarantine.{with_held, without_held}
-use Rattle.sweep_pool.specs.Sweep.{swept_granules, swept_cells, tags_taken}
+use Rattle.sweep_pool.specs.Sweep.{swept_cells, swept_granules, tags_taken}
 use Rattle.tag_memory.specs.Cells.{Cell, Granule, null_cell}
 use Rattle.trace_text.specs.declared.trace.Command.{Command}
 use Rattle.trace_text.specs.declared.trace.Command.TheVariants.{Malloc, Free, Copy, SetAddr, Narrow, AndPerm, StoreCap, LoadCap, Write, Show, Sweep}

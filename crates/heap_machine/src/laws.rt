@@ -4,7 +4,7 @@ ghost use Rattle.std.specs.Prelude.{◌≡◌, ℕ, true};
 ghost use Rattle.tag_memory.specs.Span.{is_base, is_size};
 ghost use Rattle.trace_text.specs.declared.trace.Command.{Command as TheCommand};
 ghost use Rattle.heap_reply.specs.declared.reply.Reply.{Reply as TheReply};
-ghost use Rattle.heap_machine.specs.Safety.{FitsTypes, LeavesInUse, IsSafe, IsUnused};
+ghost use Rattle.heap_machine.specs.Safety.{FitsTypes, IsSafe, IsUnused, LeavesInUse};
 ghost use Rattle.heap_machine.specs.State.{State, first_state};
 ghost use Rattle.heap_machine.specs.Step.{Step};
 

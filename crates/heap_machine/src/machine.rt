@@ -4,7 +4,7 @@ ghost use Rattle.std.specs.Prelude.{◌≡◌, ◌↔◌, ◌+◌, IfErr, IfOk, 
 ghost use Rattle.heap_core.specs.Blocks.{bytes_in};
 ghost use Rattle.tag_memory.specs.Span as span;
 ghost use Rattle.trace_text.specs.Command.{IsValid};
-ghost use Rattle.heap_machine.specs.Safety.{LeavesInUse, IsSafe, IsUnused};
+ghost use Rattle.heap_machine.specs.Safety.{IsSafe, IsUnused, LeavesInUse};
 ghost use Rattle.heap_machine.specs.State.{first_state};
 ghost use Rattle.heap_machine.specs.Step.{Step, TakesNoMemory};
 

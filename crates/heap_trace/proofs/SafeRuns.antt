@@ -4,7 +4,7 @@ use Rattle.std.specs.Prelude.{All}
 use Rattle.std.proofs.lemmas.List.Elements.{All-head, All-tail}
 use Rattle.trace_text.specs.declared.trace.Command.{Command}
 use Rattle.heap_reply.specs.declared.reply.Reply.{Reply}
-use Rattle.heap_machine.specs.Safety.{FitsTypes, IsReuseSafe, LeavesInUse, IsSafe, IsUnused}
+use Rattle.heap_machine.specs.Safety.{FitsTypes, IsReuseSafe, IsSafe, IsUnused, LeavesInUse}
 use Rattle.heap_machine.specs.State.{State}
 use Rattle.heap_machine.specs.Step.{Step}
 use Rattle.heap_trace.specs.Run.{IsSafeRun, Run}
