@@ -1,6 +1,6 @@
 -- The bounds of a word: the function gives bounds that meet the relation, and no others meet it.
 use Rattle.std.proofs.Common.{refl, ◌≡◌, ℕ, ◌+◌, ◌-◌, ◌*◌, ◌/◌, ◌%◌, ◌^◌, ◌<◌, ◌≤◌, inl, inr, sym, ap, ◌∙◌, arith}
-use Rattle.std.specs.Prelude.{ℤ, pos}
+use Rattle.std.specs.Prelude.{◌==◌, ◌&&◌, ◌↔◌, IsTrue, ℤ, pos}
 use Rattle.std.proofs.Math.Nat.{add-mul-mod_self_left}
 use Rattle.std.proofs.lemmas.Int.{ints}
 use Rattle.std.proofs.lemmas.Bool.{cases_lt}
@@ -128,6 +128,19 @@ same_bounds p q b t =
     let make : ℕ → ℕ → Bounds = λ b t. record { base = b; top = t } in
     let e : make p.base p.top ≡ make q.base q.top = cc in
     e
+
+-- Whether both ends are the same says whether the bounds are.
+pub same_ends : (p q : Bounds) → IsTrue ((p.base == q.base) && (p.top == q.top)) ↔ (p ≡ q)
+same_ends p q =
+    let forth : IsTrue ((p.base == q.base) && (p.top == q.top)) → p ≡ q = λ is.
+    let base : p.base ≡ q.base = grind (arith, nat_tests) in
+    let top : p.top ≡ q.top = grind (arith, nat_tests) in
+    same_bounds p q base top in
+    let back : p ≡ q → IsTrue ((p.base == q.base) && (p.top == q.top)) = λ same.
+    let base : p.base ≡ q.base = ap (λ (r : Bounds). r.base) same in
+    let top : p.top ≡ q.top = ap (λ (r : Bounds). r.top) same in
+    grind (arith, nat_tests) in
+    (forth, back)
 
 -- The function, part by part, with each part under a name of its own.
 pub bounds_of-parts : (f : Fields) (e unit size mark low b t top : ℕ) → e ≡ exponent_of f → unit ≡ 2 ^ exponent_of f → size ≡ window_size f → mark ≡ window_mark f

@@ -1,6 +1,5 @@
 -- Which addresses keep a word's bounds.
 use Rattle.std.proofs.Common.{◌≡◌, ℕ, ◌+◌, ◌-◌, ◌*◌, ◌%◌, ◌^◌, ◌<◌, ◌≤◌, sym, ap, ◌∙◌, arith, inl, inr, subst, ⊎_elim, IsTrue, ◌↔◌}
-use Rattle.std.proofs.lemmas.Bool.Decides.{nat_tests}
 use Rattle.std.proofs.Math.Nat.{mod-lt, pow-le-pow_right}
 use Rattle.std.proofs.Math.Pow.{mod-mod-pow}
 use Rattle.std.proofs.lemmas.Bool.{cases_lt}
@@ -9,7 +8,7 @@ use Rattle.cap_codec.specs.declared.word.Fields.{Fields}
 use Rattle.cap_codec.specs.Mantissas.{base_mantissa, exponent_of, top_mantissa}
 use Rattle.cap_codec.specs.Bounds.{base_place, bounds_of, corrected, origin, place_in, top_place, window_size, window_start}
 use Rattle.cap_codec.specs.Representable.{IsInWindow, IsRepresentable, is_representable}
-use Rattle.cap_codec.proofs.BoundsLaws.{IsTopAt-corrected, IsWindowAt-window_start, near_unique, same_bounds}
+use Rattle.cap_codec.proofs.BoundsLaws.{IsTopAt-corrected, IsWindowAt-window_start, near_unique, same_bounds, same_ends}
 use Rattle.cap_codec.proofs.CountedBounds.{IsWindowAt, IsWindowAt-unique}
 use Rattle.cap_codec.proofs.WindowLaws.{in_window, near_start, window_offset}
 
@@ -146,15 +145,4 @@ inside-representable f a h k r =
 -- The test says so.
 pub is_representable-is : (f : Fields) (a : ℕ) → IsTrue (is_representable f a) ↔ IsRepresentable f a
 unfolding is_representable
-is_representable-is f a =
-    let p = bounds_of (let r : Fields = record f { address = a } in r) in
-    let q = bounds_of f in
-    let forth : IsTrue (is_representable f a) → p ≡ q = λ t.
-    let base : p.base ≡ q.base = grind (arith, nat_tests) in
-    let top : p.top ≡ q.top = grind (arith, nat_tests) in
-    same_bounds p q base top in
-    let back : p ≡ q → IsTrue (is_representable f a) = λ s.
-    let base : p.base ≡ q.base = ap (λ (r : Bounds). r.base) s in
-    let top : p.top ≡ q.top = ap (λ (r : Bounds). r.top) s in
-    grind (arith, nat_tests) in
-    (forth, back)
+is_representable-is f a = same_ends (bounds_of (let r : Fields = record f { address = a } in r)) (bounds_of f)

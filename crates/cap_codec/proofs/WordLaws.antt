@@ -1,24 +1,18 @@
 -- What the words decode to that are made from words.
-use Rattle.std.proofs.Common.{◌≡◌, ◌∙◌, ◌≤◌, ◌<◌, ◌^◌, ◌&&◌, ℕ, Bool, true, ap, nat_eq, refl, arith}
-use Rattle.std.specs.Prelude.{◌==◌, ◌↔◌, IsTrue, bit_and}
-use Rattle.std.proofs.lemmas.Bool.{and_parts, eqb-true}
-use Rattle.std.proofs.lemmas.Bool.Decides.{nat_tests}
+use Rattle.std.proofs.Common.{◌≡◌, ◌∙◌, ◌≤◌, ◌<◌, ◌^◌, ℕ, Bool, ap, refl, arith}
+use Rattle.std.specs.Prelude.{◌↔◌, IsTrue, bit_and}
 use Rattle.std.proofs.lemmas.Nat.{and_le_l}
-use Rattle.cap_codec.specs.declared.word.Bounds.{Bounds}
 use Rattle.cap_codec.specs.declared.word.Fields.{Fields}
 use Rattle.cap_codec.specs.declared.word.Word.{Word}
 use Rattle.cap_codec.specs.Bounds.{bounds_of}
 use Rattle.cap_codec.specs.Fields.{IsValid, bits_with, fields_of}
 use Rattle.cap_codec.specs.Rounding.{IsExact, outward, with_bounds_of}
 use Rattle.cap_codec.specs.Words.{block_fields, bounds_in, capability_of, is_exact, keeps_bounds, narrowed, with_address, with_perms}
+use Rattle.cap_codec.proofs.BoundsLaws.{same_ends}
 use Rattle.cap_codec.proofs.CorrectedWindow.{same_tests}
 use Rattle.cap_codec.proofs.EncodeLaws.{IsValid-with_bounds_of, bounds_of-with_bounds_of}
-use Rattle.cap_codec.proofs.FieldLaws.{IsInRange, IsInRange-fields_of, fields_of-bits_with}
+use Rattle.cap_codec.proofs.FieldLaws.{IsInRange, IsInRange-fields_of, IsValid-fields_of, fields_of-bits_with}
 use Rattle.cap_codec.proofs.RepresentLaws.{is_representable-is}
-
-IsValid-fields_of : (w : Word) → IsValid (fields_of w)
-unfolding fields_of
-IsValid-fields_of w = record { reserved = omega arith; otype = omega arith; top12 = omega arith; base14 = omega arith }
 
 -- ---- bounds that are set
 
@@ -47,25 +41,9 @@ bounds_in-capability_of base top small order room =
 
 -- ---- whether bounds can be held as they are
 
--- Whether both ends are the same says whether the bounds are.
-same_ends : (b : Bounds) (base top : ℕ) → IsTrue ((b.base == base) && (b.top == top)) ↔ (b ≡ record { base = base; top = top })
-same_ends b base top = (λ is. same is, λ e. test e) where
-  same : IsTrue ((b.base == base) && (b.top == top)) → b ≡ record { base = base; top = top }
-  same is =
-      let both = and_parts (b.base == base) (b.top == top) is in
-      let low : b.base ≡ base = eqb-true b.base base both.0 in
-      let high : b.top ≡ top = eqb-true b.top top both.1 in
-      λ i. record { base = low i; top = high i }
-
-  test : b ≡ record { base = base; top = top } → IsTrue ((b.base == base) && (b.top == top))
-  test e =
-      let low : nat_eq b.base base ≡ true = grind (arith, nat_tests, ap (λ (x : Bounds). x.base) e) in
-      let high : nat_eq b.top top ≡ true = grind (arith, nat_tests, ap (λ (x : Bounds). x.top) e) in
-      rw (low, high) refl
-
 pub is_exact-is : (base top : ℕ) → IsTrue (is_exact base top) ↔ IsExact base top
 unfolding is_exact
-is_exact-is base top = same_ends (outward base top) base top
+is_exact-is base top = same_ends (outward base top) (record { base = base; top = top })
 
 pub is_exact-flag : (t : Bool) (base top : ℕ) → IsTrue t ↔ IsExact base top → t ≡ is_exact base top
 is_exact-flag t base top h =

@@ -21,7 +21,7 @@ pub const LOAD_CAPABILITY: u16 = 1 << 4;
 /// May store capabilities with their tags.
 pub const STORE_CAPABILITY: u16 = 1 << 5;
 
-/// Whether a word has this permission.
+/// Whether a word has this permission; of several bits, any of them.
 #[tactic(auto, unfolding(crate::specs::Words::allows))]
 pub fn is_allowed(w: Word, permission: u16) -> bool
     ensures { result ≡ allows permission w }

@@ -2,9 +2,9 @@
 //! made for bounds.
 
 use crate::{
-    Bounds, Fields, Word, alignment_mask, and_perms, bounds, corrections, exponent, fields,
-    from_bytes, plain, representable, representable_length, set_address, to_bytes, with_bounds,
-    word_of,
+    Bounds, Fields, GLOBAL, LOAD, LOAD_CAPABILITY, STORE, STORE_CAPABILITY, Word, alignment_mask,
+    and_perms, block_capability, bounds, corrections, exponent, fields, from_bytes, is_allowed,
+    plain, representable, representable_length, set_address, to_bytes, with_bounds, word_of,
 };
 
 // The fields of the null capability.
@@ -309,6 +309,45 @@ fn words_are_edited(rt: HostRuntime) {
         ..BLOCK
     };
     assert_eq!(rt; fields(and_perms(block, 0x07)), fewer);
+}
+
+#[test]
+fn a_block_has_its_capability(rt: HostRuntime) {
+    let block = block_capability(0x4000_0000, 0x4000_0020);
+    assert_eq!(rt; fields(block), BLOCK);
+    for permission in [GLOBAL, LOAD, STORE, LOAD_CAPABILITY, STORE_CAPABILITY] {
+        assert!(rt; is_allowed(block, permission));
+        assert!(rt; !is_allowed(Word::NULL, permission));
+    }
+    // Bit 1 is the permission to execute.
+    assert!(rt; !is_allowed(block, 1 << 1));
+    assert!(rt; is_allowed(block, 1 << 1 | LOAD));
+}
+
+#[test]
+fn bytes_lie_within_bounds(rt: HostRuntime) {
+    let block = Bounds {
+        base: 0x4000_0000,
+        top: 0x4000_0020,
+    };
+    let cases = [
+        (0x4000_0000, 0x20, true),
+        (0x4000_0000, 0x21, false),
+        (0x3fff_ffff, 0x20, false),
+        (0x4000_0001, 0x20, false),
+        (0x4000_0020, 0, true),
+        (0x4000_0021, 0, false),
+        (u64::MAX, u64::MAX, false),
+    ];
+    for (address, length, held) in cases {
+        assert_eq!(rt;
+            block.hold(address, length),
+            held,
+            "{length} bytes at {address}"
+        );
+    }
+    assert!(rt; WHOLE.hold(u64::MAX, 1));
+    assert!(rt; !WHOLE.hold(u64::MAX, 2));
 }
 
 // The eighth of its window that this base field's base lies in is 6, so its window starts at eighth 5.
