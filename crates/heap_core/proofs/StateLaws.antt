@@ -1,16 +1,14 @@
 -- What keeps a heap sound, seen from its blocks alone.
-use Rattle.std.proofs.Common.{◌≡◌, ◌<◌, ◌≤◌, ◌-◌, ◌%◌, inl, inr, nat_lt, not, ℕ, zero, suc, Bool, true, List, [], ◌∷◌, subst, arith}
+use Rattle.std.proofs.Common.{◌≡◌, ◌<◌, ◌≤◌, ◌-◌, ◌%◌, inl, inr, nat_lt, not, ℕ, zero, suc, Bool, true, List, [], ◌∷◌, arith}
 use Rattle.std.proofs.Math.Nat.{le-max_left}
 use Rattle.std.proofs.lemmas.Bool.{cases_Bool, ltb-true}
 use Rattle.std.proofs.lemmas.Bool.Decides.{nat_tests}
 use Rattle.std.proofs.lemmas.List.Elements.{All-cons, All-contains, All-filter, All-head, All-nil, All-tail, All-weaker}
-use Rattle.std.proofs.lemmas.List.Folds.{Any-from_list_any}
 use Rattle.std.proofs.lemmas.List.Kept.{AllPairs-cons, AllPairs-filter}
-use Rattle.std.specs.List.{Contains}
 use Rattle.std.specs.Prelude.{All, AllPairs, max}
 use Rattle.heap_core.specs.Blocks.{IsApart, IsBefore, Span, blocks_with, blocks_without, has_bounds, is_block, length_of, start_of}
 use Rattle.heap_core.specs.Heap.{HeapState, IsInside, IsSound}
-use Rattle.heap_core.specs.Laws.{has_bounds-is}
+use Rattle.heap_core.specs.Laws.{Contains-block, has_bounds-is}
 use Rattle.heap_core.specs.Place.{IsFree, block_length, granule_size, with_live}
 use Rattle.heap_core.specs.Quarantine.{with_held, without_held}
 use Rattle.heap_core.proofs.SizeLaws.{le-length_for, length_for_granules}
@@ -107,10 +105,8 @@ apart-without base top (b ∷ blocks) order there =
           rw is (All-filter (λ c. not (has_bounds base top c)) P blocks rest)
       | inr is ↦
           let later : is_block blocks base top ≡ true = rw is at there in
-          let found = Any-from_list_any (has_bounds base top) blocks later in
-          let bounds = has_bounds-is base top found.1 found.4 in
-          let before = All-contains (IsBefore b) blocks found.1 head (found.0, found.2, found.3) in
-          rw is (All-cons P b (blocks_without base top blocks) (inl (omega (arith, before, bounds.0))) (apart-without base top blocks tail later))
+          let before = All-contains (IsBefore b) blocks (base, top - base) head (Contains-block base top blocks later) in
+          rw is (All-cons P b (blocks_without base top blocks) (inl before) (apart-without base top blocks tail later))
     ]
 
 pub IsSound-held : (s : HeapState) (base top : ℕ) → IsSound s → is_block s.live base top ≡ true → IsSound (with_held s base top)
@@ -118,14 +114,9 @@ IsSound-held s base top sound there =
     let new = with_held s base top in
     let block : Span = (base, top - base) in
     let keeps : Span → Bool = λ b. not (has_bounds base top b) in
-    let found = Any-from_list_any (has_bounds base top) s.live there in
-    let bounds = has_bounds-is base top found.1 found.4 in
-    let in_live : Contains s.live found.1 = (found.0, found.2, found.3) in
-    let old = All-contains (IsInside s) s.live found.1 sound.live_inside in_live in
-    let length : length_of found.1 ≡ top - base = omega (arith, bounds.0, bounds.1) in
-    let same : found.1 ≡ block = (λ i. (bounds.0 i, length i)) in
-    let inside : IsInside s block = subst (IsInside s) same old in
-    let apart : All (IsApart block) s.held = subst (λ (b : Span). All (IsApart b) s.held) same (All-contains (λ b. All (IsApart b) s.held) s.live found.1 sound.apart in_live) in
+    let in_live = Contains-block base top s.live there in
+    let inside = All-contains (IsInside s) s.live block sound.live_inside in_live in
+    let apart = All-contains (λ b. All (IsApart b) s.held) s.live block sound.apart in_live in
     let others = apart-without base top s.live sound.live_order there in
     let still = IsInside-blocks s new.live new.held in
     record {

@@ -1,7 +1,9 @@
--- What the crates above need of blocks: what a test of bounds says.
-use Rattle.std.proofs.Common.{◌≡◌, ◌-◌, ◌==◌, ℕ, true, arith}
+-- What the crates above need of blocks: what a test of bounds says, of one block and of a list.
+use Rattle.std.proofs.Common.{◌≡◌, ◌-◌, ◌==◌, ℕ, true, List, subst, arith}
+use Rattle.std.specs.List.{Contains}
 use Rattle.std.proofs.lemmas.Bool.{and_parts, eqb-true}
-use Rattle.heap_core.specs.Blocks.{Span, end_of, has_bounds, start_of}
+use Rattle.std.proofs.lemmas.List.Folds.{Any-from_list_any}
+use Rattle.heap_core.specs.Blocks.{Span, end_of, has_bounds, is_block, start_of}
 
 pub has_bounds-is : (base top : ℕ) (block : Span) → has_bounds base top block ≡ true → (start_of block ≡ base) × (end_of block ≡ top)
 has_bounds-is base top block is =
@@ -13,3 +15,8 @@ the_block base top block is =
     let both = has_bounds-is base top block is in
     let length : block.1 ≡ top - base = omega (arith, both.0, both.1) in
     λ k. (both.0 k, length k)
+
+pub Contains-block : (base top : ℕ) (blocks : List Span) → is_block blocks base top ≡ true → Contains blocks (base, top - base)
+Contains-block base top blocks is =
+    let found = Any-from_list_any (has_bounds base top) blocks is in
+    subst (Contains blocks) (the_block base top found.1 found.4) (found.0, found.2, found.3)

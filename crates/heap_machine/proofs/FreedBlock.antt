@@ -4,10 +4,9 @@ use Rattle.std.specs.Prelude.{All, filter}
 use Rattle.std.specs.List.{Contains}
 use Rattle.std.proofs.lemmas.Bool.{cases_Bool, false_from_ne_true}
 use Rattle.std.proofs.lemmas.List.Elements.{All-contains}
-use Rattle.std.proofs.lemmas.List.Folds.{Any-from_list_any}
 use Rattle.heap_core.specs.Blocks.{IsApart, Span, blocks_with, has_bounds, is_block}
 use Rattle.heap_core.specs.Heap.{HeapState, IsInside, IsSound as IsSoundHeap}
-use Rattle.heap_core.specs.Laws.{has_bounds-is, the_block}
+use Rattle.heap_core.specs.Laws.{Contains-block, the_block}
 use Rattle.heap_core.specs.Quarantine.{freed_of, with_held}
 use Rattle.heap_core.specs.declared.block.Freed.TheVariants as TheFreed
 use Rattle.trace_text.specs.declared.trace.Command.TheVariants.{Free}
@@ -26,16 +25,13 @@ pub one_of_both : (heap : HeapState) (base top : ℕ) → IsSoundHeap heap → i
 one_of_both heap base top sound live =
     false_from_ne_true (is_block heap.held base top)
     (λ held.
-    let a = Any-from_list_any (has_bounds base top) heap.live live in
-    let b = Any-from_list_any (has_bounds base top) heap.held held in
-    let in_live : Contains heap.live a.1 = (a.0, a.2, a.3) in
-    let in_held : Contains heap.held b.1 = (b.0, b.2, b.3) in
-    let inside = All-contains (IsInside heap) heap.live a.1 sound.live_inside in_live in
-    let bounds_a = has_bounds-is base top a.1 a.4 in
-    let bounds_b = has_bounds-is base top b.1 b.4 in
-    elim (All-contains (IsApart a.1) heap.held b.1 (All-contains (λ block. All (IsApart block) heap.held) heap.live a.1 sound.apart in_live) in_held) [
-      | inl before ↦ omega (arith, before, inside.some, bounds_a.0, bounds_a.1, bounds_b.0, bounds_b.1)
-      | inr after ↦ omega (arith, after, inside.some, bounds_a.0, bounds_a.1, bounds_b.0, bounds_b.1)
+    let block : Span = (base, top - base) in
+    let in_live = Contains-block base top heap.live live in
+    let inside = All-contains (IsInside heap) heap.live block sound.live_inside in_live in
+    let apart = All-contains (λ b. All (IsApart b) heap.held) heap.live block sound.apart in_live in
+    elim (All-contains (IsApart block) heap.held block apart (Contains-block base top heap.held held)) [
+      | inl before ↦ omega (arith, before, inside.some)
+      | inr after ↦ omega (arith, after, inside.some)
     ])
 
 -- ---- the blocks

@@ -162,20 +162,10 @@ impl Parts {
         ensures failed { IfErr result (λ trap. first_failed (access (register_at self.now.registers ra) allowed) ≡ Some trap) }
     {
         let (word, tag) = self.registers.get(ra);
-        if !tag {
-            return Err(Trap::Tag);
+        if let Some(trap) = access_fault(word, tag, allowed) {
+            return Err(trap);
         }
-        if !allowed {
-            return Err(Trap::Perm);
-        }
-        let address = fields(word).address;
-        if !bounds(word).hold(address, GRANULE) {
-            return Err(Trap::Bounds);
-        }
-        if !address.is_multiple_of(GRANULE) {
-            return Err(Trap::Align);
-        }
-        Ok(((address - self.memory.base()) / GRANULE) as usize)
+        Ok(((fields(word).address - self.memory.base()) / GRANULE) as usize)
     }
 
     fn store_cap(&mut self, ra: u8, rs: u8) -> Reply
@@ -236,4 +226,24 @@ impl Parts {
         let (word, tag) = self.registers.get(rs);
         Reply::Shown(Shown::of(word, tag))
     }
+}
+
+// The first check that fails of an access to the granule at a word's address, which is allowed so.
+fn access_fault(word: Word, tag: bool, allowed: bool) -> Option<Trap>
+    ensures { result ≡ first_failed (access (word, tag) allowed) }
+{
+    if !tag {
+        return Some(Trap::Tag);
+    }
+    if !allowed {
+        return Some(Trap::Perm);
+    }
+    let address = fields(word).address;
+    if !bounds(word).hold(address, GRANULE) {
+        return Some(Trap::Bounds);
+    }
+    if !address.is_multiple_of(GRANULE) {
+        return Some(Trap::Align);
+    }
+    None
 }
