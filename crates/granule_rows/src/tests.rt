@@ -2,7 +2,6 @@
 
 use crate::row::FreeRow;
 use crate::word::{first_run_of_word, summary_of_word};
-use std::test::Fail;
 
 #[test]
 fn words_are_summed_up(rt: HostRuntime) {
@@ -28,8 +27,8 @@ fn words_are_summed_up(rt: HostRuntime) {
 }
 
 #[test]
-fn runs_are_found(rt: HostRuntime) -> Result<(), Fail> {
-    let mut row = FreeRow::new(rt.alloc(), 5)?;
+fn runs_are_found(rt: HostRuntime) {
+    let mut row = FreeRow::new(rt.alloc(), 5).expect(&rt, "there is memory");
     assert_eq!(rt; row.granules(), 512);
     assert_eq!(rt; row.first_run(1), None);
     row.give(3, 2);
@@ -60,5 +59,4 @@ fn runs_are_found(rt: HostRuntime) -> Result<(), Fail> {
     assert_eq!(rt; row.first_run(11), Some(192));
     row.give_words(&[1, 0, u64::MAX, 0], 1, 4);
     assert_eq!(rt; row.first_run(200), Some(120));
-    Ok(())
 }

@@ -2,10 +2,9 @@
 
 use crate::{Reply, Shown, Trap};
 use cap_codec::{Word, and_perms, block_capability};
-use std::test::Fail;
 
 #[test]
-fn replies_by_their_texts(rt: HostRuntime) -> Result<(), Fail> {
+fn replies_by_their_texts(rt: HostRuntime) {
     let block = Reply::Block {
         base: 0x4000_0000,
         top: 0x4000_0020,
@@ -28,14 +27,13 @@ fn replies_by_their_texts(rt: HostRuntime) -> Result<(), Fail> {
         (swept, "cleared 3 released 32"),
     ];
     for (reply, text) in texts {
-        let printed = format!(in rt.alloc(); "{reply}")?;
+        let printed = format!(in rt.alloc(); "{reply}").expect(&rt, "there is memory");
         assert_eq!(rt; printed.as_str(), text);
     }
-    Ok(())
 }
 
 #[test]
-fn traps_by_their_names(rt: HostRuntime) -> Result<(), Fail> {
+fn traps_by_their_names(rt: HostRuntime) {
     let names = [
         (Trap::Tag, "trap tag"),
         (Trap::Perm, "trap perm"),
@@ -48,14 +46,13 @@ fn traps_by_their_names(rt: HostRuntime) -> Result<(), Fail> {
     ];
     for (trap, text) in names {
         let reply = Reply::Trap(trap);
-        let printed = format!(in rt.alloc(); "{reply}")?;
+        let printed = format!(in rt.alloc(); "{reply}").expect(&rt, "there is memory");
         assert_eq!(rt; printed.as_str(), text);
     }
-    Ok(())
 }
 
 #[test]
-fn registers_are_shown(rt: HostRuntime) -> Result<(), Fail> {
+fn registers_are_shown(rt: HostRuntime) {
     let block = block_capability(0x4000_0000, 0x4000_0020);
     let shown = [
         (
@@ -73,8 +70,7 @@ fn registers_are_shown(rt: HostRuntime) -> Result<(), Fail> {
     ];
     for (shown, text) in shown {
         let reply = Reply::Shown(shown);
-        let printed = format!(in rt.alloc(); "{reply}")?;
+        let printed = format!(in rt.alloc(); "{reply}").expect(&rt, "there is memory");
         assert_eq!(rt; printed.as_str(), text);
     }
-    Ok(())
 }

@@ -2,7 +2,6 @@
 
 use crate::{Board, BoardFault};
 use std::process::Abort;
-use std::test::Fail;
 
 mod threads;
 
@@ -27,17 +26,16 @@ fn faults_are_told(rt: HostRuntime) {
 }
 
 #[test]
-fn faults_by_their_names(rt: HostRuntime) -> Result<(), Fail> {
+fn faults_by_their_names(rt: HostRuntime) {
     let cases = [
         (BoardFault::Memory, "Memory"),
         (BoardFault::BadSize, "BadSize"),
         (BoardFault::BadParts, "BadParts"),
     ];
     for (fault, name) in cases {
-        let message = format!(in rt.alloc(); "{fault}")?;
+        let message = format!(in rt.alloc(); "{fault}").expect(&rt, "there is memory");
         assert_eq!(rt; message.as_str(), name);
     }
-    Ok(())
 }
 
 #[test]

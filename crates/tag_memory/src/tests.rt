@@ -2,7 +2,6 @@
 
 use crate::{Memory, MemoryFault, Registers};
 use cap_codec::Word;
-use std::test::Fail;
 
 #[test]
 fn spans_are_judged(rt: HostRuntime) {
@@ -19,26 +18,27 @@ fn spans_are_judged(rt: HostRuntime) {
 }
 
 #[test]
-fn granules_are_written(rt: HostRuntime) -> Result<(), Fail> {
-    let mut memory = Memory::new(rt.alloc(), 0xffff_ffff_ffff_f000, 1)?;
+fn granules_are_written(rt: HostRuntime) {
+    let mut memory = Memory::new(rt.alloc(), 0xffff_ffff_ffff_f000, 1).expect(
+        &rt,
+        "there is memory",
+    );
     assert_eq!(rt; (memory.base(), memory.pages()), (0xffff_ffff_ffff_f000, 1));
     assert_eq!(rt; memory.granules(), 256);
     memory.put(65, 5, true);
     assert_eq!(rt; memory.cell(65), (5, true));
     assert_eq!(rt; memory.cell(64), (0, false));
-    Ok(())
 }
 
 #[test]
-fn tags_are_packed(rt: HostRuntime) -> Result<(), Fail> {
-    let mut memory = Memory::new(rt.alloc(), 0, 1)?;
+fn tags_are_packed(rt: HostRuntime) {
+    let mut memory = Memory::new(rt.alloc(), 0, 1).expect(&rt, "there is memory");
     memory.put(65, 5, true);
     assert_eq!(rt; memory.tag_word(1), 2);
     memory.clear_tags(&[0, 1, 0, 0]);
     assert_eq!(rt; memory.tag_word(1), 2);
     memory.clear_tags(&[0, 2, 0, 0]);
     assert_eq!(rt; memory.cell(65), (5, false));
-    Ok(())
 }
 
 #[test]
@@ -60,17 +60,16 @@ fn registers_are_written(rt: HostRuntime) {
 }
 
 #[test]
-fn faults_by_their_names(rt: HostRuntime) -> Result<(), Fail> {
+fn faults_by_their_names(rt: HostRuntime) {
     let cases = [
         (MemoryFault::Memory, "Memory"),
         (MemoryFault::BadBase, "BadBase"),
         (MemoryFault::BadSize, "BadSize"),
     ];
     for (fault, name) in cases {
-        let message = format!(in rt.alloc(); "{fault}")?;
+        let message = format!(in rt.alloc(); "{fault}").expect(&rt, "there is memory");
         assert_eq!(rt; message.as_str(), name);
     }
-    Ok(())
 }
 
 // Run with each allocation refused in turn, too.

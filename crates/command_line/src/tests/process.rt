@@ -5,7 +5,6 @@ use crate::process::arguments;
 use std::alloc::Global;
 use std::env::FillError;
 use std::rt::Env;
-use std::test::Fail;
 
 // A process with these arguments, as bytes.
 #[derive(Drop)]
@@ -46,29 +45,29 @@ impl Env for Process<'_> {
 const HEX: &str = "00000040000000000480090400003d00";
 
 #[test]
-fn a_name_that_is_no_text_is_no_wrong_word(rt: HostRuntime) -> Result<(), Fail> {
+fn a_name_that_is_no_text_is_no_wrong_word(rt: HostRuntime) {
     let names: [&[u8]; 4] = [b"\xff", b"/usr/bin/\xc3\x28", b"", b"heap_tool"];
     for name in names {
         let process = Process {
             alloc: rt.alloc(),
             words: &[name, b"word", HEX.as_bytes()],
         };
-        let arguments = arguments(&process)?;
+        let arguments = arguments(&process).expect(&rt, "there is memory");
         let words: Vec<&str> = arguments
             .iter()
             .map(|word| word.as_str())
-            .collect(rt.alloc())?;
+            .collect(rt.alloc())
+            .expect(&rt, "there is memory");
         assert_eq!(rt;
             words.as_slice(),
             ["heap_tool", "word", HEX].as_slice(),
             "started as {name:?}"
         );
-        match asked_by(rt.alloc(), &words)? {
+        match asked_by(rt.alloc(), &words).expect(&rt, "there is memory") {
             Asked::Word(hex) => assert_eq!(rt; hex, HEX),
             Asked::Run(options) => panic!(rt; "a run with {options:?}"),
         }
     }
-    Ok(())
 }
 
 #[test]
@@ -91,22 +90,22 @@ fn another_word_that_is_no_text_is_refused(rt: HostRuntime) {
 }
 
 #[test]
-fn without_arguments_the_name_is_the_only_word(rt: HostRuntime) -> Result<(), Fail> {
+fn without_arguments_the_name_is_the_only_word(rt: HostRuntime) {
     let process = Process {
         alloc: rt.alloc(),
         words: &[],
     };
-    let arguments = arguments(&process)?;
+    let arguments = arguments(&process).expect(&rt, "there is memory");
     let words: Vec<&str> = arguments
         .iter()
         .map(|word| word.as_str())
-        .collect(rt.alloc())?;
+        .collect(rt.alloc())
+        .expect(&rt, "there is memory");
     assert_eq!(rt; words.as_slice(), ["heap_tool"].as_slice());
     match asked_by(rt.alloc(), &words) {
         Ok(_) => panic!(rt; "something is asked for"),
         Err(refusal) => assert_eq!(rt; refusal, Refusal::Words),
     }
-    Ok(())
 }
 
 // Run with each allocation refused in turn, too.

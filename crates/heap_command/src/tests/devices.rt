@@ -4,7 +4,6 @@ ghost use Rattle.std.specs.Prelude.{◌≡◌, ◌≤◌, Some, false};
 
 use crate::devices::{Failed, FromRead, FromWrite, Sink, Source, send};
 use std::io;
-use std::test::Fail;
 
 /// A reader that fails at once.
 #[derive(Drop)]
@@ -168,17 +167,16 @@ impl io::Write for Full<'_> {
 }
 
 #[test]
-fn devices_of_the_standard_library_are_wrapped(rt: HostRuntime) -> Result<(), Fail> {
+fn devices_of_the_standard_library_are_wrapped(rt: HostRuntime) {
     let mut reader = FromRead::new(Full { rest: b"abc" });
     let mut bytes = [0; 2];
-    assert_eq!(rt; reader.read(&mut bytes)?, 2);
+    assert_eq!(rt; reader.read(&mut bytes).expect(&rt, "there is memory"), 2);
     assert_eq!(rt; bytes, *b"ab");
     assert!(rt; !reader.has_failed());
     let mut writer = FromWrite::new(Full { rest: b"" });
     assert_eq!(rt; writer.write(b""), Ok(0));
     assert_eq!(rt; send(&mut writer, b"a"), Err(Failed));
     assert!(rt; writer.has_failed());
-    let name = format!(in rt.alloc(); "{Failed}")?;
+    let name = format!(in rt.alloc(); "{Failed}").expect(&rt, "there is memory");
     assert_eq!(rt; name.as_str(), "Failed");
-    Ok(())
 }

@@ -1,13 +1,12 @@
 //! A machine, command by command.
 
 use crate::{Machine, MachineFault, Reply};
-use std::test::Fail;
 use sweep_pool::{Cutting, Open};
 use trace_text::Command;
 
 #[test]
-fn a_machine_does_one_command_after_another(rt: HostRuntime) -> Result<(), Fail> {
-    let cutting = Cutting::new(64, 256)?;
+fn a_machine_does_one_command_after_another(rt: HostRuntime) {
+    let cutting = Cutting::new(64, 256).expect(&rt, "it is a cutting");
     let alloc = rt.alloc();
     let faults = [
         (8, 0, MachineFault::BadSize),
@@ -20,7 +19,7 @@ fn a_machine_does_one_command_after_another(rt: HostRuntime) -> Result<(), Fail>
             Some(fault)
         );
     }
-    let mut machine = Machine::new(alloc, 0x1000, 1, cutting).map_err(|_| "there is memory")?;
+    let mut machine = Machine::new(alloc, 0x1000, 1, cutting).expect(&rt, "there is memory");
     let reply = machine.step(&rt, alloc, Command::Malloc { rd: 7, size: 17 }, &Open);
     assert_eq!(rt;
         reply,
@@ -43,19 +42,17 @@ fn a_machine_does_one_command_after_another(rt: HostRuntime) -> Result<(), Fail>
         (machine.registers().tagged(), machine.memory().tagged()),
         (1, 0)
     );
-    Ok(())
 }
 
 #[test]
-fn faults_by_their_names(rt: HostRuntime) -> Result<(), Fail> {
+fn faults_by_their_names(rt: HostRuntime) {
     let cases = [
         (MachineFault::Memory, "Memory"),
         (MachineFault::BadBase, "BadBase"),
         (MachineFault::BadSize, "BadSize"),
     ];
     for (fault, name) in cases {
-        let message = format!(in rt.alloc(); "{fault}")?;
+        let message = format!(in rt.alloc(); "{fault}").expect(&rt, "there is memory");
         assert_eq!(rt; message.as_str(), name);
     }
-    Ok(())
 }

@@ -5,13 +5,12 @@ use std::alloc::Global;
 use std::process::Abort;
 use std::sync::atomic::AtomicU64;
 use std::sync::atomic::Ordering::SeqCst;
-use std::test::Fail;
-use std::thread::Threads;
+use std::thread::{Threads, yield_now};
 use sweep_pool::{Cutting, Gate, Open};
 use trace_text::Command;
 
 // A gate that counts its calls and adds up its tasks. Its first call waits until so many calls have come,
-// for at most 100,000,000 turns.
+// for at most 10,000,000 turns, after each of which others may run.
 #[derive(Drop)]
 struct Count {
     calls: AtomicU64,
@@ -30,10 +29,11 @@ impl Count {
 
     // Whether so many calls have come within so many turns.
     fn waits(&self) -> bool {
-        for _ in 0..100_000_000u32 {
+        for _ in 0..10_000_000u32 {
             if self.calls.load(SeqCst) >= self.awaited {
                 return true;
             }
+            yield_now();
         }
         false
     }
@@ -70,21 +70,23 @@ const SWEPT: Reply = Reply::Swept {
 };
 
 #[test]
-fn a_sweep_of_many_tags_is_shared(rt: HostRuntime) -> Result<(), Fail> {
-    let mut machine = crowded_machine(&rt, rt.alloc())?;
+fn a_sweep_of_many_tags_is_shared(rt: HostRuntime) {
+    let mut machine = crowded_machine(&rt, rt.alloc()).expect(&rt, "there is memory");
     let gate = Count::of(2);
     let reply = machine.step(&rt, rt.alloc(), Command::Sweep, &gate);
     assert_eq!(rt; reply, Ok(SWEPT));
     assert_eq!(rt; gate.calls.load(SeqCst), 130);
     assert_eq!(rt; gate.tasks.load(SeqCst), 130 * 129 / 2);
     assert_eq!(rt; machine.memory().tagged(), 32_999);
-    Ok(())
 }
 
 #[test]
-fn a_sweep_where_nothing_is_held_has_no_task(rt: HostRuntime) -> Result<(), Fail> {
-    let cutting = Cutting::new(1, 1)?;
-    let mut machine = Machine::new(rt.alloc(), 0x4000_0000, 2, cutting)?;
+fn a_sweep_where_nothing_is_held_has_no_task(rt: HostRuntime) {
+    let cutting = Cutting::new(1, 1).expect(&rt, "it is a cutting");
+    let mut machine = Machine::new(rt.alloc(), 0x4000_0000, 2, cutting).expect(
+        &rt,
+        "there is memory",
+    );
     let gate = Count::of(0);
     for (command, calls) in [
         (Command::Malloc { rd: 1, size: 16 }, 0),
@@ -93,18 +95,18 @@ fn a_sweep_where_nothing_is_held_has_no_task(rt: HostRuntime) -> Result<(), Fail
         (Command::Sweep, 2),
         (Command::Sweep, 2),
     ] {
-        let _ = machine.step(&rt, rt.alloc(), command, &gate)?;
+        let _ = machine
+            .step(&rt, rt.alloc(), command, &gate)
+            .expect(&rt, "there is memory");
         assert_eq!(rt; gate.calls.load(SeqCst), calls);
     }
-    Ok(())
 }
 
 // Whichever threads are refused, a sweep is the same.
 #[test]
-fn a_refused_thread_of_a_sweep_changes_nothing(rt: HostRuntime) -> Result<(), Fail> {
-    let mut machine = crowded_machine(&rt, rt.alloc())?;
+fn a_refused_thread_of_a_sweep_changes_nothing(rt: HostRuntime) {
+    let mut machine = crowded_machine(&rt, rt.alloc()).expect(&rt, "there is memory");
     let reply = machine.step(&rt, rt.alloc(), Command::Sweep, &Open);
     assert_eq!(rt; reply, Ok(SWEPT));
     assert_eq!(rt; machine.memory().tagged(), 32_999);
-    Ok(())
 }

@@ -2,7 +2,6 @@
 
 use crate::{Outcome, RunFault, TraceFault, image_text, run};
 use std::alloc::Global;
-use std::test::Fail;
 use std::thread::Threads;
 use sweep_pool::Cutting;
 
@@ -44,9 +43,9 @@ pub fn answer<R: Threads + Sync>(rt: &R, alloc: Global, text: &str) -> Result<Ou
 }
 
 #[test]
-fn traces_are_run(rt: HostRuntime) -> Result<(), Fail> {
+fn traces_are_run(rt: HostRuntime) {
     for (text, report) in REPORTS {
-        let outcome = answer(&rt, rt.alloc(), text).map_err(|_| "it is a trace")?;
+        let outcome = answer(&rt, rt.alloc(), text).expect(&rt, "it is a trace");
         assert_eq!(rt; outcome.report.as_slice(), report.as_bytes(), "{text:?}");
         assert_eq!(rt;
             (outcome.memory.base(), outcome.memory.pages()),
@@ -54,7 +53,6 @@ fn traces_are_run(rt: HostRuntime) -> Result<(), Fail> {
         );
         assert_eq!(rt; outcome.memory.tagged(), 0);
     }
-    Ok(())
 }
 
 // Traces of derived capabilities, and of blocks of more than 4,080 bytes.
@@ -174,12 +172,11 @@ end live 32 held 0 free 4064 tags 1
 ];
 
 #[test]
-fn derived_capabilities_are_shown(rt: HostRuntime) -> Result<(), Fail> {
+fn derived_capabilities_are_shown(rt: HostRuntime) {
     for (text, report) in DERIVED {
-        let outcome = answer(&rt, rt.alloc(), text).map_err(|_| "it is a trace")?;
+        let outcome = answer(&rt, rt.alloc(), text).expect(&rt, "it is a trace");
         assert_eq!(rt; outcome.report.as_slice(), report.as_bytes(), "{text:?}");
     }
-    Ok(())
 }
 
 // Stores and loads, with each of their traps.
@@ -216,13 +213,12 @@ end live 32 held 0 free 4064 tags 3
 ";
 
 #[test]
-fn stores_and_loads_ask_for_permission(rt: HostRuntime) -> Result<(), Fail> {
-    let outcome = answer(&rt, rt.alloc(), STORES).map_err(|_| "it is a trace")?;
+fn stores_and_loads_ask_for_permission(rt: HostRuntime) {
+    let outcome = answer(&rt, rt.alloc(), STORES).expect(&rt, "it is a trace");
     assert_eq!(rt; outcome.report.as_slice(), STORES_REPORT.as_bytes());
-    let image = image_text(rt.alloc(), &outcome.memory).map_err(|_| "there is memory")?;
+    let image = image_text(rt.alloc(), &outcome.memory).expect(&rt, "there is memory");
     let line = "0x40000000 0 000102030405060708090a0b0c0d0e0f\n";
     assert_eq!(rt; image.as_slice(), line.as_bytes());
-    Ok(())
 }
 
 // A capability goes through memory whole, and a write over it takes its tag.
@@ -261,11 +257,10 @@ end live 96 held 0 free 4000 tags 5
 ";
 
 #[test]
-fn capabilities_go_through_memory(rt: HostRuntime) -> Result<(), Fail> {
-    let outcome = answer(&rt, rt.alloc(), THROUGH_MEMORY).map_err(|_| "it is a trace")?;
+fn capabilities_go_through_memory(rt: HostRuntime) {
+    let outcome = answer(&rt, rt.alloc(), THROUGH_MEMORY).expect(&rt, "it is a trace");
     assert_eq!(rt; outcome.report.as_slice(), THROUGH_MEMORY_REPORT.as_bytes());
     assert_eq!(rt; outcome.memory.tagged(), 0);
-    Ok(())
 }
 
 #[test]
@@ -291,16 +286,15 @@ fn faulty_traces_are_not_run(rt: HostRuntime) {
 }
 
 #[test]
-fn faults_by_their_names(rt: HostRuntime) -> Result<(), Fail> {
+fn faults_by_their_names(rt: HostRuntime) {
     let cases = [
         (RunFault::Memory, "Memory"),
         (RunFault::Trace(TraceFault::NoHeap(1)), "Trace"),
     ];
     for (fault, name) in cases {
-        let message = format!(in rt.alloc(); "{fault}")?;
+        let message = format!(in rt.alloc(); "{fault}").expect(&rt, "there is memory");
         assert_eq!(rt; message.as_str(), name);
     }
-    Ok(())
 }
 
 #[test]

@@ -2,7 +2,6 @@
 
 use crate::tests::runs::answer;
 use crate::{RunFault, image_text};
-use std::test::Fail;
 
 // Traces with the reports of their runs.
 const SWEEPS: [(&str, &str); 4] = [
@@ -105,21 +104,19 @@ end live 0 held 0 free 4096 tags 0
 const IMAGE: &str = "0x40000000 1 20000040000000002480110400003d00\n";
 
 #[test]
-fn sweeps_are_reported(rt: HostRuntime) -> Result<(), Fail> {
+fn sweeps_are_reported(rt: HostRuntime) {
     for (text, report) in SWEEPS {
-        let outcome = answer(&rt, rt.alloc(), text).map_err(|_| "it is a trace")?;
+        let outcome = answer(&rt, rt.alloc(), text).expect(&rt, "it is a trace");
         assert_eq!(rt; outcome.report.as_slice(), report.as_bytes(), "{text:?}");
     }
-    Ok(())
 }
 
 #[test]
-fn a_sweep_leaves_contents_alone(rt: HostRuntime) -> Result<(), Fail> {
+fn a_sweep_leaves_contents_alone(rt: HostRuntime) {
     let (text, _) = SWEEPS[2];
-    let outcome = answer(&rt, rt.alloc(), text).map_err(|_| "it is a trace")?;
-    let image = image_text(rt.alloc(), &outcome.memory)?;
+    let outcome = answer(&rt, rt.alloc(), text).expect(&rt, "it is a trace");
+    let image = image_text(rt.alloc(), &outcome.memory).expect(&rt, "there is memory");
     assert_eq!(rt; image.as_slice(), IMAGE.as_bytes());
-    Ok(())
 }
 
 // The same trace, with each allocation refused in turn.

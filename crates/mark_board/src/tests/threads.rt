@@ -15,8 +15,8 @@ const WORDS: usize = 64;
 
 const ALL: u64 = u64::MAX;
 
-// How many turns a thread waits for another.
-const TURNS: u32 = 100_000_000;
+// How many turns a thread waits for another; after each of them others may run.
+const TURNS: u32 = 10_000_000;
 
 // An order in which a thread goes through all words: from one on, by steps of an odd number.
 #[derive(Clone, Copy)]
@@ -121,6 +121,7 @@ fn meet(board: &Board, mut seat: MarkSeat, own: u64, other: u64) -> (MarkSeat, b
         if board.read(&mut seat, 0) & other != 0 {
             return (seat, true);
         }
+        thread::yield_now();
     }
     (seat, false)
 }

@@ -4,7 +4,7 @@ use super::{BASE, held_shadow};
 use crate::{Cutting, Gate, sweep_masks};
 use std::sync::atomic::Ordering::SeqCst;
 use std::sync::atomic::{AtomicBool, AtomicU64};
-use std::test::Fail;
+use std::thread::yield_now;
 use tag_memory::Memory;
 
 // How often it was told of each of the tasks 0 to 6, and of others as if of 7, a byte a task; and the tasks
@@ -26,22 +26,24 @@ impl Gate for Tally {
 }
 
 #[test]
-fn a_gate_is_told_of_each_task_once(rt: HostRuntime) -> Result<(), Fail> {
-    let memory = Memory::new(rt.alloc(), BASE, 7)?;
-    let shadow = held_shadow(rt.alloc())?;
+fn a_gate_is_told_of_each_task_once(rt: HostRuntime) {
+    let memory = Memory::new(rt.alloc(), BASE, 7).expect(&rt, "there is memory");
+    let shadow = held_shadow(rt.alloc()).expect(&rt, "there is memory");
     for workers in [1, 3, 64] {
-        let cutting = Cutting::new(workers, 2)?;
+        let cutting = Cutting::new(workers, 2).expect(&rt, "it is a cutting");
         let gate = Tally {
             counts: AtomicU64::new(0),
             order: AtomicU64::new(0),
         };
-        let _ = sweep_masks(&rt, rt.alloc(), &memory, &shadow, &cutting, &gate)?;
+        let _ = sweep_masks(&rt, rt.alloc(), &memory, &shadow, &cutting, &gate).expect(
+            &rt,
+            "there is memory",
+        );
         assert_eq!(rt; gate.counts.load(SeqCst), 0x0101_0101, "{workers} workers");
         if workers == 1 {
             assert_eq!(rt; gate.order.load(SeqCst), 0x1234);
         }
     }
-    Ok(())
 }
 
 // Counts the calls that are inside it at once, and keeps the most; each stays for 1,000,000 turns.
@@ -63,26 +65,29 @@ impl Gate for Crowd {
 }
 
 #[test]
-fn no_more_workers_than_the_cutting_has(rt: HostRuntime) -> Result<(), Fail> {
-    let memory = Memory::new(rt.alloc(), BASE, 16)?;
-    let shadow = held_shadow(rt.alloc())?;
+fn no_more_workers_than_the_cutting_has(rt: HostRuntime) {
+    let memory = Memory::new(rt.alloc(), BASE, 16).expect(&rt, "there is memory");
+    let shadow = held_shadow(rt.alloc()).expect(&rt, "there is memory");
     for workers in [1, 2, 3] {
-        let cutting = Cutting::new(workers, 1)?;
+        let cutting = Cutting::new(workers, 1).expect(&rt, "it is a cutting");
         let gate = Crowd {
             inside: AtomicU64::new(0),
             most: AtomicU64::new(0),
         };
-        let _ = sweep_masks(&rt, rt.alloc(), &memory, &shadow, &cutting, &gate)?;
+        let _ = sweep_masks(&rt, rt.alloc(), &memory, &shadow, &cutting, &gate).expect(
+            &rt,
+            "there is memory",
+        );
         let most = gate.most.load(SeqCst);
         assert!(rt;
             1 <= most && most <= u64::from(workers),
             "{most} of {workers} workers"
         );
     }
-    Ok(())
 }
 
-// A gate whose first call waits until so many calls have come, for at most 100,000,000 turns.
+// A gate whose first call waits until so many calls have come, for at most
+// 10,000,000 turns, after each of which others may run.
 #[derive(Drop)]
 struct Meeting {
     calls: AtomicU64,
@@ -105,32 +110,35 @@ impl Gate for Meeting {
         if self.calls.fetch_add(1, SeqCst) != 0 {
             return;
         }
-        for _ in 0..100_000_000u32 {
+        for _ in 0..10_000_000u32 {
             if self.calls.load(SeqCst) >= self.wanted {
                 self.met.store(true, SeqCst);
                 return;
             }
+            yield_now();
         }
     }
 }
 
 #[test]
-fn two_workers_meet(rt: HostRuntime) -> Result<(), Fail> {
-    let memory = Memory::new(rt.alloc(), BASE, 2)?;
-    let shadow = held_shadow(rt.alloc())?;
-    let cutting = Cutting::new(2, 1)?;
+fn two_workers_meet(rt: HostRuntime) {
+    let memory = Memory::new(rt.alloc(), BASE, 2).expect(&rt, "there is memory");
+    let shadow = held_shadow(rt.alloc()).expect(&rt, "there is memory");
+    let cutting = Cutting::new(2, 1).expect(&rt, "it is a cutting");
     for run in 0..100 {
         let gate = Meeting::of(2);
-        let masks = sweep_masks(&rt, rt.alloc(), &memory, &shadow, &cutting, &gate)?;
+        let masks = sweep_masks(&rt, rt.alloc(), &memory, &shadow, &cutting, &gate).expect(
+            &rt,
+            "there is memory",
+        );
         assert!(rt; gate.met.load(SeqCst), "run {run}");
         assert_eq!(rt; gate.calls.load(SeqCst), 2, "run {run}");
         assert_eq!(rt; masks.as_slice(), [0; 8].as_slice());
     }
-    Ok(())
 }
 
 // Keeps the tasks of its first two calls, each as a bit. The first waits for the second, for at most
-// 100,000,000 turns.
+// 10,000,000 turns, as above.
 #[derive(Drop)]
 struct Beginnings {
     calls: AtomicU64,
@@ -147,41 +155,46 @@ impl Gate for Beginnings {
         if call != 0 {
             return;
         }
-        for _ in 0..100_000_000u32 {
+        for _ in 0..10_000_000u32 {
             if self.calls.load(SeqCst) >= 2 {
                 return;
             }
+            yield_now();
         }
     }
 }
 
 #[test]
-fn each_worker_begins_with_a_task_of_its_own(rt: HostRuntime) -> Result<(), Fail> {
-    let memory = Memory::new(rt.alloc(), BASE, 8)?;
-    let shadow = held_shadow(rt.alloc())?;
-    let cutting = Cutting::new(2, 1)?;
+fn each_worker_begins_with_a_task_of_its_own(rt: HostRuntime) {
+    let memory = Memory::new(rt.alloc(), BASE, 8).expect(&rt, "there is memory");
+    let shadow = held_shadow(rt.alloc()).expect(&rt, "there is memory");
+    let cutting = Cutting::new(2, 1).expect(&rt, "it is a cutting");
     for run in 0..100 {
         let gate = Beginnings {
             calls: AtomicU64::new(0),
             tasks: AtomicU64::new(0),
         };
-        let _ = sweep_masks(&rt, rt.alloc(), &memory, &shadow, &cutting, &gate)?;
+        let _ = sweep_masks(&rt, rt.alloc(), &memory, &shadow, &cutting, &gate).expect(
+            &rt,
+            "there is memory",
+        );
         assert_eq!(rt; gate.tasks.load(SeqCst), 0x11, "run {run}");
     }
-    Ok(())
 }
 
 #[test]
-fn a_held_worker_leaves_its_tasks_to_others(rt: HostRuntime) -> Result<(), Fail> {
-    let memory = Memory::new(rt.alloc(), BASE, 8)?;
-    let shadow = held_shadow(rt.alloc())?;
-    let cutting = Cutting::new(2, 1)?;
+fn a_held_worker_leaves_its_tasks_to_others(rt: HostRuntime) {
+    let memory = Memory::new(rt.alloc(), BASE, 8).expect(&rt, "there is memory");
+    let shadow = held_shadow(rt.alloc()).expect(&rt, "there is memory");
+    let cutting = Cutting::new(2, 1).expect(&rt, "it is a cutting");
     for run in 0..100 {
         let gate = Meeting::of(8);
-        let masks = sweep_masks(&rt, rt.alloc(), &memory, &shadow, &cutting, &gate)?;
+        let masks = sweep_masks(&rt, rt.alloc(), &memory, &shadow, &cutting, &gate).expect(
+            &rt,
+            "there is memory",
+        );
         assert!(rt; gate.met.load(SeqCst), "run {run}");
         assert_eq!(rt; gate.calls.load(SeqCst), 8, "run {run}");
         assert_eq!(rt; masks.as_slice(), [0; 32].as_slice());
     }
-    Ok(())
 }

@@ -7,7 +7,6 @@ use crate::{Cutting, Open, SweepFault, Swept, sweep_masks, sweep_next, sweep_tas
 use heap_core::Shadow;
 use mark_board::Board;
 use std::alloc::Global;
-use std::test::Fail;
 use tag_memory::Memory;
 
 // The memory of seven pages and the shadow, unless an allocation was refused.
@@ -18,36 +17,34 @@ fn swept_things(alloc: Global) -> Option<(Memory, Shadow)> {
 }
 
 #[test]
-fn a_refused_allocation_of_a_sweep_by_one_is_told(rt: HostRuntime) -> Result<(), Fail> {
-    let cutting = Cutting::new(1, 3)?;
+fn a_refused_allocation_of_a_sweep_by_one_is_told(rt: HostRuntime) {
+    let cutting = Cutting::new(1, 3).expect(&rt, "it is a cutting");
     let Some((memory, shadow)) = swept_things(rt.alloc()) else {
-        return Ok(());
+        return;
     };
     match sweep_masks(&rt, rt.alloc(), &memory, &shadow, &cutting, &Open) {
         Ok(masks) => assert_eq!(rt; masks.as_slice(), WANTED.as_slice()),
         Err(fault) => assert_eq!(rt; fault, SweepFault::Memory),
     }
-    Ok(())
 }
 
 #[test]
-fn a_refused_allocation_of_a_sweep_by_two_is_told(rt: HostRuntime) -> Result<(), Fail> {
-    let cutting = Cutting::new(2, 3)?;
+fn a_refused_allocation_of_a_sweep_by_two_is_told(rt: HostRuntime) {
+    let cutting = Cutting::new(2, 3).expect(&rt, "it is a cutting");
     let Some((memory, shadow)) = swept_things(rt.alloc()) else {
-        return Ok(());
+        return;
     };
     match sweep_masks(&rt, rt.alloc(), &memory, &shadow, &cutting, &Open) {
         Ok(masks) => assert_eq!(rt; masks.as_slice(), WANTED.as_slice()),
         Err(fault) => assert_eq!(rt; fault, SweepFault::Memory),
     }
-    Ok(())
 }
 
 #[test]
-fn a_refused_allocation_of_a_task_is_told(rt: HostRuntime) -> Result<(), Fail> {
-    let cutting = Cutting::new(2, 3)?;
+fn a_refused_allocation_of_a_task_is_told(rt: HostRuntime) {
+    let cutting = Cutting::new(2, 3).expect(&rt, "it is a cutting");
     let Some((memory, shadow)) = swept_things(rt.alloc()) else {
-        return Ok(());
+        return;
     };
     assert!(rt; cutting.tasks(memory.pages()) > 2);
     match sweep_task(rt.alloc(), &memory, &shadow, &cutting, 2) {
@@ -57,23 +54,22 @@ fn a_refused_allocation_of_a_task_is_told(rt: HostRuntime) -> Result<(), Fail> {
         }
         Err(fault) => assert_eq!(rt; fault, SweepFault::Memory),
     }
-    Ok(())
 }
 
 // A refused claim leaves task 0 unmarked.
 #[test]
-fn a_refused_allocation_of_a_claim_leaves_the_task(rt: HostRuntime) -> Result<(), Fail> {
-    let cutting = Cutting::new(1, 1)?;
+fn a_refused_allocation_of_a_claim_leaves_the_task(rt: HostRuntime) {
+    let cutting = Cutting::new(1, 1).expect(&rt, "it is a cutting");
     let Ok(memory) = Memory::new(rt.alloc(), BASE, 2) else {
-        return Ok(());
+        return;
     };
     let Ok(shadow) = held_shadow(rt.alloc()) else {
-        return Ok(());
+        return;
     };
     let tasks = cutting.tasks(memory.pages());
     assert!(rt; tasks == 2);
     let Ok((board, mut seat)) = Board::new(rt.alloc(), 2, 1) else {
-        return Ok(());
+        return;
     };
     match sweep_next(rt.alloc(), &board, &mut seat, &memory, &shadow, &cutting, 0) {
         Ok(next) => {
@@ -85,15 +81,16 @@ fn a_refused_allocation_of_a_claim_leaves_the_task(rt: HostRuntime) -> Result<()
             assert_eq!(rt; board.mark(&mut seat, 0, 1), 1);
         }
     }
-    Ok(())
 }
 
 #[test]
-fn a_refused_thread_of_a_sweep_changes_nothing(rt: HostRuntime) -> Result<(), Fail> {
-    let cutting = Cutting::new(4, 1)?;
-    let memory = tagged_memory(rt.alloc())?;
-    let shadow = held_shadow(rt.alloc())?;
-    let masks = sweep_masks(&rt, rt.alloc(), &memory, &shadow, &cutting, &Open)?;
+fn a_refused_thread_of_a_sweep_changes_nothing(rt: HostRuntime) {
+    let cutting = Cutting::new(4, 1).expect(&rt, "it is a cutting");
+    let memory = tagged_memory(rt.alloc()).expect(&rt, "there is memory");
+    let shadow = held_shadow(rt.alloc()).expect(&rt, "there is memory");
+    let masks = sweep_masks(&rt, rt.alloc(), &memory, &shadow, &cutting, &Open).expect(
+        &rt,
+        "there is memory",
+    );
     assert_eq!(rt; masks.as_slice(), WANTED.as_slice());
-    Ok(())
 }

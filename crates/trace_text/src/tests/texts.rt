@@ -2,7 +2,6 @@
 
 use crate::{Command, Trace, TraceFault, parse};
 use std::alloc::{AllocError, Global};
-use std::test::Fail;
 
 #[test]
 fn texts_without_a_heap_line(rt: HostRuntime) {
@@ -46,7 +45,7 @@ fn after_heap(alloc: Global, lines: &[u8]) -> Result<Result<Trace, TraceFault>, 
 }
 
 #[test]
-fn command_lines_with_a_fault(rt: HostRuntime) -> Result<(), Fail> {
+fn command_lines_with_a_fault(rt: HostRuntime) {
     let cases = [
         ("frob", TraceFault::BadCommand(2)),
         ("MALLOC c1 16", TraceFault::BadCommand(2)),
@@ -96,40 +95,43 @@ fn command_lines_with_a_fault(rt: HostRuntime) -> Result<(), Fail> {
         ),
     ];
     for (line, fault) in cases {
-        let answer = after_heap(rt.alloc(), line.as_bytes())?.err();
+        let answer = after_heap(rt.alloc(), line.as_bytes())
+            .expect(&rt, "there is memory")
+            .err();
         assert_eq!(rt; answer, Some(fault), "{line:?}");
     }
-    Ok(())
 }
 
 #[test]
-fn the_first_faulty_line_decides(rt: HostRuntime) -> Result<(), Fail> {
+fn the_first_faulty_line_decides(rt: HostRuntime) {
     let cases = [
         ("malloc c32 16\nfrob\n", TraceFault::BadRegister(2)),
         ("show c1\n# x\n\nmalloc c1", TraceFault::BadCount(5)),
         ("show c1\nmalloc c1 y\nshow\nfrob", TraceFault::BadNumber(3)),
     ];
     for (lines, fault) in cases {
-        let answer = after_heap(rt.alloc(), lines.as_bytes())?.err();
+        let answer = after_heap(rt.alloc(), lines.as_bytes())
+            .expect(&rt, "there is memory")
+            .err();
         assert_eq!(rt; answer, Some(fault), "{lines:?}");
     }
-    Ok(())
 }
 
 #[test]
-fn words_that_are_no_register(rt: HostRuntime) -> Result<(), Fail> {
+fn words_that_are_no_register(rt: HostRuntime) {
     for word in [
         "c", "c01", "c00", "c32", "c99", "c100", "C1", "x1", "1", "c+1", "c1x",
     ] {
-        let line = format!(in rt.alloc(); "show {word}")?;
-        let answer = after_heap(rt.alloc(), line.as_bytes())?.err();
+        let line = format!(in rt.alloc(); "show {word}").expect(&rt, "there is memory");
+        let answer = after_heap(rt.alloc(), line.as_bytes())
+            .expect(&rt, "there is memory")
+            .err();
         assert_eq!(rt; answer, Some(TraceFault::BadRegister(2)), "{word:?}");
     }
-    Ok(())
 }
 
 #[test]
-fn words_that_are_no_number(rt: HostRuntime) -> Result<(), Fail> {
+fn words_that_are_no_number(rt: HostRuntime) {
     let cases = [
         "18446744073709551616",
         "000000000000000000001",
@@ -143,15 +145,16 @@ fn words_that_are_no_number(rt: HostRuntime) -> Result<(), Fail> {
         "0xg",
     ];
     for word in cases {
-        let line = format!(in rt.alloc(); "malloc c1 {word}")?;
-        let answer = after_heap(rt.alloc(), line.as_bytes())?.err();
+        let line = format!(in rt.alloc(); "malloc c1 {word}").expect(&rt, "there is memory");
+        let answer = after_heap(rt.alloc(), line.as_bytes())
+            .expect(&rt, "there is memory")
+            .err();
         assert_eq!(rt; answer, Some(TraceFault::BadNumber(2)), "{word:?}");
     }
-    Ok(())
 }
 
 #[test]
-fn words_that_are_fine(rt: HostRuntime) -> Result<(), Fail> {
+fn words_that_are_fine(rt: HostRuntime) {
     let cases = [
         ("malloc c0 0", Command::Malloc { rd: 0, size: 0 }),
         ("malloc c31 0xFf", Command::Malloc { rd: 31, size: 255 }),
@@ -214,29 +217,39 @@ fn words_that_are_fine(rt: HostRuntime) -> Result<(), Fail> {
         ),
     ];
     for (line, command) in cases {
-        let trace = after_heap(rt.alloc(), line.as_bytes())?.map_err(|_| "it is a trace")?;
+        let trace = after_heap(rt.alloc(), line.as_bytes())
+            .expect(&rt, "there is memory")
+            .expect(&rt, "it is a trace");
         assert_eq!(rt;
             trace.commands.as_slice(),
             [(2, command)].as_slice(),
             "{line:?}"
         );
     }
-    Ok(())
 }
 
 #[test]
-fn bytes_that_are_no_text(rt: HostRuntime) -> Result<(), Fail> {
-    let comment = after_heap(rt.alloc(), b"# \xff\x00\n")?.map_err(|_| "it is a trace")?;
+fn bytes_that_are_no_text(rt: HostRuntime) {
+    let comment = after_heap(rt.alloc(), b"# \xff\x00\n")
+        .expect(&rt, "there is memory")
+        .expect(&rt, "it is a trace");
     assert!(rt; comment.commands.is_empty());
-    let name = after_heap(rt.alloc(), b"sh\xffow c1\n")?.err();
+    let name = after_heap(rt.alloc(), b"sh\xffow c1\n")
+        .expect(&rt, "there is memory")
+        .err();
     assert_eq!(rt; name, Some(TraceFault::BadCommand(2)));
-    let operand = after_heap(rt.alloc(), b"show c\xff\n")?.err();
+    let operand = after_heap(rt.alloc(), b"show c\xff\n")
+        .expect(&rt, "there is memory")
+        .err();
     assert_eq!(rt; operand, Some(TraceFault::BadRegister(2)));
-    let no_blank = after_heap(rt.alloc(), b"show\x0bc1\n")?.err();
+    let no_blank = after_heap(rt.alloc(), b"show\x0bc1\n")
+        .expect(&rt, "there is memory")
+        .err();
     assert_eq!(rt; no_blank, Some(TraceFault::BadCommand(2)));
-    let word = after_heap(rt.alloc(), b"sweep \xff\n")?.err();
+    let word = after_heap(rt.alloc(), b"sweep \xff\n")
+        .expect(&rt, "there is memory")
+        .err();
     assert_eq!(rt; word, Some(TraceFault::BadCount(2)));
-    Ok(())
 }
 
 const SMALL: &[u8] =
@@ -254,15 +267,14 @@ fn is_small(trace: &Trace) -> bool {
 }
 
 #[test]
-fn a_trace_with_its_line_numbers(rt: HostRuntime) -> Result<(), Fail> {
-    let small = parse(rt.alloc(), SMALL).map_err(|_| "it is a trace")?;
+fn a_trace_with_its_line_numbers(rt: HostRuntime) {
+    let small = parse(rt.alloc(), SMALL).expect(&rt, "it is a trace");
     assert!(rt; is_small(&small), "{small:?}");
-    let empty = parse(rt.alloc(), b"heap 4096 1024").map_err(|_| "it is a trace")?;
+    let empty = parse(rt.alloc(), b"heap 4096 1024").expect(&rt, "it is a trace");
     assert_eq!(rt;
         (empty.base, empty.pages, empty.commands.len()),
         (4096, 1024, 0)
     );
-    Ok(())
 }
 
 #[test]
@@ -274,12 +286,11 @@ fn a_refused_allocation_is_told(rt: HostRuntime) {
 }
 
 #[test]
-fn a_text_that_is_too_long(rt: HostRuntime) -> Result<(), Fail> {
-    let mut text = vec![in rt.alloc(); b'#'; 4_194_304]?;
+fn a_text_that_is_too_long(rt: HostRuntime) {
+    let mut text = vec![in rt.alloc(); b'#'; 4_194_304].expect(&rt, "there is memory");
     assert_eq!(rt; parse(rt.alloc(), &text).err(), Some(TraceFault::NoHeap(2)));
-    text.push(b'\n')?;
+    text.push(b'\n').expect(&rt, "there is memory");
     assert_eq!(rt; parse(rt.alloc(), &text).err(), Some(TraceFault::TooLong));
-    Ok(())
 }
 
 #[test]
@@ -349,7 +360,7 @@ fn commands_that_are_valid(rt: HostRuntime) {
 }
 
 #[test]
-fn faults_by_their_names(rt: HostRuntime) -> Result<(), Fail> {
+fn faults_by_their_names(rt: HostRuntime) {
     let cases = [
         (TraceFault::Memory, "memory"),
         (TraceFault::TooLong, "too-long"),
@@ -362,8 +373,7 @@ fn faults_by_their_names(rt: HostRuntime) -> Result<(), Fail> {
         (TraceFault::BadData(2), "bad-data 2"),
     ];
     for (fault, name) in cases {
-        let message = format!(in rt.alloc(); "{fault}")?;
+        let message = format!(in rt.alloc(); "{fault}").expect(&rt, "there is memory");
         assert_eq!(rt; message.as_str(), name);
     }
-    Ok(())
 }
