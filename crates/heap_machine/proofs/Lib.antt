@@ -1,5 +1,6 @@
 mod BlockLists
 mod ClearedRegisters
+mod CountLaws
 mod FreedBlock
 mod GuardLaws
 mod KeptSizes

@@ -6,23 +6,23 @@ ghost use Rattle.tag_memory.specs.Tags.{is_set_for};
 
 use crate::cutting::Cutting;
 use crate::gate::Gate;
-use crate::sweep::{SweepFault, word_mask};
-use crate::task::words_of;
+use crate::sweep::SweepFault;
+use crate::task::{end_of, fill_page, first_of};
 use heap_core::Shadow;
 use std::alloc::Global;
 use tag_memory::{Memory, PAGE_WORDS};
 
-// Makes the masks of the words `from` to `end - 1` of the tags, where those before are made.
-fn fill_more(memory: &Memory, shadow: &Shadow, from: usize, end: usize, masks: &mut Vec<u64>)
+// Makes the masks of the pages `from` to `end - 1`, where those before are made.
+fn fill_more(memory: &Memory, shadow: &Shadow, from: u32, end: u32, masks: &mut Vec<u64>)
     requires order { from ≤ end }
-    requires within { end ≤ length masks.old.items }
-    requires whole { 64 * length masks.old.items ≤ length memory.now.cells }
-    requires before { (i : ℕ) → i / 64 < from → is_set_for masks.old.items i ≡ is_hit_at memory.now shadow.now i }
+    requires room { 4 * end ≤ length masks.old.items }
+    requires within { 256 * end ≤ length memory.now.cells }
+    requires before { (i : ℕ) → i / 256 < from → is_set_for masks.old.items i ≡ is_hit_at memory.now shadow.now i }
     ensures count { length masks.new.items ≡ length masks.old.items }
-    ensures done { (i : ℕ) → i / 64 < end → is_set_for masks.new.items i ≡ is_hit_at memory.now shadow.now i }
+    ensures done { (i : ℕ) → i / 256 < end → is_set_for masks.new.items i ≡ is_hit_at memory.now shadow.now i }
 {
-    for w in from..end {
-        masks[w] = word_mask(memory, shadow, w);
+    for page in from..end {
+        fill_page(memory, shadow, 0, page, masks);
     }
 }
 
@@ -43,9 +43,9 @@ pub(crate) fn sweep_alone<G: Gate>(
         return Err(SweepFault::Memory);
     };
     for task in 0..cutting.tasks(pages) {
-        let first = PAGE_WORDS * task as usize * cutting.pages_per_task() as usize;
-        let count = words_of(cutting, pages, task);
-        fill_more(memory, shadow, first, first + count, &mut masks);
+        let first = first_of(cutting, pages, task);
+        let end = end_of(cutting, pages, task);
+        fill_more(memory, shadow, first, end, &mut masks);
         gate.pass(task);
     }
     Ok(masks)

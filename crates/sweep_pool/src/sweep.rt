@@ -1,12 +1,12 @@
 //! Which tags a sweep takes.
 
 ghost use Rattle.heap_core.specs.Heap.{HeapState};
-ghost use Rattle.std.specs.Prelude.{◌≡◌, ◌<◌, ◌≤◌, ◌*◌, ◌+◌, ◌^◌, ℕ, length};
+ghost use Rattle.std.specs.Prelude.{◌≡◌, ◌<◌, ◌≤◌, ◌*◌, ◌+◌, ◌^◌, ℕ, false, length};
 ghost use Rattle.sweep_pool.specs.Sweep.{IsShadowOf, is_hit, is_hit_at, takes_tag};
 ghost use Rattle.sweep_pool.specs.Sweep as sweep;
 ghost use Rattle.sweep_pool.specs.declared.sweep.SweepFault.TheVariants.{Memory};
 ghost use Rattle.tag_memory.specs.Cells.{register_at, register_count};
-ghost use Rattle.tag_memory.specs.Tags.{is_set};
+ghost use Rattle.tag_memory.specs.Tags.{is_set, is_tagged};
 
 use cap_codec::{Word, bounds};
 use heap_core::Shadow;
@@ -56,13 +56,15 @@ fn is_granule_hit(memory: &Memory, shadow: &Shadow, i: usize) -> bool
     is_painted(shadow, memory.base(), bounds(Word { bits }).base)
 }
 
-/// The mask of word `w` of the tags. No word is decoded where none of its 64 granules is tagged.
+/// The mask of word `w` of the tags. The word isn't looked at where its page may hold no tags, and none of
+/// its 64 granules where it is 0.
 #[inline]
-pub(crate) fn word_mask(memory: &Memory, shadow: &Shadow, w: usize) -> u64
-    requires { 64 * w + 64 ≤ length memory.now.cells }
+pub(crate) fn word_mask(memory: &Memory, shadow: &Shadow, w: usize, may_hold: bool) -> u64
+    requires within { 64 * w + 64 ≤ length memory.now.cells }
+    requires untagged { may_hold ≡ false → (j : ℕ) → j < 64 → is_tagged memory.now.cells (64 * w + j) ≡ false }
     ensures { (j : ℕ) → j < 64 → is_set result j ≡ is_hit_at memory.now shadow.now (64 * w + j) }
 {
-    if memory.tag_word(w) == 0 {
+    if !may_hold || memory.tag_word(w) == 0 {
         return 0;
     }
     tagged_mask(memory, shadow, w)

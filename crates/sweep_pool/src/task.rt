@@ -1,10 +1,11 @@
 //! One task of a sweep.
 
 ghost use Rattle.heap_core.specs.Heap.{HeapState};
-ghost use Rattle.std.specs.Prelude.{◌≡◌, ◌<◌, ◌≤◌, ◌+◌, ◌*◌, ◌/◌, ℕ, IfErr, IfOk, length};
+ghost use Rattle.std.specs.Prelude.{◌≡◌, ◌<◌, ◌≤◌, ◌+◌, ◌-◌, ◌*◌, ◌/◌, ℕ, IfErr, IfOk, length};
 ghost use Rattle.sweep_pool.specs.Gather.{IsSwept};
-ghost use Rattle.sweep_pool.specs.Sweep.{IsShadowOf, TakePageTags};
+ghost use Rattle.sweep_pool.specs.Sweep.{IsShadowOf, TakePageTags, is_hit_at};
 ghost use Rattle.sweep_pool.specs.Tasks.{IsTask, end_page, first_page, page_count, task_words};
+ghost use Rattle.tag_memory.specs.Tags.{is_set_for};
 
 use crate::cutting::Cutting;
 use crate::sweep::{SweepFault, word_mask};
@@ -21,14 +22,29 @@ pub struct Swept {
     pub masks: Vec<u64>,
 }
 
-/// How many words the masks of a task take.
+/// The first page of a task.
+pub(crate) fn first_of(cutting: &Cutting, pages: u32, task: u32) -> u32
+    requires { IsTask cutting.now pages task }
+    ensures { result ≡ first_page cutting.now task }
+{
+    task * cutting.pages_per_task()
+}
+
+/// The page after its last.
+pub(crate) fn end_of(cutting: &Cutting, pages: u32, task: u32) -> u32
+    requires { IsTask cutting.now pages task }
+    ensures { result ≡ end_page cutting.now pages task }
+{
+    let first = first_of(cutting, pages, task);
+    first + cutting.pages_per_task().min(pages - first)
+}
+
+/// How many words its masks take.
 pub(crate) fn words_of(cutting: &Cutting, pages: u32, task: u32) -> usize
     requires { IsTask cutting.now pages task }
-    ensures value { result ≡ task_words cutting.now pages task }
+    ensures { result ≡ task_words cutting.now pages task }
 {
-    let task_pages = cutting.pages_per_task() as usize;
-    let first = task as usize * task_pages;
-    PAGE_WORDS * ((first + task_pages).min(pages as usize) - first)
+    PAGE_WORDS * (end_of(cutting, pages, task) - first_of(cutting, pages, task)) as usize
 }
 
 /// Room for the masks of any one task.
@@ -41,6 +57,29 @@ pub(crate) fn room(alloc: Global, cutting: &Cutting, pages: u32) -> Result<Vec<u
         return Err(SweepFault::Memory);
     };
     Ok(room)
+}
+
+/// Makes the masks of a page. The first of these masks is that of the first word of page `first`, and those of the
+/// pages before this one are made.
+pub(crate) fn fill_page(
+    memory: &Memory,
+    shadow: &Shadow,
+    first: u32,
+    page: u32,
+    masks: &mut Vec<u64>,
+)
+    requires order { first ≤ page }
+    requires room { 4 * (page - first) + 4 ≤ length masks.old.items }
+    requires within { 256 * page + 256 ≤ length memory.now.cells }
+    requires before { (i : ℕ) → i / 256 < page - first → is_set_for masks.old.items i ≡ is_hit_at memory.now shadow.now (256 * first + i) }
+    ensures count { length masks.new.items ≡ length masks.old.items }
+    ensures done { (i : ℕ) → i / 256 < page + 1 - first → is_set_for masks.new.items i ≡ is_hit_at memory.now shadow.now (256 * first + i) }
+{
+    let may_hold = memory.may_hold_tags(page);
+    let at = PAGE_WORDS * (page - first) as usize;
+    for j in 0..PAGE_WORDS {
+        masks[at + j] = word_mask(memory, shadow, PAGE_WORDS * page as usize + j, may_hold);
+    }
 }
 
 /// A task swept into this room.
@@ -56,10 +95,11 @@ pub(crate) fn swept_into(
     ensures task { result.task ≡ task }
     ensures masks { IsSwept memory.now shadow.now cutting.now result }
 {
-    let first = task as usize * cutting.pages_per_task() as usize;
-    room.truncate(words_of(cutting, memory.pages(), task));
-    for w in 0..room.len() {
-        room[w] = word_mask(memory, shadow, PAGE_WORDS * first + w);
+    let pages = memory.pages();
+    let first = first_of(cutting, pages, task);
+    room.truncate(words_of(cutting, pages, task));
+    for page in first..end_of(cutting, pages, task) {
+        fill_page(memory, shadow, first, page, &mut room);
     }
     Swept { task, masks: room }
 }

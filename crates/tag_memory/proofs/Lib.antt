@@ -1,4 +1,6 @@
 pub mod BitLaws
 pub mod ClearedRegisters
 pub mod PackedLaws
+pub mod PageLaws
 pub mod TagLaws
+pub mod TakenLaws

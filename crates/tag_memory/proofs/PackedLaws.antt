@@ -1,17 +1,20 @@
 -- A memory's fields, and the granules as which it is seen.
-use Rattle.std.proofs.Common.{◌≡◌, ℕ, ◌+◌, ◌*◌, ◌/◌, ◌%◌, ◌^◌, ◌==◌, ◌<◌, ◌≤◌, Bool, false, if◌then◌else◌, Some, List, length, get_or, set, take, sym, ap, ◌∙◌, subst, arith, bit_and, w64, Fits}
+use Rattle.std.proofs.Common.{◌≡◌, ◌↔◌, ℕ, ◌+◌, ◌*◌, ◌/◌, ◌%◌, ◌^◌, ◌==◌, ◌<◌, ◌≤◌, Bool, false, true, if◌then◌else◌, inl, inr, Some, List, length, get_or, set, take, sym, ap, ◌∙◌, subst, arith, bit_and, w64, Fits}
 use Rattle.std.specs.Int.{bit_not}
 use Rattle.std.specs.Int.RustNames.{count_ones}
 use Rattle.std.specs.List.{All, count_by, slice_get}
-use Rattle.std.proofs.lemmas.List.{get_or_read, take_all}
+use Rattle.std.proofs.lemmas.Bool.{cases_lt}
+use Rattle.std.proofs.lemmas.List.{get_or_past, get_or_read, take_all}
 use Rattle.std.proofs.lemmas.List.Elements.{All-from_get_or}
-use Rattle.std.proofs.lemmas.Nat.{div_below}
+use Rattle.std.proofs.lemmas.Nat.{and_le_r, div_below}
 use Rattle.std.proofs.lemmas.Option.{slice_get-get_or}
-use Rattle.tag_memory.specs.Cells.{Granule, IsMemory, MemoryState}
-use Rattle.tag_memory.specs.Tags.{granules_of, is_set, is_set_for, is_tagged, tag_word, without_tags}
+use Rattle.tag_memory.specs.Cells.{AreUntagged, Granule, IsMemory, MemoryState, marked, may_hold_at}
+use Rattle.tag_memory.specs.Tags.{AreBlank, HasTag, granules_of, is_set, is_set_for, is_tagged, tag_word, without_tags}
 use Rattle.tag_memory.specs.declared.memory.Memory.TheInside.{Inside}
 use Rattle.tag_memory.specs.contracts.memory.Memory.{the_view, the_invariant}
+use Rattle.tag_memory.proofs.PageLaws.{blank-marked, blank-unmarked, marks_by, untagged_by}
 use Rattle.tag_memory.proofs.TagLaws.{length-granules_of, get_or-granules_of, granules_of-set, is_set-granules_of, tag_word-granules_of, count_more, without_tags-granules_of}
+use Rattle.tag_memory.proofs.TakenLaws.{AreTaken, blank-taken, some-taken}
 
 -- A memory with these fields is seen as this state.
 pub record Packs (m : Inside) (state : MemoryState) : Type 0 where
@@ -36,11 +39,32 @@ numbers {m = m} p =
     subst has_128_bits (sym (get_or-granules_of m.bits.items m.tags.items i at)) (p.invariant.4 i 0 at) in
     subst (All has_128_bits) (cells p) (All-from_get_or has_128_bits _ (0, false) below)
 
+-- which pages may hold tags
+marks : {m : Inside} {state : MemoryState} → Packs m state → m.may_hold.items ≡ state.may_hold
+marks p = ap (λ (s : MemoryState). s.may_hold) p.view
+
+pub marks_count : {m : Inside} {state : MemoryState} → Packs m state → length state.may_hold ≡ m.pages
+marks_count p = ap length (sym (marks p)) ∙ p.invariant.5
+
+pub untagged : {m : Inside} {state : MemoryState} → Packs m state → AreUntagged state.cells state.may_hold
+untagged {m = m} {state = state} p =
+    let of_fields : AreUntagged (granules_of m.bits.items m.tags.items) m.may_hold.items = untagged_by m.bits.items m.tags.items m.may_hold.items p.invariant.6 in
+    subst (λ (marks : List Bool). AreUntagged state.cells marks) (marks p)
+    (subst (λ (granules : List Granule). AreUntagged granules m.may_hold.items) (cells p) of_fields)
+
+-- whether one may, read
+pub marked_at : {m : Inside} {state : MemoryState} → Packs m state → (page : ℕ) (read : Bool) → 256 * page < length state.cells → read ≡ get_or m.may_hold.items page read
+    → read ≡ may_hold_at state.may_hold page
+marked_at {m = m} p page read h e =
+    get_or_read m.may_hold.items page read (omega (arith, count p, p.invariant, h)) e false ∙ ap (λ (pages : List Bool). may_hold_at pages page) (marks p)
+
 -- what holds of every memory
 pub whole : {m : Inside} {state : MemoryState} → Packs m state → IsMemory state
 whole {m = m} p = record {
   pages = m.pages;
   count = count p;
+  marks = marks_count p;
+  untagged = untagged p;
   size = p.invariant.2;
   place = rw (← (ap (λ (s : MemoryState). s.base) p.view)) p.invariant.3;
   numbers = numbers p;
@@ -124,3 +148,55 @@ cleared {m = m} p masks kept new h fits same each =
 -- how many granules there are then
 pub cleared_count : {m : Inside} {state : MemoryState} → Packs m state → (kept new : List ℕ) → kept ≡ m.bits.items → length (granules_of kept new) ≡ length state.cells
 cleared_count p kept new same = length-granules_of kept new ∙ (ap length same ∙ (p.invariant.0 ∙ sym (count p)))
+
+-- ---- a granule written, and its page
+
+-- where its page is
+pub page_place : {m : Inside} {state : MemoryState} → Packs m state → (i : ℕ) → i < length state.cells → i / 256 < length m.may_hold.items
+page_place {m = m} p i h = omega (arith, count p, p.invariant, h)
+
+-- what holds of the fields then
+pub put_marked : {m : Inside} {state : MemoryState} → Packs m state → (i word : ℕ) → i < length state.cells
+    → AreBlank (set m.tags.items (i / 64) word) (set m.may_hold.items (i / 256) true)
+put_marked {m = m} p i word h = blank-marked m.tags.items m.may_hold.items i word (page_place p i h) p.invariant.6
+
+pub put_unmarked : {m : Inside} {state : MemoryState} → Packs m state → (i word old : ℕ) (tag : Bool) → i < length state.cells → word < 2 ^ 64 → old ≡ get_or m.tags.items (i / 64) old → tag ≡ false
+    → ((j : ℕ) → j < 64 → is_set word j ≡ (if j == i % 64 then tag else is_set old j))
+    → AreBlank (set m.tags.items (i / 64) word) m.may_hold.items
+put_unmarked {m = m} p i word old tag h fits e off each =
+    let at = place p i h in
+    let old_is : old ≡ get_or m.tags.items (i / 64) 0 = get_or_read m.tags.items (i / 64) old at.1 e 0 in
+    let bits : (j : ℕ) → j < 64 → is_set word j ≡ (if j == i % 64 then false else is_set (get_or m.tags.items (i / 64) 0) j) =
+    λ j below. each j below ∙ (λ k. if j == i % 64 then off k else is_set (old_is k) j) in
+    blank-unmarked m.tags.items m.may_hold.items i word fits at.1 bits p.invariant.6
+
+-- which pages may hold tags then
+pub put_mark : {m : Inside} {state : MemoryState} → Packs m state → (i : ℕ) (tag : Bool) → tag ≡ true → set m.may_hold.items (i / 256) true ≡ marked state.may_hold i tag
+put_mark {state = state} p i tag on = ap (λ (pages : List Bool). set pages (i / 256) true) (marks p) ∙ ap (marked state.may_hold i) (sym on)
+
+pub put_no_mark : {m : Inside} {state : MemoryState} → Packs m state → (i : ℕ) (tag : Bool) → tag ≡ false → m.may_hold.items ≡ marked state.may_hold i tag
+put_no_mark {state = state} p i tag off = marks p ∙ ap (marked state.may_hold i) (sym off)
+
+-- ---- the tags of masks taken
+
+-- what was taken of all pages
+module _ {m : Inside} {state : MemoryState} (p : Packs m state) {masks after : List ℕ} {left : List Bool} {page : ℕ} (t : AreTaken masks m.tags.items after m.may_hold.items left page) (all : length left ≤ page) where
+  pub taken_blank : AreBlank after left
+  taken_blank = blank-taken t all (p.invariant.1 ∙ ap (λ (n : ℕ). 4 * n) (sym p.invariant.5))
+
+  pub taken_word : (w : ℕ) → w < length m.tags.items → get_or after w 0 ≡ bit_and (get_or m.tags.items w 0) (bit_not w64 (get_or masks w 0))
+  taken_word w h = t.done w (omega (arith, h, all, t.marks, p.invariant))
+
+  -- a word without the tags of a mask has no more bits than there are
+  fits : (w : ℕ) → get_or after w 0 < 2 ^ 64
+  fits w = elim (cases_lt w (length m.tags.items)) [
+    | inl inside ↦
+        let mask : ℕ = get_or masks w 0 in
+        let least : get_or after w 0 ≤ bit_not w64 mask = rw (taken_word w inside) (and_le_r (get_or m.tags.items w 0) (bit_not w64 mask)) in
+        let below : bit_not w64 mask < 2 ^ 64 = omega arith in
+        omega (arith, least, below)
+    | inr past ↦ rw (get_or_past after w 0 (omega (arith, past, t.count))) (omega arith)
+  ]
+
+  pub taken_marks : (kept : List ℕ) → kept ≡ m.bits.items → (page : ℕ) → (may_hold_at left page ≡ true) ↔ HasTag (granules_of kept after) page
+  taken_marks kept same = marks_by kept after left (ap length same ∙ omega (arith, t.count, p.invariant)) fits taken_blank (some-taken t all)

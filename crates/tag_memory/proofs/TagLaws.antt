@@ -39,7 +39,7 @@ same_granules bits tags cells e h =
 
 -- ---- new memory
 
-zero_at : (n i : ℕ) → get_or {A = ℕ} (replicate {A = ℕ} n 0) i 0 ≡ 0
+pub zero_at : (n i : ℕ) → get_or {A = ℕ} (replicate {A = ℕ} n 0) i 0 ≡ 0
 zero_at zero i = refl
 zero_at (suc n) zero = refl
 zero_at (suc n) (suc i) = zero_at n i
@@ -105,7 +105,7 @@ is_set-granules_of bits tags w j within h =
     sym (ap (λ (x : Granule). x.1) cell ∙ rw (place.0, place.1) refl)
 
 -- a bit by the test of it
-of_test : (n : ℕ) → n < 2 → (if n == 1 then 1 else 0) ≡ n
+pub of_test : (n : ℕ) → n < 2 → (if n == 1 then 1 else 0) ≡ n
 of_test zero h = refl
 of_test (suc zero) h = refl
 of_test (suc (suc n)) h = absurd (omega arith)

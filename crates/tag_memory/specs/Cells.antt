@@ -1,9 +1,9 @@
 -- Tagged memory and registers as lists of cells (CHERI ISA version 9, UCAM-CL-TR-987: tagged memory; one
 -- tag a granule of 16 bytes; register 0 is the null register of RISC-V).
-use Rattle.std.specs.Prelude.{◌≡◌, ◌<◌, ◌*◌, ◌^◌, ◌==◌, ℕ, Bool, IsTrue, List, false, if◌then◌else◌, length, replicate, slice_index_or, slice_set}
+use Rattle.std.specs.Prelude.{◌≡◌, ◌<◌, ◌*◌, ◌/◌, ◌^◌, ◌==◌, ℕ, Bool, IsTrue, List, false, if◌then◌else◌, length, replicate, slice_index_or, slice_set, true}
 use Rattle.std.specs.List.{All}
 use Rattle.cap_codec.specs.declared.word.Word.{Word}
-use Rattle.tag_memory.specs.Span.{is_base, is_size}
+use Rattle.tag_memory.specs.Span.{is_base, is_size, page_granules}
 
 -- ---- memory
 
@@ -11,20 +11,36 @@ use Rattle.tag_memory.specs.Span.{is_base, is_size}
 abbrev pub Granule : Type 0
 Granule = ℕ × Bool
 
--- A memory: its first address, and its granules in order of address.
+-- A memory: its first address, its granules in order of address, and for each of its pages whether it may
+-- hold tags.
 pub record MemoryState : Type 0 where
   pub base : ℕ
   pub cells : List Granule
+  pub may_hold : List Bool
 
--- A new memory: every granule zero and untagged.
+-- A new memory: every granule zero and untagged, and no page that may hold tags.
 abbrev pub new_memory : ℕ → ℕ → MemoryState
-new_memory base pages = record { base = base; cells = replicate (256 * pages) (0, false) }
+new_memory base pages = record { base = base; cells = replicate (256 * pages) (0, false); may_hold = replicate pages false }
+
+-- Whether this page may hold tags; past the last one there are none.
+abbrev pub may_hold_at : List Bool → ℕ → Bool
+may_hold_at may_hold page = slice_index_or may_hold page false
+
+-- A page that may hold no tags has no tagged granule.
+abbrev pub AreUntagged : List Granule → List Bool → Type 0
+AreUntagged cells may_hold = (i : ℕ) → may_hold_at may_hold (i / page_granules) ≡ false → (slice_index_or cells i (0, false)).1 ≡ false
+
+-- The pages that may hold tags once granule i is written with this tag: its own page with them where it is one.
+abbrev pub marked : List Bool → ℕ → Bool → List Bool
+marked may_hold i tag = if tag then slice_set may_hold (i / page_granules) true else may_hold
 
 -- What holds of every memory: it is some whole pages that may begin at its base, of granules whose
--- numbers have 128 bits.
+-- numbers have 128 bits, and pages that may hold no tags have none.
 pub record IsMemory (m : MemoryState) : Type 0 where
   pub pages : ℕ
   pub count : length m.cells ≡ 256 * pages
+  pub marks : length m.may_hold ≡ pages
+  pub untagged : AreUntagged m.cells m.may_hold
   pub size : IsTrue (is_size pages)
   pub place : IsTrue (is_base m.base pages)
   pub numbers : All (λ granule. granule.0 < 2 ^ 128) m.cells

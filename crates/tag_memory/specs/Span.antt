@@ -13,3 +13,7 @@ is_base base pages = (base % 4096 == 0) && nat_le (base + 4096 * pages) (2 ^ 64)
 -- How many words the tags of a page have, one a granule.
 abbrev pub page_words : ℕ
 page_words = 4
+
+-- How many granules a page has.
+abbrev pub page_granules : ℕ
+page_granules = 256

@@ -1,8 +1,9 @@
 -- Tags in words of 64 bits (this project's own form): bit j of word w belongs to granule 64 * w + j.
-use Rattle.std.specs.Prelude.{ℕ, Bool, List, [], ◌∷◌, ◌+◌, ◌*◌, ◌/◌, ◌%◌, ◌==◌, ◌&&◌, false, if◌then◌else◌, drop, map, not, slice_index, slice_index_or, take}
+use Rattle.std.specs.Prelude.{◌≡◌, ◌≢◌, ℕ, Bool, List, [], ◌∷◌, ◌+◌, ◌*◌, ◌/◌, ◌%◌, ◌==◌, ◌&&◌, false, true, if◌then◌else◌, drop, map, not, slice_index, slice_index_or, take}
 use Rattle.std.specs.Int.{bit_at}
 use Rattle.std.specs.List.{enumerate_from}
-use Rattle.tag_memory.specs.Cells.{Granule}
+use Rattle.tag_memory.specs.Cells.{Granule, may_hold_at}
+use Rattle.tag_memory.specs.Span.{page_granules, page_words}
 
 -- f of each element and its index, which is counted from 0.
 abbrev pub map_with_index : {X Y : Type 0} → (ℕ → X → Y) → List X → List Y
@@ -36,3 +37,25 @@ number_of_bits (bit ∷ bits) = (if bit then 1 else 0) + 2 * number_of_bits bits
 -- The word of the tags of granules 64 * w to 64 * w + 63.
 unfoldable pub tag_word : List Granule → ℕ → ℕ
 tag_word granules w = number_of_bits (map (λ (granule : Granule). granule.1) (take 64 (drop (64 * w) granules)))
+
+-- A tagged granule of a page.
+pub record HasTag (granules : List Granule) (page : ℕ) : Type 0 where
+  pub granule : ℕ
+  pub inside : granule / page_granules ≡ page
+  pub tag : is_tagged granules granule ≡ true
+
+-- ---- words of pages
+
+-- The words of the tags of a page are 0.
+abbrev pub IsBlank : List ℕ → ℕ → Type 0
+IsBlank words page = (w : ℕ) → w / page_words ≡ page → slice_index words w ≡ 0
+
+-- One of them isn't.
+pub record HasWord (words : List ℕ) (page : ℕ) : Type 0 where
+  pub word : ℕ
+  pub inside : word / page_words ≡ page
+  pub some : slice_index words word ≢ 0
+
+-- The words of each page that may hold no tags are 0.
+unfoldable pub AreBlank : List ℕ → List Bool → Type 0
+AreBlank words may_hold = (page : ℕ) → may_hold_at may_hold page ≡ false → IsBlank words page

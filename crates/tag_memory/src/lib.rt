@@ -3,6 +3,7 @@
 
 mod bits;
 mod memory;
+mod pages;
 mod registers;
 mod span;
 #[cfg(test)]

@@ -1,12 +1,13 @@
 //! Tagged memory.
 
-ghost use Rattle.std.specs.Prelude.{◌≡◌, ◌↔◌, ◌<◌, ◌+◌, ◌*◌, ℕ, IfOk, Some, count_by, false, length, slice_get, slice_set, true};
-ghost use Rattle.tag_memory.specs.Cells.{IsMemory, new_memory};
+ghost use Rattle.std.specs.Prelude.{◌≡◌, ◌↔◌, ◌<◌, ◌+◌, ◌*◌, ◌/◌, ℕ, IfOk, Some, count_by, false, length, slice_get, slice_set, true};
+ghost use Rattle.tag_memory.specs.Cells.{IsMemory, marked, may_hold_at, new_memory};
 ghost use Rattle.tag_memory.specs.Span as span;
-ghost use Rattle.tag_memory.specs.Tags.{is_set, is_tagged, without_tags};
+ghost use Rattle.tag_memory.specs.Tags.{HasTag, is_set, is_tagged, without_tags};
 ghost use Rattle.tag_memory.specs.Tags as tags;
 
 use crate::bits::{WORD_GRANULES, bit, with_bit};
+use crate::pages::take_tags;
 use crate::span::{PAGE_GRANULES, is_base, is_size};
 use std::alloc::Global;
 use std::marker::Model;
@@ -30,13 +31,14 @@ pub enum MemoryFault {
 pub const PAGE_WORDS: usize = PAGE_GRANULES as usize / WORD_GRANULES;
 
 /// The granules of some pages, each 16 bytes with one tag. Bit `j` of word `w` of the tags is that of
-/// granule `64 * w + j`.
+/// granule `64 * w + j`. A page that may hold no tags has none.
 #[derive(Drop)]
 pub struct Memory {
     base: u64,
     pages: u32,
     bits: Vec<u128>,
     tags: Vec<u64>,
+    may_hold: Vec<bool>,
 }
 
 impl Model for Memory {
@@ -44,13 +46,13 @@ impl Model for Memory {
     ghost use Rattle.std.specs.Prelude.{◌≡◌, ◌<◌, ◌*◌, ◌^◌, length, true};
     ghost use Rattle.tag_memory.specs.Cells.{MemoryState};
     ghost use Rattle.tag_memory.specs.Span.{is_base, is_size, page_words};
-    ghost use Rattle.tag_memory.specs.Tags.{granules_of};
+    ghost use Rattle.tag_memory.specs.Tags.{AreBlank, granules_of};
 
     ghost Value = { MemoryState };
 
-    ghost view = { λ m. record { base = m.base; cells = granules_of m.bits.items m.tags.items } };
+    ghost view = { λ m. record { base = m.base; cells = granules_of m.bits.items m.tags.items; may_hold = m.may_hold.items } };
 
-    ghost invariant = { λ m. (length m.bits.items ≡ 256 * m.pages) × (length m.tags.items ≡ page_words * m.pages) × (is_size m.pages ≡ true) × (is_base m.base m.pages ≡ true) × All (λ number. number < 2 ^ 128) m.bits.items };
+    ghost invariant = { λ m. (length m.bits.items ≡ 256 * m.pages) × (length m.tags.items ≡ page_words * m.pages) × (is_size m.pages ≡ true) × (is_base m.base m.pages ≡ true) × All (λ number. number < 2 ^ 128) m.bits.items × (length m.may_hold.items ≡ m.pages) × AreBlank m.tags.items m.may_hold.items };
 }
 
 impl Memory {
@@ -74,11 +76,15 @@ impl Memory {
         let Ok(tags) = vec![in alloc; 0; PAGE_WORDS * pages as usize] else {
             return Err(MemoryFault::Memory);
         };
+        let Ok(may_hold) = vec![in alloc; false; pages as usize] else {
+            return Err(MemoryFault::Memory);
+        };
         Ok(Memory {
             base,
             pages,
             bits,
             tags,
+            may_hold,
         })
     }
 
@@ -121,14 +127,27 @@ impl Memory {
         )
     }
 
-    /// Writes a granule's bytes and its tag.
+    /// Writes a granule's bytes and its tag. With one, its page may hold tags from then on.
     pub fn put(&mut self, i: usize, bits: u128, tag: bool)
         requires { i < length self.old.cells }
-        ensures { self.new ≡ record self.old { cells = slice_set self.old.cells i (bits, tag) } }
+        ensures { self.new ≡ record self.old { cells = slice_set self.old.cells i (bits, tag); may_hold = marked self.old.may_hold i tag } }
     {
         self.bits[i] = bits;
         let word = &mut self.tags[i / WORD_GRANULES];
         *word = with_bit(*word, i % WORD_GRANULES, tag);
+        if tag {
+            self.may_hold[i / PAGE_GRANULES as usize] = true;
+        }
+    }
+
+    /// Whether granules of this page may be tagged: since the last `clear_tags` after which none was, one
+    /// was written with a tag. Pages are counted from the base.
+    pub fn may_hold_tags(&self, page: u32) -> bool
+        requires { 256 * page < length self.now.cells }
+        ensures value { result ≡ may_hold_at self.now.may_hold page }
+        ensures untagged { result ≡ false → (i : ℕ) → i / 256 ≡ page → is_tagged self.now.cells i ≡ false }
+    {
+        self.may_hold[page as usize]
     }
 
     /// The tags of granules `64 * w` to `64 * w + 63`, the first in bit 0.
@@ -140,15 +159,18 @@ impl Memory {
         self.tags[w]
     }
 
-    /// Takes each tag whose bit is 1 in the masks, which lie as the words of tags do.
+    /// Takes each tag whose bit is 1 in the masks, which lie as the words of tags do. Then just the pages
+    /// with a tagged granule may hold tags.
     pub fn clear_tags(&mut self, masks: &[u64])
         requires { 64 * length masks.now ≡ length self.old.cells }
-        ensures value { self.new ≡ record self.old { cells = without_tags masks.now self.old.cells } }
+        ensures base { self.new.base ≡ self.old.base }
+        ensures cells { self.new.cells ≡ without_tags masks.now self.old.cells }
         ensures count { length self.new.cells ≡ length self.old.cells }
+        ensures marks { (page : ℕ) → (may_hold_at self.new.may_hold page ≡ true) ↔ HasTag self.new.cells page }
     {
-        for (w, mask) in masks.iter().enumerate() {
-            let word = &mut self.tags[w];
-            *word &= !mask;
+        for page in 0..self.may_hold.len() {
+            let may_hold = self.may_hold[page];
+            self.may_hold[page] = take_tags(&mut self.tags, masks, page, may_hold);
         }
     }
 

@@ -42,6 +42,31 @@ fn tags_are_packed(rt: HostRuntime) {
 }
 
 #[test]
+fn a_page_may_hold_tags_until_it_is_seen_to_have_none(rt: HostRuntime) {
+    let mut memory = Memory::new(rt.alloc(), 0, 1).expect(&rt, "there is memory");
+    assert!(rt; !memory.may_hold_tags(0));
+    memory.put(0, 1, true);
+    memory.put(0, 1, false);
+    assert!(rt; memory.may_hold_tags(0));
+    memory.clear_tags(&[0; 4]);
+    assert!(rt; !memory.may_hold_tags(0));
+}
+
+#[test]
+fn pages_that_may_hold_tags_are_told_apart(rt: HostRuntime) {
+    let mut memory = Memory::new(rt.alloc(), 0, 3).expect(&rt, "there is memory");
+    memory.put(256, 1, true);
+    memory.put(511, 1, true);
+    memory.put(512, 1, true);
+    memory.put(0, 1, false);
+    memory.clear_tags(&[0, 0, 0, 0, 1, 0, 0, 0, 1, 0, 0, 0]);
+    assert!(rt; !memory.may_hold_tags(0));
+    assert!(rt; memory.may_hold_tags(1));
+    assert!(rt; !memory.may_hold_tags(2));
+    assert_eq!(rt; memory.tagged(), 1);
+}
+
+#[test]
 fn registers_are_written(rt: HostRuntime) {
     let word = Word { bits: 7 };
     let mut registers = Registers::new();

@@ -1,6 +1,6 @@
 //! Freeing and sweeping: blocks in quarantine, and the tags of the words that point there.
 
-ghost use Rattle.std.specs.Prelude.{◌≡◌, ◌≤◌, IfErr, IfOk, IsOk, OnErr};
+ghost use Rattle.std.specs.Prelude.{◌≡◌, ◌<◌, ◌≤◌, ◌*◌, ◌^◌, ℕ, IfErr, IfOk, IsOk, OnErr, count_ones, length, slice_index, sum_by};
 ghost use Rattle.trace_text.specs.Command.{IsValid};
 ghost use Rattle.heap_machine.specs.Parts.{AreParts, state_of};
 ghost use Rattle.heap_machine.specs.Step.{Step};
@@ -27,6 +27,19 @@ fn cutting_for(cutting: Cutting, tagged: usize) -> Cutting
     let worthwhile = tagged / GRANULES_A_WORKER + 1;
     let workers = worthwhile.min(cutting.workers() as usize) as u32;
     Cutting::new(workers, cutting.pages_per_task()).unwrap()
+}
+
+// How many bits of these masks are 1.
+fn ones_in(masks: &[u64]) -> u32
+    requires { 64 * length masks.now < 2 ^ 32 }
+    ensures count { result ≡ sum_by count_ones masks.now }
+    ensures words { (w : ℕ) → slice_index masks.now w < 2 ^ 64 }
+{
+    let mut count = 0;
+    for mask in masks {
+        count += mask.count_ones();
+    }
+    count
 }
 
 impl Parts {
@@ -97,19 +110,16 @@ impl Parts {
         let Ok(shadow) = self.heap.shadow(alloc) else {
             return Err(MachineFault::Memory);
         };
-        let tagged = self.memory.tagged();
-        let cutting = cutting_for(self.cutting, tagged);
+        let cutting = cutting_for(self.cutting, self.memory.tagged());
         let Ok(masks) = sweep_masks(rt, alloc, &self.memory, &shadow, &cutting, gate) else {
             return Err(MachineFault::Memory);
         };
         let mask = swept_registers(&self.registers, &shadow, self.memory.base());
-        let before = tagged + self.registers.tagged();
         self.memory.clear_tags(&masks);
         self.registers.clear_tags(mask);
-        let after = self.memory.tagged() + self.registers.tagged();
         let released = self.heap.give_back();
         Ok(Reply::Swept {
-            cleared: (before - after) as u32,
+            cleared: ones_in(&masks) + mask.count_ones(),
             released,
         })
     }

@@ -8,5 +8,5 @@ use Rattle.sweep_pool.proofs.alone.sweep_alone.Given as goal
 abbrev pub invariant-loop-task : goal.invariant-loop-task
 invariant-loop-task g l = record {
   count : length l.masks.items ≡ 4 * page_count l.memory;
-  done : (i : ℕ) → i / 64 < 4 * min (l.task * l.cutting.pages_per_task) (page_count l.memory) → is_set_for l.masks.items i ≡ is_hit_at l.memory l.shadow i;
+  done : (i : ℕ) → i / 256 < min (l.task * l.cutting.pages_per_task) (page_count l.memory) → is_set_for l.masks.items i ≡ is_hit_at l.memory l.shadow i;
 }

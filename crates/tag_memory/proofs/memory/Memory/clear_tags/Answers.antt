@@ -1,22 +1,50 @@
-use Rattle.std.proofs.Common.{ℕ, ◌<◌, ◌∙◌, ap, arith, length}
-use Rattle.tag_memory.specs.Cells.{MemoryState}
-use Rattle.tag_memory.proofs.PackedLaws.{Packs, cleared, cleared_count, count}
+use Rattle.std.proofs.Common.{ℕ, ◌≡◌, ◌<◌, ◌≤◌, ◌*◌, ◌^◌, ◌∙◌, ap, arith, length, subst, sym}
+use Rattle.std.specs.List.{All}
+use Rattle.tag_memory.proofs.PackedLaws.{Packs, cleared, cleared_count, count, taken_blank, taken_marks, taken_word}
+use Rattle.tag_memory.proofs.TakenLaws.{still_blank}
 use Rattle.tag_memory.proofs.memory.Memory.clear_tags.Goals as goal
 
-pub index_mut-word-requires : goal.index_mut-word-requires
-index_mut-word-requires c =
+pub take_tags-requires-clause-masks : goal.take_tags-requires-clause-masks
+take_tags-requires-clause-masks c =
     let p : Packs c.self.inside c.args.self.now = record { view = c.self.view_is; invariant = c.self.invariant } in
-    omega (arith, count p, c.self.invariant, c.loop-w.self-inside.tags.ok)
+    omega (arith, count p, c.self.invariant, c.requires, c.loop-page-test.true, c.loop-page.auto, c.len-page-end.ensures, c.loop-page.invariant.taken.marks)
 
-pub returns-clause-value : goal.returns-clause-value
-returns-clause-value c =
+pub take_tags-requires-clause-blank : goal.take_tags-requires-clause-blank
+take_tags-requires-clause-blank c = λ unmarked.
+    still_blank c.loop-page.invariant.taken c.index-may_hold.result.now (omega (arith, c.loop-page-test.true)) c.index-may_hold.ensures unmarked c.self.invariant.6
+
+pub invariant_of-self : goal.invariant_of-self
+invariant_of-self c =
     let p : Packs c.self.inside c.args.self.now = record { view = c.self.view_is; invariant = c.self.invariant } in
-    let base = c.loop-w.invariant.base ∙ ap (λ (m : MemoryState). m.base) c.self.view_is in
-    let done = λ (k : ℕ) (h : k < length c.args.masks.now). c.loop-w.invariant.done k (omega arith) in
-    let cells = cleared p c.args.masks.now c.loop-w.self-inside.bits.items c.loop-w.self-inside.tags.items c.requires c.type_inv.masks c.loop-w.invariant.bits done in
-    λ k. record { base = base k; cells = cells k }
+    let l = c.loop-page.invariant in
+    let old = c.self.invariant in
+    let all : length c.loop-page.self-inside.may_hold.items ≤ c.loop-page.page = omega (arith, c.loop-page-test.false, c.len-page-end.ensures, l.taken.marks) in (
+      ap length l.bits ∙ (old.0 ∙ ap (λ (n : ℕ). 256 * n) (sym l.pages)),
+      l.taken.count ∙ (old.1 ∙ ap (λ (n : ℕ). 4 * n) (sym l.pages)),
+      rw l.pages old.2,
+      rw (l.pages, l.base) old.3,
+      subst (All (λ (number : ℕ). number < 2 ^ 128)) (sym l.bits) old.4,
+      l.taken.marks ∙ (old.5 ∙ sym l.pages),
+      taken_blank p l.taken all,
+    )
+
+pub returns-clause-cells : goal.returns-clause-cells
+returns-clause-cells c =
+    let p : Packs c.self.inside c.args.self.now = record { view = c.self.view_is; invariant = c.self.invariant } in
+    let taken = c.loop-page.invariant.taken in
+    let all : length c.loop-page.self-inside.may_hold.items ≤ c.loop-page.page = omega (arith, c.loop-page-test.false, c.len-page-end.ensures, taken.marks) in
+    let words : length c.args.masks.now ≡ length c.self.inside.tags.items = omega (arith, count p, c.self.invariant, c.requires) in
+    let done = λ (w : ℕ) (h : w < length c.args.masks.now). taken_word p taken all w (omega (arith, h, words)) in
+    cleared p c.args.masks.now c.loop-page.self-inside.bits.items c.loop-page.self-inside.tags.items c.requires c.type_inv.masks c.loop-page.invariant.bits done
 
 pub returns-clause-count : goal.returns-clause-count
 returns-clause-count c =
     let p : Packs c.self.inside c.args.self.now = record { view = c.self.view_is; invariant = c.self.invariant } in
-    cleared_count p c.loop-w.self-inside.bits.items c.loop-w.self-inside.tags.items c.loop-w.invariant.bits
+    cleared_count p c.loop-page.self-inside.bits.items c.loop-page.self-inside.tags.items c.loop-page.invariant.bits
+
+pub returns-clause-marks : goal.returns-clause-marks
+returns-clause-marks c =
+    let p : Packs c.self.inside c.args.self.now = record { view = c.self.view_is; invariant = c.self.invariant } in
+    let taken = c.loop-page.invariant.taken in
+    let all : length c.loop-page.self-inside.may_hold.items ≤ c.loop-page.page = omega (arith, c.loop-page-test.false, c.len-page-end.ensures, taken.marks) in
+    taken_marks p taken all c.loop-page.self-inside.bits.items c.loop-page.invariant.bits

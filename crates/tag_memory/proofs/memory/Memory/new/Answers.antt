@@ -1,5 +1,9 @@
-use Rattle.std.proofs.Common.{◌≡◌, ◌*◌, ◌∙◌, replicate, rules}
-use Rattle.tag_memory.specs.Tags.{granules_of}
+use Rattle.std.proofs.Common.{◌≡◌, ◌<◌, ◌*◌, ◌^◌, ◌∙◌, ℕ, Bool, List, ap, arith, false, length, replicate, rules, subst, sym}
+use Rattle.std.specs.List.{All}
+use Rattle.std.proofs.lemmas.List.{length-replicate}
+use Rattle.std.proofs.lemmas.List.Elements.{All-replicate}
+use Rattle.tag_memory.specs.Tags.{AreBlank, granules_of}
+use Rattle.tag_memory.proofs.PageLaws.{blank-zeros}
 use Rattle.tag_memory.proofs.TagLaws.{granules_of-zeros}
 use Rattle.tag_memory.proofs.memory.Memory.new.Goals as goal
 
@@ -8,4 +12,21 @@ returns-clause-made c =
     let bits : c.in-Ok.bits.items ≡ replicate (256 * c.args.pages) 0 = search (rules, c.in-Ok.ensures) in
     let tags : c.in-Ok-vec.tags.items ≡ replicate (4 * c.args.pages) 0 = search (rules, c.in-Ok-vec.ensures) in
     let cells = (λ k. granules_of (bits k) (tags k)) ∙ granules_of-zeros (256 * c.args.pages) (4 * c.args.pages) in
-    λ k. record { base = c.args.base; cells = cells k }
+    let marks : c.in-Ok-vec-2.may_hold.items ≡ replicate c.args.pages false = search (rules, c.in-Ok-vec-2.ensures) in
+    λ k. record { base = c.args.base; cells = cells k; may_hold = marks k }
+
+pub invariant_of-result : goal.invariant_of-result
+invariant_of-result c =
+    let bits : c.in-Ok.bits.items ≡ replicate (256 * c.args.pages) 0 = search (rules, c.in-Ok.ensures) in
+    let tags : c.in-Ok-vec.tags.items ≡ replicate (4 * c.args.pages) 0 = search (rules, c.in-Ok-vec.ensures) in
+    let marks : c.in-Ok-vec-2.may_hold.items ≡ replicate c.args.pages false = search (rules, c.in-Ok-vec-2.ensures) in
+    let numbers : All (λ (number : ℕ). number < 2 ^ 128) (replicate (256 * c.args.pages) 0) = All-replicate (λ (number : ℕ). number < 2 ^ 128) (256 * c.args.pages) 0 (omega arith) in
+    let blank = blank-zeros (4 * c.args.pages) c.in-Ok-vec-2.may_hold.items in (
+      ap length bits ∙ length-replicate {A = ℕ} (256 * c.args.pages) 0,
+      ap length tags ∙ length-replicate {A = ℕ} (4 * c.args.pages) 0,
+      search rules,
+      search rules,
+      subst (All (λ (number : ℕ). number < 2 ^ 128)) (sym bits) numbers,
+      ap length marks ∙ length-replicate {A = Bool} c.args.pages false,
+      subst (λ (words : List ℕ). AreBlank words c.in-Ok-vec-2.may_hold.items) (sym tags) blank,
+    )

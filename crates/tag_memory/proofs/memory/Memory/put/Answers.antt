@@ -1,6 +1,8 @@
-use Rattle.std.proofs.Common.{ap, arith}
+use Rattle.std.proofs.Common.{◌<◌, ◌^◌, ◌∙◌, ap, arith}
+use Rattle.std.proofs.lemmas.List.{length-set}
+use Rattle.std.proofs.lemmas.List.Elements.{All-set}
 use Rattle.tag_memory.specs.Cells.{MemoryState}
-use Rattle.tag_memory.proofs.PackedLaws.{Packs, place, written}
+use Rattle.tag_memory.proofs.PackedLaws.{Packs, page_place, place, put_mark, put_marked, put_no_mark, put_unmarked, written}
 use Rattle.tag_memory.proofs.memory.Memory.put.Goals as goal
 
 pub index_mut-requires : goal.index_mut-requires
@@ -13,9 +15,40 @@ index_mut-word-requires c =
     let p : Packs c.self.inside c.args.self.now = record { view = c.self.view_is; invariant = c.self.invariant } in
     omega (arith, place p c.args.i c.requires)
 
-pub returns : goal.returns
-returns c =
+pub index_mut-requires-then-tag : goal.index_mut-requires-then-tag
+index_mut-requires-then-tag c =
+    let p : Packs c.self.inside c.args.self.now = record { view = c.self.view_is; invariant = c.self.invariant } in
+    omega (arith, page_place p c.args.i c.requires)
+
+pub invariant_of-self : goal.invariant_of-self
+invariant_of-self c =
+    let p : Packs c.self.inside c.args.self.now = record { view = c.self.view_is; invariant = c.self.invariant } in
+    let kept = c.self.invariant in
+    (length-set _ _ _ ∙ kept.0, length-set _ _ _ ∙ kept.1, kept.2, kept.3, All-set (λ number. number < 2 ^ 128) _ _ _ c.ranges.bits.fits kept.4, length-set _ _ _ ∙ kept.5, put_marked p c.args.i c.with_bit.result c.requires)
+
+pub invariant_of-self-else-tag : goal.invariant_of-self-else-tag
+invariant_of-self-else-tag c =
+    let p : Packs c.self.inside c.args.self.now = record { view = c.self.view_is; invariant = c.self.invariant } in
+    let kept = c.self.invariant in (
+      length-set _ _ _ ∙ kept.0,
+      length-set _ _ _ ∙ kept.1,
+      kept.2,
+      kept.3,
+      All-set (λ number. number < 2 ^ 128) _ _ _ c.ranges.bits.fits kept.4,
+      kept.5,
+      put_unmarked p c.args.i c.with_bit.result c.index_mut-word.result.now c.args.tag c.requires (omega arith) c.index_mut-word.ensures.value c.if-tag.false c.with_bit.ensures,
+    )
+
+pub returns-then-tag : goal.returns-then-tag
+returns-then-tag c =
     let p : Packs c.self.inside c.args.self.now = record { view = c.self.view_is; invariant = c.self.invariant } in
     let base = ap (λ (m : MemoryState). m.base) c.self.view_is in
     let cells = written p c.args.i c.args.bits c.index_mut-word.result.now c.with_bit.result c.args.tag c.requires c.index_mut-word.ensures.value c.with_bit.ensures in
-    λ k. record { base = base k; cells = cells k }
+    λ k. record { base = base k; cells = cells k; may_hold = put_mark p c.args.i c.args.tag c.if-tag.true k }
+
+pub returns-else-tag : goal.returns-else-tag
+returns-else-tag c =
+    let p : Packs c.self.inside c.args.self.now = record { view = c.self.view_is; invariant = c.self.invariant } in
+    let base = ap (λ (m : MemoryState). m.base) c.self.view_is in
+    let cells = written p c.args.i c.args.bits c.index_mut-word.result.now c.with_bit.result c.args.tag c.requires c.index_mut-word.ensures.value c.with_bit.ensures in
+    λ k. record { base = base k; cells = cells k; may_hold = put_no_mark p c.args.i c.args.tag c.if-tag.false k }
