@@ -1,4 +1,5 @@
 pub mod AlignLaws
+pub mod CountLaws
 pub mod FindLaws
 pub mod JoinLaws
 pub mod NextLaws

@@ -1,3 +1,4 @@
+pub mod Counts
 pub mod Laws
 pub mod Runs
 pub mod Summaries

@@ -2,6 +2,7 @@
 //! summaries, which finds the first run of ones.
 #![tactic(auto)]
 
+mod count;
 mod find;
 mod ranges;
 mod row;
@@ -11,5 +12,6 @@ mod tests;
 mod tree;
 mod word;
 
-pub use crate::ranges::{clear_run, clear_words, row_bit, set_run};
+pub use crate::count::{count_both, place_of_both};
+pub use crate::ranges::{clear_run, clear_words, range_word, row_bit, set_run};
 pub use crate::row::FreeRow;

@@ -24,8 +24,8 @@ fn run_word(low: usize, high: usize) -> u64
     (u64::MAX >> (64 - high)) & (u64::MAX << low)
 }
 
-// Those bits of word `w` that are among the bits `first` to `end - 1` of the row, at least one.
-fn range_word(w: usize, first: usize, end: usize) -> u64
+/// Those bits of word `w` that are among the bits `first` to `end - 1` of the row, at least one.
+pub fn range_word(w: usize, first: usize, end: usize) -> u64
     requires limit { 64 * w < 2 ^ 40 }
     requires first { first < 64 * w + 64 }
     requires end { 64 * w < end }

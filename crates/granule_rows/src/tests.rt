@@ -1,5 +1,6 @@
 //! Runs found, taken and given, with places worked out by hand.
 
+use crate::count::{count_both, place_of_both};
 use crate::row::FreeRow;
 use crate::word::{first_run_of_word, summary_of_word};
 
@@ -59,4 +60,14 @@ fn runs_are_found(rt: HostRuntime) {
     assert_eq!(rt; row.first_run(11), Some(192));
     row.give_words(&[1, 0, u64::MAX, 0], 1, 4);
     assert_eq!(rt; row.first_run(200), Some(120));
+}
+
+#[test]
+fn bits_of_both_rows_are_found_by_their_number(rt: HostRuntime) {
+    let row = [0b1011, 0, u64::MAX];
+    let other = [0b1110, u64::MAX, 1 << 63 | 1];
+    assert_eq!(rt; count_both(&row, &other), 4);
+    for (n, place) in [(0, 1), (1, 3), (2, 128), (3, 191), (4, 192), (5, 192)] {
+        assert_eq!(rt; place_of_both(&row, &other, n), place, "number {n}");
+    }
 }

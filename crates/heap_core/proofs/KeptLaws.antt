@@ -43,7 +43,7 @@ kept-le keeps (n ∷ lengths) (mark ∷ marks) zero = elim (cases_Bool (keeps ma
 kept-le keeps (n ∷ lengths) (mark ∷ marks) (suc k) = kept-le keeps lengths marks k
 
 -- A block of the kept lengths is one of the table, with its mark.
-kept_block : (keeps : Bool → Bool) (lengths : List ℕ) (marks : List Bool) (k : ℕ) (d : Bool) → length marks ≡ length lengths → k < length lengths
+pub kept_block : (keeps : Bool → Bool) (lengths : List ℕ) (marks : List Bool) (k : ℕ) (d : Bool) → length marks ≡ length lengths → k < length lengths
     → 0 < get_or (kept_lengths keeps lengths marks) k 0 → keeps (get_or marks k d) ≡ true
 kept_block keeps lengths marks k d same lt some =
     elim (cases_Bool (keeps (get_or marks k d))) [
@@ -93,13 +93,13 @@ any-no_block test keeps base lengths marks d each =
     list_any_none test (blocks_of keeps base 0 lengths marks)
     (All-blocks_of (λ block. test block ≡ false) keeps base 0 lengths marks d each)
 
-has_address_inside : (a start bytes : ℕ) → start ≤ a → a < start + bytes → has_address a (start, bytes) ≡ true
+pub has_address_inside : (a start bytes : ℕ) → start ≤ a → a < start + bytes → has_address a (start, bytes) ≡ true
 has_address_inside a start bytes from before = grind (arith, nat_tests)
 
-has_address_before : (a start bytes : ℕ) → a < start → has_address a (start, bytes) ≡ false
+pub has_address_before : (a start bytes : ℕ) → a < start → has_address a (start, bytes) ≡ false
 has_address_before a start bytes before = grind (arith, nat_tests)
 
-has_address_after : (a start bytes : ℕ) → start + bytes ≤ a → has_address a (start, bytes) ≡ false
+pub has_address_after : (a start bytes : ℕ) → start + bytes ≤ a → has_address a (start, bytes) ≡ false
 has_address_after a start bytes after = grind (arith, nat_tests)
 
 -- An address lies in one of the blocks exactly where its granule is taken by one of them.

@@ -1,6 +1,8 @@
 pub mod BlockLaws
 pub mod EmptyLaws
 pub mod KeptLaws
+pub mod NthLaws
+pub mod PaintLaws
 pub mod PlaceLaws
 pub mod QuarantineLaws
 pub mod RowLaws

@@ -1,20 +1,22 @@
 -- A table in rows of bits: what a block that is put, held or taken away changes in it.
 use Rattle.std.proofs.Common.{◌≡◌, ◌≢◌, ◌<◌, ◌≤◌, ◌+◌, ◌-◌, ◌*◌, ◌%◌, ◌/◌, ◌&&◌, ◌||◌, not, nat_lt, inl, inr, ℕ, zero, suc, Bool, true, false, cond, List, [], ◌∷◌, length, get_or, replicate, set, length-set, Result, Ok, Err, IfOk, refl, sym, ap, ◌∙◌, subst, arith}
-use Rattle.std.proofs.lemmas.Bool.{and_from, and_parts, both_ways, cases_Bool, cases_eq, cases_lt, cases_order, le-ltb, lt-ltb, ltb-true, not-true}
+use Rattle.std.proofs.lemmas.Bool.{and_from, and_parts, both_ways, cases_Bool, cases_eq, cases_lt, cases_order, le-ltb, lt-ltb, ltb-true, not-true, true≢false}
 use Rattle.std.proofs.Math.Bool.{and-true, or-true}
 use Rattle.std.proofs.lemmas.Bool.Decides.{nat_tests}
 use Rattle.std.proofs.lemmas.List.{ext_get_or, get_or-set_other, get_or-set_same, get_or_past, length-replicate}
 use Rattle.std.proofs.lemmas.List.FromFn.{get_or-map-range_with_len, length-map-range_with_len}
+use Rattle.granule_rows.specs.Counts.{count_below, is_both}
 use Rattle.granule_rows.specs.Runs as rows
 use Rattle.granule_rows.specs.Runs.{IsFirstMultiple, is_within}
 use Rattle.heap_core.proofs.EmptyLaws.{get_or-zeros, is_taken-zeros, zeros}
+use Rattle.heap_core.proofs.NthLaws.{count-marks_of, count-take-marks_of}
 use Rattle.heap_core.proofs.KeptLaws.{get_or-kept, get_or-kept_lengths, get_or-not_kept, kept-le, length-kept_lengths}
 use Rattle.heap_core.proofs.ShadowLaws.{get_or-bits_of, length-bits_of}
 use Rattle.heap_core.proofs.RunLaws.{is_taken-set_other, is_taken_by, is_taken_none, is_taken_within}
 use Rattle.heap_core.specs.Rows.{AreRows, granules_of}
 use Rattle.heap_core.specs.Shadow.{bits_of}
 use Rattle.heap_core.specs.Stored.{AreStored, length_in, lengths_of, marks_of}
-use Rattle.heap_core.specs.Table.{IsFirstGap, IsGap, is_held, is_live, is_taken, kept_lengths}
+use Rattle.heap_core.specs.Table.{AreBlocks, IsFirstGap, IsGap, IsHeldStart, held_count, is_held, is_live, is_taken, kept_lengths}
 use Rattle.heap_core.specs.declared.rows.Rows.{Rows}
 use Rattle.heap_core.specs.declared.table.Table.TheInside.{Inside}
 use Rattle.tag_memory.specs.Laws.{is_set_zero}
@@ -345,6 +347,48 @@ module _ (t : Inside) (stored : AreStored t) where
   painted_by_row k lt =
       get_or-bits_of t.rows.held.items k (omega (arith, row_reaches t stored k lt, stored.rows.held))
       ∙ stored.held k (omega (arith, length-lengths_of t.rows.starts.items t.lengths.items))
+
+-- ---- held blocks by their number
+
+module _ (t : Inside) (stored : AreStored t) where
+  pub row_long : length (lengths_of t.rows.starts.items t.lengths.items) ≡ 64 * length t.rows.held.items
+  row_long = length-lengths_of t.rows.starts.items t.lengths.items ∙ omega (arith, stored.count, stored.rows.held)
+
+  pub marks_counted : count_below (is_both t.rows.starts.items t.rows.held.items) (64 * length t.rows.starts.items) ≡ held_count (marks_of t.rows.starts.items t.rows.held.items (length t.lengths.items))
+  marks_counted = ap (count_below (is_both t.rows.starts.items t.rows.held.items)) (sym stored.count) ∙ sym (count-marks_of t.rows.starts.items t.rows.held.items (length t.lengths.items))
+
+  -- A mark stands where a block starts, and no block is empty.
+  pub marks_some : AreBlocks (lengths_of t.rows.starts.items t.lengths.items) (marks_of t.rows.starts.items t.rows.held.items (length t.lengths.items))
+  marks_some k is = elim (cases_lt k (length t.lengths.items)) [
+    | inl inside ↦
+        let both = and_parts (is_set_for t.rows.starts.items k) (is_set_for t.rows.held.items k) (sym (get_or-marks_of t.rows.starts.items t.rows.held.items (length t.lengths.items) k inside) ∙ is) in
+        let there = get_or-lengths_of t.rows.starts.items t.lengths.items k ∙ length_in-start t.rows.starts.items t.lengths.items k both.0 in
+        omega (arith, there, stored.some k both.0)
+    | inr past ↦ absurd (true≢false (sym is ∙ get_or_past (marks_of t.rows.starts.items t.rows.held.items (length t.lengths.items)) k false (omega (arith, past, length-marks_of t.rows.starts.items t.rows.held.items (length t.lengths.items)))))
+  ]
+
+  pub starts_at : (n p : ℕ)
+      → (n ≤ count_below (is_both t.rows.starts.items t.rows.held.items) (64 * length t.rows.starts.items) → count_below (is_both t.rows.starts.items t.rows.held.items) p ≡ n)
+      → p ≤ 64 * length t.rows.starts.items
+      → (p < 64 * length t.rows.starts.items → is_both t.rows.starts.items t.rows.held.items p ≡ true)
+      → n ≤ held_count (marks_of t.rows.starts.items t.rows.held.items (length t.lengths.items))
+      → IsHeldStart (lengths_of t.rows.starts.items t.lengths.items) (marks_of t.rows.starts.items t.rows.held.items (length t.lengths.items)) n p
+  starts_at n p before within one there =
+      let long = length-lengths_of t.rows.starts.items t.lengths.items in
+      record {
+        before = count-take-marks_of t.rows.starts.items t.rows.held.items (length t.lengths.items) p (omega (arith, within, stored.count)) ∙ before (omega (arith, there, marks_counted));
+        within = omega (arith, within, stored.count, long);
+        held = λ inside. get_or-marks_of t.rows.starts.items t.rows.held.items (length t.lengths.items) p (omega (arith, inside, long)) ∙ one (omega (arith, inside, long, stored.count));
+      }
+
+  -- Of a range that lies in the table, the granules in held blocks are those whose bits are 1.
+  pub held_range : (from to : ℕ) → to ≤ length (lengths_of t.rows.starts.items t.lengths.items) → (k : ℕ)
+      → (is_within from to k && is_taken k (kept_lengths is_held (lengths_of t.rows.starts.items t.lengths.items) (marks_of t.rows.starts.items t.rows.held.items (length t.lengths.items))))
+      ≡ (is_within from to k && is_set_for t.rows.held.items k)
+  held_range from to inside k = elim (cases_lt k to) [
+    | inl before ↦ ap (λ (b : Bool). is_within from to k && b) (sym (stored.held k (omega (arith, before, inside, length-lengths_of t.rows.starts.items t.lengths.items))))
+    | inr past ↦ rw (within_behind from to k past) refl
+  ]
 
 -- ---- a block is held
 

@@ -2,6 +2,7 @@ pub mod Blocks
 pub mod Consistent
 pub mod Heap
 pub mod Laws
+pub mod Painting
 pub mod Place
 pub mod Quarantine
 pub mod Rows

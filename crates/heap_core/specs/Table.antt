@@ -1,6 +1,6 @@
 -- A heap as a table, which has for each granule the length in granules of the block that starts there,
 -- or 0, and a mark that says whether that block is held.
-use Rattle.std.specs.Prelude.{◌≡◌, ◌<◌, ◌≤◌, ◌+◌, ◌*◌, ◌%◌, nat_lt, ◌&&◌, ◌||◌, not, if◌then◌else◌, ℕ, zero, suc, Bool, true, false, List, [], ◌∷◌, ◌++◌, length, slice_index}
+use Rattle.std.specs.Prelude.{◌≡◌, ◌<◌, ◌≤◌, ◌+◌, ◌*◌, ◌%◌, nat_lt, ◌&&◌, ◌||◌, not, if◌then◌else◌, ℕ, zero, suc, Bool, true, false, List, [], ◌∷◌, ◌++◌, count_by, length, slice_index, slice_index_or, take}
 use Rattle.heap_core.specs.Blocks.{Span}
 use Rattle.heap_core.specs.Heap.{HeapState}
 use Rattle.tag_memory.specs.Span.{is_base, is_size}
@@ -76,3 +76,17 @@ pub record IsTable (base : ℕ) (lengths : List ℕ) (marks : List Bool) : Type 
   pub place : is_base base pages ≡ true
   pub inside : (j : ℕ) → j < length lengths → j + slice_index lengths j ≤ length lengths
   pub apart : (j k : ℕ) → j < k → 0 < slice_index lengths k → j + slice_index lengths j ≤ k
+
+-- How many held blocks these marks say.
+abbrev pub held_count : List Bool → ℕ
+held_count marks = count_by is_held marks
+
+-- No block is empty: a mark stands only where a block starts.
+abbrev pub AreBlocks : List ℕ → List Bool → Type 0
+AreBlocks lengths marks = (k : ℕ) → slice_index_or marks k false ≡ true → 0 < slice_index lengths k
+
+-- The held block that has n before it starts at granule p, or p is the end of the table and the last one has fewer.
+pub record IsHeldStart (lengths : List ℕ) (marks : List Bool) (n p : ℕ) : Type 0 where
+  pub before : held_count (take p marks) ≡ n
+  pub within : p ≤ length lengths
+  pub held : p < length lengths → slice_index_or marks p false ≡ true

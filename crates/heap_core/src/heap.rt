@@ -7,6 +7,7 @@ ghost use Rattle.heap_core.specs.Heap.{IsSound, empty_heap};
 ghost use Rattle.heap_core.specs.Place.{IfOkSome, IsFree, IsPlace, block_length, with_live};
 ghost use Rattle.tag_memory.specs.Span as span;
 
+mod painting;
 mod quarantine;
 
 use crate::block::{Block, granules_for, shape_for};

@@ -5,6 +5,7 @@ mod block;
 mod fault;
 mod heap;
 mod laws;
+mod painting;
 mod rows;
 mod shadow;
 mod table;

@@ -1,7 +1,8 @@
 //! The shadow of a heap: which of its granules lie in held blocks.
 
-ghost use Rattle.std.specs.Prelude.{◌≡◌, ◌<◌, ◌*◌, ◌^◌, IfOk, false, length, slice_index_or};
+ghost use Rattle.std.specs.Prelude.{◌≡◌, ◌<◌, ◌*◌, ◌^◌, ℕ, IfOk, false, length, slice_index_or};
 ghost use Rattle.heap_core.specs.Shadow.{bits_of};
+ghost use Rattle.tag_memory.specs.Tags.{is_set_for};
 
 use granule_rows::row_bit;
 use std::alloc::{AllocError, Global};
@@ -14,17 +15,19 @@ use tag_memory::WORD_GRANULES;
 pub struct Shadow {
     // Bit `j` of word `w` is that of granule `64 * w + j`.
     words: Vec<u64>,
+    // 64 a word.
+    granules: usize,
 }
 
 impl Model for Shadow {
-    ghost use Rattle.std.specs.Prelude.{◌<◌, ◌*◌, ◌^◌, Bool, List, length};
+    ghost use Rattle.std.specs.Prelude.{◌≡◌, ◌*◌, Bool, List, length};
     ghost use Rattle.heap_core.specs.Shadow.{bits_of};
 
     ghost Value = { List Bool };
 
     ghost view = { λ shadow. bits_of shadow.words.items };
 
-    ghost invariant = { λ shadow. 64 * length shadow.words.items < 2 ^ 64 };
+    ghost invariant = { λ shadow. 64 * length shadow.words.items ≡ shadow.granules };
 }
 
 impl Shadow {
@@ -35,14 +38,25 @@ impl Shadow {
     {
         let mut words = vec![in alloc; 0; row.len()]?;
         words.copy_from_slice(row);
-        Ok(Shadow { words })
+        let granules = WORD_GRANULES * row.len();
+        Ok(Shadow { words, granules })
+    }
+
+    /// The shadow in which a granule is painted exactly where its bit is 1: bit `j` of word `w` is that of granule
+    /// `64 * w + j`.
+    pub fn from_words(words: Vec<u64>, granules: usize) -> Shadow
+        requires { 64 * length words.items ≡ granules }
+        ensures granules { length result ≡ granules }
+        ensures painted { (k : ℕ) → k < granules → slice_index_or result k false ≡ is_set_for words.items k }
+    {
+        Shadow { words, granules }
     }
 
     /// How many granules there are.
     pub fn granules(&self) -> usize
         ensures { result ≡ length self.now }
     {
-        WORD_GRANULES * self.words.len()
+        self.granules
     }
 
     /// Whether a granule, counted from the heap's base, lay in a held block.

@@ -1,12 +1,17 @@
 //! The blocks of a heap, by the granules at which they start.
 
-ghost use Rattle.std.specs.Prelude.{◌≡◌, ◌<◌, ◌≤◌, ◌+◌, ◌*◌, ◌%◌, ◌^◌, ℕ, IfOk, IfSome, false, length, replicate, slice_index, slice_index_or, slice_set, true};
-ghost use Rattle.heap_core.specs.Table.{IsBlockAt, IsFirstGap, IsGap, is_held, is_live, is_taken, kept_lengths};
+ghost use Rattle.std.specs.Prelude.{◌≡◌, ◌<◌, ◌≤◌, ◌+◌, ◌*◌, ◌%◌, ◌^◌, ◌&&◌, ℕ, IfOk, IfSome, false, length, replicate, slice_index, slice_index_or, slice_set, true};
+ghost use Rattle.granule_rows.specs.Runs.{is_within};
+ghost use Rattle.heap_core.specs.Painting.{IsPainted};
+ghost use Rattle.heap_core.specs.Table.{AreBlocks, IsBlockAt, IsFirstGap, IsGap, IsHeldStart, held_count, is_held, is_live, is_taken, kept_lengths};
+ghost use Rattle.mark_board.specs.Board.{IsOf};
 
 use crate::block::Shape;
+use crate::painting::paint_row;
 use crate::rows::Rows;
 use crate::shadow::Shadow;
-use granule_rows::row_bit;
+use granule_rows::{count_both, place_of_both, row_bit};
+use mark_board::{Board, MarkSeat};
 use std::alloc::{AllocError, Global};
 use std::marker::Model;
 use tag_memory::GRANULE;
@@ -147,5 +152,32 @@ impl Table {
             → slice_index_or shadow k false ≡ is_taken k (kept_lengths is_held self.now.lengths self.now.marks)) }
     {
         Shadow::of_row(alloc, &self.rows.held)
+    }
+
+    /// How many held blocks there are.
+    pub fn held_blocks(&self) -> usize
+        ensures count { result ≡ held_count self.now.marks }
+        ensures some { AreBlocks self.now.lengths self.now.marks }
+    {
+        count_both(&self.rows.starts, &self.rows.held)
+    }
+
+    /// The granule at which the held block starts that has `n` before it, or the end of the table where the last
+    /// one has fewer.
+    pub fn held_start(&self, n: usize) -> usize
+        ensures start { n ≤ held_count self.now.marks → IsHeldStart self.now.lengths self.now.marks n result }
+        ensures some { AreBlocks self.now.lengths self.now.marks }
+    {
+        place_of_both(&self.rows.starts, &self.rows.held, n)
+    }
+
+    /// Paints the granules of held blocks from `from` on and before `to`.
+    pub fn paint_held(&self, board: &Board, seat: &mut MarkSeat, from: usize, to: usize)
+        requires board { IsOf board.now seat.old }
+        requires bits { board.now.bits ≡ length self.now.lengths }
+        requires within { to ≤ length self.now.lengths }
+        ensures { IsPainted (λ k. is_within from to k && is_taken k (kept_lengths is_held self.now.lengths self.now.marks)) board.now seat.old seat.new }
+    {
+        paint_row(&self.rows.held, board, seat, from, to);
     }
 }

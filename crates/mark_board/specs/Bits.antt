@@ -1,11 +1,15 @@
 -- Sets of bits as rows of words: bit j of word w stands at place 64 * w + j (this project's own form).
 -- Sets are compared and united word by word.
-use Rattle.std.specs.Prelude.{◌≡◌, ℕ, ◌+◌, ◌*◌, ◌^◌, ◌<◌, ◌≤◌, List, [], ◌∷◌, bit_and, bit_or, slice_index, slice_set}
+use Rattle.std.specs.Prelude.{◌≡◌, ℕ, ◌+◌, ◌*◌, ◌/◌, ◌%◌, ◌^◌, ◌<◌, ◌≤◌, List, [], ◌∷◌, bit_and, bit_or, slice_index, slice_set}
 use Rattle.std.specs.Int.{bit_at, bit_not, w64}
 
 -- Bit j of word w of the set, 0 or 1.
 abbrev pub bit : List ℕ → ℕ → ℕ → ℕ
 bit words w j = bit_at (slice_index words w) j
+
+-- Bit k of the set, 0 or 1.
+abbrev pub has : List ℕ → ℕ → ℕ
+has words k = bit words (k / 64) (k % 64)
 
 -- Each word of the set is a number of 64 bits.
 abbrev pub AreWords : List ℕ → Type 0

@@ -6,7 +6,8 @@ use Rattle.std.proofs.lemmas.Option.{get_or_from_slice_get, slice_get_within}
 use Rattle.mark_board.specs.Bits.{Apart, Within, united}
 use Rattle.mark_board.specs.Board.{SeatState}
 use Rattle.sweep_pool.specs.ClaimLaws.{Accounts-join, Accounts-more, HasRun-join, HasRun-next, each_once, times-hit}
-use Rattle.sweep_pool.specs.Claims.{Accounts, AreAllSwept, HasRun, IsDone, claimed, has}
+use Rattle.sweep_pool.specs.Claims.{Accounts, AreAllSwept, HasRun, IsDone, claimed}
+use Rattle.mark_board.specs.Bits.{has}
 use Rattle.sweep_pool.specs.Gather.{IsFaultOf, IsSized, IsSwept, times}
 use Rattle.sweep_pool.specs.Laws.{AreBits-words, below_of-IsTask}
 use Rattle.sweep_pool.specs.Tasks.{Cut, IsTaskCount, page_count, task_words}

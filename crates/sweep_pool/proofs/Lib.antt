@@ -2,5 +2,6 @@ pub mod CountLaws
 pub mod GatherLaws
 pub mod MarkLaws
 pub mod MaskLaws
+pub mod PaintLaws
 pub mod TaskLaws
 pub mod WholeLaws

@@ -9,7 +9,8 @@ use Rattle.std.proofs.lemmas.Nat.Bits.{and_pow, bit_at-lt, bit_at_or, bit_at-pow
 use Rattle.mark_board.specs.Bits.{Within, gains, without}
 use Rattle.mark_board.specs.Board.{BoardState, IsMask}
 use Rattle.mark_board.specs.Laws.{bit-gains_same, gains-keep, gains-none, mask-one}
-use Rattle.sweep_pool.specs.Claims.{HasRun, claimed, has}
+use Rattle.sweep_pool.specs.Claims.{HasRun, claimed}
+use Rattle.mark_board.specs.Bits.{has}
 
 -- The mask of a task, as it is computed.
 abbrev pub mask : ℕ → ℕ

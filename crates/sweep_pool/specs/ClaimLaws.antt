@@ -8,7 +8,8 @@ use Rattle.std.proofs.lemmas.Nat.Bits.{bit_at-lt, bit_at-pow_other, bit_at-pow_s
 use Rattle.mark_board.specs.Bits.{Apart, Within, bit, united}
 use Rattle.mark_board.specs.Board.{BoardState, no_bits}
 use Rattle.mark_board.specs.Laws.{bit-gains_other, bit-gains_same, bit-none, bit-united}
-use Rattle.sweep_pool.specs.Claims.{Accounts, HasRun, claimed, has}
+use Rattle.sweep_pool.specs.Claims.{Accounts, HasRun, claimed}
+use Rattle.mark_board.specs.Bits.{has}
 use Rattle.sweep_pool.specs.Gather.{times}
 use Rattle.sweep_pool.specs.declared.task.Swept.{Swept}
 

@@ -12,7 +12,7 @@ use heap_core::Freed;
 use heap_reply::{Reply, Trap};
 use std::alloc::Global;
 use std::thread::Threads;
-use sweep_pool::{Cutting, Gate, sweep_masks, swept_registers};
+use sweep_pool::{Cutting, Gate, Open, paint_shadow, sweep_masks, swept_registers};
 use trace_text::Command;
 
 // To decode the words of so many granules takes longer than a worker more costs: the start of its thread,
@@ -91,7 +91,8 @@ impl Parts {
         self.pass_over(rt, alloc, gate)
     }
 
-    // A pass over all memory and registers. Whatever takes memory comes first.
+    // A pass over all memory and registers. Whatever takes memory comes first. One worker paints the shadow:
+    // it copies the row of held granules, which takes less than the start of a thread.
     fn pass_over<R: Threads + Sync, G: Gate + Sync>(
         &mut self,
         rt: &R,
@@ -107,7 +108,8 @@ impl Parts {
         let Ok(()) = self.heap.prepare() else {
             return Err(MachineFault::Memory);
         };
-        let Ok(shadow) = self.heap.shadow(alloc) else {
+        let painters = cutting_for(self.cutting, 0);
+        let Ok(shadow) = paint_shadow(rt, alloc, &self.heap, &painters, &Open) else {
             return Err(MachineFault::Memory);
         };
         let cutting = cutting_for(self.cutting, self.memory.tagged());

@@ -89,14 +89,14 @@ fn no_more_workers_than_the_cutting_has(rt: HostRuntime) {
 // A gate whose first call waits until so many calls have come, for at most
 // 10,000,000 turns, after each of which others may run.
 #[derive(Drop)]
-struct Meeting {
-    calls: AtomicU64,
+pub(super) struct Meeting {
+    pub(super) calls: AtomicU64,
     wanted: u64,
-    met: AtomicBool,
+    pub(super) met: AtomicBool,
 }
 
 impl Meeting {
-    fn of(wanted: u64) -> Meeting {
+    pub(super) fn of(wanted: u64) -> Meeting {
         Meeting {
             calls: AtomicU64::new(0),
             wanted,

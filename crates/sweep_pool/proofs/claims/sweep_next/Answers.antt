@@ -2,7 +2,8 @@ use Rattle.std.proofs.Common.{rules, ◌≡◌, ◌<◌, ◌+◌, ◌/◌, ◌%�
 use Rattle.mark_board.specs.Bits.{Within}
 use Rattle.mark_board.specs.Board.{word_count}
 use Rattle.mark_board.specs.Laws.{seat-of_board}
-use Rattle.sweep_pool.specs.Claims.{HasRun, claimed, has}
+use Rattle.sweep_pool.specs.Claims.{HasRun, claimed}
+use Rattle.mark_board.specs.Bits.{has}
 use Rattle.sweep_pool.proofs.MarkLaws.{IsMask-task, free, missed, saw, took}
 use Rattle.sweep_pool.proofs.claims.sweep_next.Goals as goal
 

@@ -1,7 +1,8 @@
 use Rattle.std.proofs.Common.{rules, ◌≡◌, ◌<◌, ◌≤◌, ◌+◌, ◌/◌, ◌++◌, ◌∷◌, [], All, length, arith}
 use Rattle.mark_board.specs.Board.{word_count}
 use Rattle.mark_board.specs.Laws.{seat-of_board}
-use Rattle.sweep_pool.specs.Claims.{Accounts, HasRun, claimed, has}
+use Rattle.sweep_pool.specs.Claims.{Accounts, HasRun, claimed}
+use Rattle.mark_board.specs.Bits.{has}
 use Rattle.sweep_pool.specs.Gather.{IsSwept}
 use Rattle.sweep_pool.specs.declared.task.Swept.{Swept}
 use Rattle.sweep_pool.proofs.CountLaws.{grown}

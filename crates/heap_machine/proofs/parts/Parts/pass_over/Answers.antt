@@ -11,8 +11,8 @@ pub ones_in-requires : goal.ones_in-requires
 ones_in-requires g c =
     let m = c.args.self.now in
     let parts = c.requires in
-    let painted : IsShadow m.heap c.in-Ok-shadow.shadow = rw c.prepare.ensures.unchanged at c.in-Ok-shadow.ensures.shadow in
-    let of : IsShadowOf m.heap m.memory.base c.in-Ok-shadow.shadow = record { start = sym parts.base; sound = parts.sound.safe.heap; painted = painted } in
+    let painted : IsShadow m.heap c.in-Ok-paint_shadow.shadow = rw c.prepare.ensures.unchanged at c.in-Ok-paint_shadow.ensures.shadow in
+    let of : IsShadowOf m.heap m.memory.base c.in-Ok-paint_shadow.shadow = record { start = sym parts.base; sound = parts.sound.safe.heap; painted = painted } in
     let few = few_masks (state_of m) c.in-Ok-sweep_masks.masks.items parts.sound (c.in-Ok-sweep_masks.ensures.held m.heap of).count in
     rw c.deref-2.ensures.value few
 
@@ -20,9 +20,9 @@ pub overflow_add-result : goal.overflow_add-result
 overflow_add-result g c =
     let m = c.args.self.now in
     let parts = c.requires in
-    let painted : IsShadow m.heap c.in-Ok-shadow.shadow = rw c.prepare.ensures.unchanged at c.in-Ok-shadow.ensures.shadow in
-    let of : IsShadowOf m.heap m.memory.base c.in-Ok-shadow.shadow = record { start = sym parts.base; sound = parts.sound.safe.heap; painted = painted } in
-    let at : IsShadowOf m.heap c.base.result c.in-Ok-shadow.shadow = record { start = sym (c.base.ensures.value ∙ parts.base); sound = parts.sound.safe.heap; painted = painted } in
+    let painted : IsShadow m.heap c.in-Ok-paint_shadow.shadow = rw c.prepare.ensures.unchanged at c.in-Ok-paint_shadow.ensures.shadow in
+    let of : IsShadowOf m.heap m.memory.base c.in-Ok-paint_shadow.shadow = record { start = sym parts.base; sound = parts.sound.safe.heap; painted = painted } in
+    let at : IsShadowOf m.heap c.base.result c.in-Ok-paint_shadow.shadow = record { start = sym (c.base.ensures.value ∙ parts.base); sound = parts.sound.safe.heap; painted = painted } in
     let words : (w : ℕ) → get_or c.in-Ok-sweep_masks.masks.items w 0 < 2 ^ 64 = rw c.deref-2.ensures.value at c.ones_in.ensures.words in
     let below : c.swept_registers-mask.result < 2 ^ 32 = omega arith in
     let taken = tags-taken m.heap m.memory m.registers c.in-Ok-sweep_masks.masks.items c.swept_registers-mask.result parts.sound (c.in-Ok-sweep_masks.ensures.held m.heap of) words below (c.swept_registers-mask.ensures.held m.heap at) in
@@ -34,9 +34,9 @@ returns-clause-step g c =
     let m = c.args.self.now in
     let s = state_of m in
     let parts = c.requires in
-    let painted : IsShadow m.heap c.in-Ok-shadow.shadow = rw c.prepare.ensures.unchanged at c.in-Ok-shadow.ensures.shadow in
-    let of : IsShadowOf m.heap m.memory.base c.in-Ok-shadow.shadow = record { start = sym parts.base; sound = parts.sound.safe.heap; painted = painted } in
-    let at : IsShadowOf m.heap c.base.result c.in-Ok-shadow.shadow = record { start = sym (c.base.ensures.value ∙ parts.base); sound = parts.sound.safe.heap; painted = painted } in
+    let painted : IsShadow m.heap c.in-Ok-paint_shadow.shadow = rw c.prepare.ensures.unchanged at c.in-Ok-paint_shadow.ensures.shadow in
+    let of : IsShadowOf m.heap m.memory.base c.in-Ok-paint_shadow.shadow = record { start = sym parts.base; sound = parts.sound.safe.heap; painted = painted } in
+    let at : IsShadowOf m.heap c.base.result c.in-Ok-paint_shadow.shadow = record { start = sym (c.base.ensures.value ∙ parts.base); sound = parts.sound.safe.heap; painted = painted } in
     let cleared = rw c.deref.ensures.value at c.clear_tags.ensures.cells in
     let are = AreSwept-masks m.heap m.memory c.clear_tags.new.self m.registers c.clear_tags-2.new.self c.in-Ok-sweep_masks.masks.items c.swept_registers-mask.result
     parts.sound parts.base (c.in-Ok-sweep_masks.ensures.held m.heap of) c.clear_tags.ensures.base cleared (c.swept_registers-mask.ensures.held m.heap at)

@@ -1,0 +1,45 @@
+//! The shadow painted by several threads, on a board with a bit for each granule.
+
+ghost use Rattle.std.specs.Prelude.{◌≡◌, ◌≤◌, ◌*◌, ◌^◌, length};
+ghost use Rattle.heap_core.specs.Heap.{IsSound};
+ghost use Rattle.heap_core.specs.Painting.{IsPainted, is_in_held};
+ghost use Rattle.mark_board.specs.Board.{IsOf};
+
+use crate::heap::Heap;
+use mark_board::{Board, MarkSeat};
+
+impl Heap {
+    /// How many granules of 16 bytes the heap has.
+    pub fn granules(&self) -> usize
+        ensures value { 16 * result ≡ self.now.size }
+        // What holds of every heap.
+        ensures sound { IsSound self.now }
+    {
+        self.table.granules()
+    }
+
+    /// How many held blocks there are.
+    pub fn held_blocks(&self) -> usize
+        ensures count { result ≡ length self.now.held }
+        // A block has a granule at least.
+        ensures limit { result ≤ 2 ^ 18 }
+    {
+        self.table.held_blocks()
+    }
+
+    /// Marks the granules of the held blocks number `first` to `last - 1`, counted by rising start, on a board
+    /// that has a bit for each granule of the heap: afterwards the seat has seen them all, and has set no
+    /// others first. A mark takes 64 granules at once, and shares that overlap do no harm (Filardo et al. 2020,
+    /// Cornucopia: the shadow bitmap is painted by several threads).
+    pub fn paint(&self, board: &Board, seat: &mut MarkSeat, first: usize, last: usize)
+        requires board { IsOf board.now seat.old }
+        requires granules { 16 * board.now.bits ≡ self.now.size }
+        requires order { first ≤ last }
+        requires blocks { last ≤ length self.now.held }
+        ensures { IsPainted (is_in_held self.now first last) board.now seat.old seat.new }
+    {
+        let from = self.table.held_start(first);
+        let to = self.table.held_start(last);
+        self.table.paint_held(board, seat, from, to);
+    }
+}

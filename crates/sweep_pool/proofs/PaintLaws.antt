@@ -1,0 +1,179 @@
+-- Shares that are painted, and joined to a shadow.
+use Rattle.std.proofs.Common.{◌≡◌, ◌∙◌, ◌<◌, ◌≤◌, ◌+◌, ◌-◌, ◌*◌, ◌/◌, ◌%◌, ◌^◌, ◌==◌, ◌||◌, inl, inr, nat_le, ℕ, Bool, true, false, All, List, [], ◌∷◌, ◌++◌, drop, length, get_or, take, refl, sym, ap, subst, arith}
+use Rattle.std.specs.List.{list_any}
+use Rattle.std.proofs.lemmas.Bool.{and_parts, cases_Bool, cases_lt, eqb-true, or_cases, true≢false}
+use Rattle.std.proofs.lemmas.Bool.Decides.{nat_tests}
+use Rattle.std.proofs.lemmas.List.{drop-drop, drop-take, get_or_append_left, get_or_push, length-append, take-append-drop, take-take, take_all}
+use Rattle.std.proofs.lemmas.List.Folds.{list_any-append}
+use Rattle.std.proofs.lemmas.List.Elements.{All-head, All-tail}
+use Rattle.std.proofs.Math.Nat.{div-le_of_le-mul, div-mul-le_self}
+use Rattle.std.proofs.lemmas.Nat.{le-div, mul-le}
+use Rattle.std.proofs.lemmas.Nat.Bits.{bit_at-lt}
+use Rattle.heap_core.specs.Blocks.{Span, end_of, has_address, lies_in, start_of}
+use Rattle.heap_core.specs.Heap.{HeapState, IsInside, IsSound}
+use Rattle.heap_core.specs.Painting.{IsPainted, is_in_held}
+use Rattle.heap_core.specs.Quarantine.{IsShadow}
+use Rattle.mark_board.specs.Bits.{has, united}
+use Rattle.mark_board.specs.Board.{BoardState, IsOf, IsSeat, SeatState, no_bits, word_count}
+use Rattle.mark_board.specs.Laws.{bit-none, bit-united}
+use Rattle.sweep_pool.specs.Painting.{EachAt, HasGranules, HasPainted, is_held_at, share_start}
+use Rattle.tag_memory.specs.Tags.{is_set_for}
+
+-- ---- blocks by their numbers
+
+or_none : (a b : Bool) → (a || b) ≡ false → (a ≡ false) × (b ≡ false)
+or_none true b none = absurd (true≢false none)
+or_none false b none = (refl, none)
+
+-- A granule in blocks a to c is in a to b, or in b to c.
+pub in_held-split : (s : HeapState) (a b c k : ℕ) → a ≤ b → b ≤ c → is_in_held s a c k ≡ (is_in_held s a b k || is_in_held s b c k)
+in_held-split s a b c k low high =
+    let from_a : List Span = drop a s.held in
+    let test : Span → Bool = has_address (s.base + 16 * k) in
+    let whole : (b - a) + (c - b) ≡ c - a = omega (arith, low, high) in
+    let at : a + (b - a) ≡ b = omega (arith, low) in
+    let first : take (b - a) (take (c - a) from_a) ≡ take (b - a) from_a = take-take (b - a) (c - a) from_a (omega (arith, high)) in
+    let second : drop (b - a) (take (c - a) from_a) ≡ take (c - b) (drop b s.held) =
+    ap (λ (n : ℕ). drop (b - a) (take n from_a)) (sym whole) ∙ (drop-take (b - a) (c - b) from_a ∙ ap (take (c - b)) (drop-drop (b - a) a s.held ∙ ap (λ (n : ℕ). drop n s.held) at)) in
+    let both = list_any-append test (take (b - a) (take (c - a) from_a)) (drop (b - a) (take (c - a) from_a)) in
+    ap (list_any test) (sym (take-append-drop (b - a) (take (c - a) from_a))) ∙ (both ∙ (λ i. list_any test (first i) || list_any test (second i)))
+
+abbrev lies_in_at : (s : HeapState) (k : ℕ) → List Span → Bool
+lies_in_at s k blocks = lies_in blocks (s.base + 16 * k)
+
+later : (test : Span → Bool) (xs ys : List Span) → list_any test (xs ++ ys) ≡ false → list_any test ys ≡ false
+later test xs ys none = (or_none (list_any test xs) (list_any test ys) (sym (list_any-append test xs ys) ∙ none)).1
+
+earlier : (test : Span → Bool) (xs ys : List Span) → list_any test (xs ++ ys) ≡ false → list_any test xs ≡ false
+earlier test xs ys none = (or_none (list_any test xs) (list_any test ys) (sym (list_any-append test xs ys) ∙ none)).0
+
+-- ---- seats
+
+-- One share more.
+pub painted-join : (s : HeapState) (board : BoardState) (a b c : ℕ) (whole one both : SeatState) → a ≤ b → b ≤ c → HasPainted s board b c whole → HasPainted s board a b one
+    → IsOf board both → IsSeat both → both.mine ≡ united whole.mine one.mine → both.seen ≡ united whole.seen one.seen → HasPainted s board a c both
+painted-join s board a b c whole one both low high all more of sound mine seen = record {
+  of = of;
+  sound = sound;
+  mine = λ k free. omega (arith, ap (λ (set : List ℕ). has set k) mine, bit-united whole.mine one.mine (k / 64) (k % 64), all.mine k free, more.mine k free);
+  seen = λ k is.
+      let limit = bit_at-lt (get_or both.seen (k / 64) 0) (k % 64) in
+      let set = bit-united whole.seen one.seen (k / 64) (k % 64) in
+      let at = ap (λ (set : List ℕ). has set k) seen in
+      elim (or_cases (is_in_held s a b k) (is_in_held s b c k) (sym (in_held-split s a b c k low high) ∙ is)) [
+        | inl here ↦ omega (arith, at, set, more.seen k here, limit)
+        | inr there ↦ omega (arith, at, set, all.seen k there, limit)
+      ];
+}
+
+-- A granule in some held blocks lies in a held block.
+pub in_held-any : (s : HeapState) (a b k : ℕ) → is_held_at s k ≡ false → is_in_held s a b k ≡ false
+in_held-any s a b k free =
+    let test : Span → Bool = has_address (s.base + 16 * k) in
+    let rest : list_any test (drop a s.held) ≡ false = later test (take a s.held) (drop a s.held) (ap (list_any test) (take-append-drop a s.held) ∙ free) in
+    earlier test (take (b - a) (drop a s.held)) (drop (b - a) (drop a s.held)) (ap (list_any test) (take-append-drop (b - a) (drop a s.held)) ∙ rest)
+
+-- What a worker leaves.
+pub painted-share : (s : HeapState) (board : BoardState) (a b : ℕ) (old new : SeatState) → old.mine ≡ no_bits board → IsSeat old → IsPainted (is_in_held s a b) board old new → HasPainted s board a b new
+painted-share s board a b old new none sound p = record {
+  of = p.of;
+  sound = p.sound sound;
+  mine = λ k free. p.mine k (in_held-any s a b k free) ∙ (ap (λ (set : List ℕ). has set k) none ∙ bit-none _ (k / 64) (k % 64));
+  seen = p.seen;
+}
+
+-- ---- the shadow
+
+inside_it : (a : ℕ) (block : Span) → start_of block ≤ a → a < end_of block → has_address a block ≡ true
+inside_it a block from before = grind (arith, nat_tests)
+
+before_it : (a : ℕ) (block : Span) → a < start_of block → has_address a block ≡ false
+before_it a block before = grind (arith, nat_tests)
+
+after_it : (a : ℕ) (block : Span) → end_of block ≤ a → has_address a block ≡ false
+after_it a block after = grind (arith, nat_tests)
+
+base_whole : (s : HeapState) → IsSound s → s.base % 16 ≡ 0
+base_whole s sound =
+    let page : s.base % 4096 ≡ 0 = eqb-true (s.base % 4096) 0 (and_parts (s.base % 4096 == 0) (nat_le (s.base + 4096 * sound.pages) (2 ^ 64)) sound.place).0 in
+    omega (arith, page)
+
+-- A held block is whole granules.
+same_granule : (s : HeapState) (a k : ℕ) (block : Span) → s.base % 16 ≡ 0 → IsInside s block → s.base + 16 * k ≤ a → a < s.base + 16 * k + 16 → has_address a block ≡ has_address (s.base + 16 * k) block
+same_granule s a k block base inside low high = elim (cases_lt a (start_of block)) [
+  | inl before ↦ (let there : s.base + 16 * k < start_of block = omega (arith, before, low) in before_it a block before ∙ sym (before_it (s.base + 16 * k) block there))
+  | inr from ↦
+      let there : start_of block ≤ s.base + 16 * k = omega (arith, from, high, base, inside.start) in
+      elim (cases_lt a (end_of block)) [
+        | inl short ↦ (let less : s.base + 16 * k < end_of block = omega (arith, short, low) in inside_it a block from short ∙ sym (inside_it (s.base + 16 * k) block there less))
+        | inr past ↦ (let less : end_of block ≤ s.base + 16 * k = omega (arith, past, high, base, inside.start, inside.length) in after_it a block past ∙ sym (after_it (s.base + 16 * k) block less))
+      ]
+]
+
+same_granules : (s : HeapState) (a k : ℕ) (blocks : List Span) → s.base % 16 ≡ 0 → All (IsInside s) blocks → s.base + 16 * k ≤ a → a < s.base + 16 * k + 16 → lies_in blocks a ≡ lies_in blocks (s.base + 16 * k)
+same_granules s a k [] base inside low high = refl
+same_granules s a k (block ∷ blocks) base inside low high =
+    let here = same_granule s a k block base (All-head (IsInside s) block blocks inside) low high in
+    let rest = same_granules s a k blocks base (All-tail (IsInside s) block blocks inside) low high in
+    λ i. here i || rest i
+
+-- Words of which each bit says whether its granule lies in a held block are the shadow.
+pub shadow-from_words : (s : HeapState) (shadow : List Bool) → IsSound s → 16 * length shadow ≡ s.size → ((k : ℕ) → k < length shadow → get_or shadow k false ≡ is_held_at s k) → IsShadow s shadow
+shadow-from_words s shadow sound long each =
+    let base : s.base % 16 ≡ 0 = base_whole s sound in
+    record {
+      granules = long;
+      painted = λ a from before.
+          let k : ℕ = (a - s.base) / 16 in
+          each ((a - s.base) / 16) (omega (arith, from, before, long)) ∙ sym (same_granules s a ((a - s.base) / 16) s.held base sound.held_inside (omega (arith, from)) (omega (arith, from)));
+    }
+
+-- What one seat has painted in the end says it of each granule.
+pub words-held : (s : HeapState) (board : BoardState) (seat : SeatState) (words : List ℕ) → HasPainted s board 0 (length s.held) seat → words ≡ seat.mine → words ≡ seat.seen → (k : ℕ) → is_set_for words k ≡ is_held_at s k
+words-held s board seat words p mine seen k = elim (cases_Bool (is_held_at s k)) [
+  | inl is ↦
+      let none : length s.held - 0 ≡ length s.held = omega arith in
+      let all : is_in_held s 0 (length s.held) k ≡ true = ap (λ (n : ℕ). lies_in_at s k (take n s.held)) none ∙ (ap (lies_in_at s k) (take_all (length s.held) s.held (omega arith)) ∙ is) in
+      ap (λ (bit : ℕ). bit == 1) (ap (λ (set : List ℕ). has set k) seen ∙ p.seen k all) ∙ sym is
+  | inr free ↦ ap (λ (bit : ℕ). bit == 1) (ap (λ (set : List ℕ). has set k) mine ∙ p.mine k free) ∙ sym free
+]
+
+-- There is a word for 64 granules.
+pub words-long : (s : HeapState) (board : BoardState) (seat : SeatState) (words : List ℕ) (granules : ℕ) → IsSound s → HasGranules s board → HasPainted s board 0 (length s.held) seat → words ≡ seat.mine → 16 * granules ≡ s.size → 64 * length words ≡ granules
+words-long s board seat words granules sound bits p mine size =
+    let width : length words ≡ word_count board = ap length mine ∙ (p.sound.mine_width ∙ ap word_count p.of) in
+    omega (arith, width, bits, size, sound.bytes)
+
+-- ---- shares
+
+-- A share ends where the next one begins, or after.
+pub share_order : (h workers i : ℕ) → 0 < workers → share_start h workers i ≤ share_start h workers (i + 1)
+share_order h workers i some =
+    let least : i * h / workers * workers ≤ i * h = div-mul-le_self (i * h) workers in
+    let more : (i + 1) * h ≡ i * h + h = omega arith in
+    le-div (i * h / workers) ((i + 1) * h) workers some (omega (arith, least, more))
+
+-- No share goes past the last block,
+pub share_limit : (h workers i : ℕ) → i ≤ workers → share_start h workers i ≤ h
+share_limit h workers i few = div-le_of_le-mul workers (mul-le i h workers h few (omega arith))
+
+-- at which the last one ends.
+pub share_last : (h workers : ℕ) → 0 < workers → share_start h workers workers ≡ h
+share_last h workers some =
+    let most = share_limit h workers workers (omega arith) in
+    let swap : h * workers ≡ workers * h = omega arith in
+    let least : h ≤ workers * h / workers = le-div h (workers * h) workers some (omega (arith, swap)) in
+    omega (arith, most, least)
+
+-- ---- seats in a list
+
+-- What holds of each element by its number holds of all but the last, and of the last.
+pub each_prefix : {X : Type 0} (P : ℕ → X → Type 0) (xs ys : List X) (x : X) → xs ≡ ys ++ x ∷ [] → EachAt P xs → EachAt P ys × P (length ys) x
+each_prefix {X = X} P xs ys x is each =
+    let long : length xs ≡ length ys + 1 = ap length is ∙ length-append ys (x ∷ []) in
+    let before : EachAt P ys = λ i d below. subst (P i) (ap (λ (zs : List X). get_or zs i d) is ∙ get_or_append_left ys (x ∷ []) d i below) (each i d (omega (arith, below, long))) in
+    let last : P (length ys) x = subst (P (length ys)) (ap (λ (zs : List X). get_or zs (length ys) x) is ∙ get_or_push ys x x (length ys) refl) (each (length ys) x (omega (arith, long))) in
+    (before, last)
+
+pub one_longer : {X : Type 0} (xs ys : List X) (x : X) → xs ≡ ys ++ x ∷ [] → length xs ≡ length ys + 1
+one_longer xs ys x is = ap length is ∙ length-append ys (x ∷ [])

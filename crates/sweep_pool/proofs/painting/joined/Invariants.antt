@@ -1,0 +1,14 @@
+use Rattle.std.proofs.Common.{◌≡◌, ◌≤◌, ◌+◌, length}
+use Rattle.sweep_pool.specs.Painting.{EachAt, HasPainted, IsPaintedShare, share_start}
+use Rattle.sweep_pool.proofs.painting.joined.Given as goal
+
+abbrev pub invariant-loop-seat : goal.invariant-loop-seat
+invariant-loop-seat g l = record {
+  few : length l.seats.items ≤ l.painting.workers;
+  left : EachAt (IsPaintedShare l.painting.heap.now l.painting.board.now l.painting.workers) l.seats.items;
+  painted : HasPainted l.painting.heap.now l.painting.board.now (share_start (length l.painting.heap.now.held) l.painting.workers (length l.seats.items)) (length l.painting.heap.now.held) l.whole;
+  parts : l.whole.parts + length l.seats.items ≡ l.painting.workers;
+}
+
+abbrev pub decreases-loop-seat : goal.decreases-loop-seat
+decreases-loop-seat g l = length l.seats.items
