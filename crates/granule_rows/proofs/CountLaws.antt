@@ -1,17 +1,12 @@
 -- Bits counted, one by one and by words.
-use Rattle.std.proofs.Common.{◌≡◌, ◌<◌, ◌≤◌, ◌+◌, ◌*◌, ◌^◌, ◌==◌, ◌&&◌, ℕ, zero, suc, Bool, false, cond, if◌then◌else◌, List, length, get_or, map, bit_and, refl, sym, ap, ◌∙◌, subst, arith, w64, Fits}
-use lib.Lanes.{mask_l}
-use Rattle.std.specs.Int.{bit_at}
+use Rattle.std.proofs.Common.{◌≡◌, ◌<◌, ◌≤◌, ◌+◌, ◌*◌, ◌^◌, ◌&&◌, ℕ, zero, suc, Bool, false, cond, List, get_or, map, bit_and, refl, sym, ap, ◌∙◌, arith, w64, Fits}
 use Rattle.std.specs.List.{range_with_len}
 use Rattle.std.specs.Prelude.{count_ones}
-use Rattle.std.proofs.lemmas.List.{map-id}
 use Rattle.std.proofs.lemmas.List.FromFn.{get_or-map-range_with_len, length-map-range_with_len, sum_by-map-range_with_len_more}
 use Rattle.std.proofs.lemmas.List.Sums.{count_by-le-length}
 use Rattle.std.proofs.lemmas.Nat.{and_le_l}
-use Rattle.std.proofs.lemmas.Nat.Bits.{bit_at-lt, same_from_bits_below}
-use Rattle.std.proofs.lemmas.Simd.{bit_mask_l, mask_l-lt, ones-mask_l}
 use Rattle.granule_rows.specs.Counts.{count_below, is_both}
-use Rattle.tag_memory.specs.Laws.{is_set-and, is_set_for-at}
+use Rattle.tag_memory.specs.Laws.{is_set-and, is_set_for-at, ones-row}
 use Rattle.tag_memory.specs.Tags.{is_set}
 
 -- ---- one by one
@@ -51,22 +46,12 @@ count-split test a (suc n) =
 
 -- ---- by words
 
-of_test : (n : ℕ) → n < 2 → (if n == 1 then 1 else 0) ≡ n
-of_test zero h = refl
-of_test (suc zero) h = refl
-of_test (suc (suc n)) h = absurd (omega arith)
-
 -- A word has as many ones as are counted bit by bit.
 pub ones-word : (word : ℕ) → word < 2 ^ 64 → count_ones word ≡ count_below (is_set word) 64
 unfolding count_below
 ones-word word fits =
-    let row : List Bool = map (is_set word) (range_with_len 0 64) in
-    let long : length row ≡ 64 = length-map-range_with_len (is_set word) 0 64 in
-    let below : mask_l row < 2 ^ 64 = subst (λ (k : ℕ). mask_l row < 2 ^ k) long (mask_l-lt row) in
-    let same : word ≡ mask_l row = same_from_bits_below 64 word (mask_l row) fits below (λ j h.
-    sym (of_test (bit_at word j) (bit_at-lt word j))
-    ∙ (ap (λ (b : Bool). if b then 1 else 0) (sym (get_or-map-range_with_len (is_set word) 0 64 j j false h (omega arith))) ∙ sym (bit_mask_l row j))) in
-    ap count_ones (same ∙ ap mask_l (sym (map-id row))) ∙ ones-mask_l (λ (b : Bool). b) row
+    ones-row (λ b. b) (map (is_set word) (range_with_len 0 64)) false 64 word (length-map-range_with_len (is_set word) 0 64) fits
+    (λ j h. sym (get_or-map-range_with_len (is_set word) 0 64 j j false h (omega arith)))
 
 -- One word more.
 pub count-word : (test : ℕ → Bool) (word w : ℕ) → word < 2 ^ 64 → ((j : ℕ) → j < 64 → is_set word j ≡ test (64 * w + j))

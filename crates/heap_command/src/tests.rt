@@ -1,5 +1,6 @@
-//! The program over devices of the tests' own.
+//! The program over devices of the tests' own, and over the standard library's.
 
 mod devices;
+mod large;
 mod runs;
 mod words;

@@ -1,11 +1,11 @@
 -- The blocks of a table whose marks pass a test, as lengths and as a list.
 use Rattle.std.proofs.Common.{◌≡◌, ◌<◌, ◌≤◌, ◌+◌, ◌*◌, inl, inr, nat_lt, ◌&&◌, not, ℕ, zero, suc, Bool, true, false, cond, List, [], ◌∷◌, length, get_or, replicate, refl, sym, ap, ◌∙◌, subst, arith}
 use Rattle.std.proofs.lemmas.Bool.{and_from, cases_Bool, cases_lt, lt-ltb, true≢false}
-use Rattle.std.proofs.lemmas.Bool.Decides.{nat_tests}
 use Rattle.std.proofs.lemmas.List.{ext_get_or, length-replicate}
 use Rattle.std.proofs.lemmas.List.Folds.{list_any_none}
 use Rattle.std.specs.List.{list_any}
 use Rattle.heap_core.specs.Blocks.{Span, has_address, lies_in}
+use Rattle.heap_core.specs.Laws.{has_address-after, has_address-before, has_address-within}
 use Rattle.heap_core.specs.Quarantine.{without_held}
 use Rattle.heap_core.specs.Table.{IsTable, blocks_of, is_held, is_live, is_taken, kept_lengths, table_state}
 use Rattle.heap_core.proofs.BlockLaws.{All-blocks_of}
@@ -93,15 +93,6 @@ any-no_block test keeps base lengths marks d each =
     list_any_none test (blocks_of keeps base 0 lengths marks)
     (All-blocks_of (λ block. test block ≡ false) keeps base 0 lengths marks d each)
 
-pub has_address_inside : (a start bytes : ℕ) → start ≤ a → a < start + bytes → has_address a (start, bytes) ≡ true
-has_address_inside a start bytes from before = grind (arith, nat_tests)
-
-pub has_address_before : (a start bytes : ℕ) → a < start → has_address a (start, bytes) ≡ false
-has_address_before a start bytes before = grind (arith, nat_tests)
-
-pub has_address_after : (a start bytes : ℕ) → start + bytes ≤ a → has_address a (start, bytes) ≡ false
-has_address_after a start bytes after = grind (arith, nat_tests)
-
 -- An address lies in one of the blocks exactly where its granule is taken by one of them.
 pub lies_in-blocks_of : (keeps : Bool → Bool) (base a k : ℕ) (lengths : List ℕ) (marks : List Bool) → length marks ≡ length lengths
     → base + 16 * k ≤ a → a < base + 16 * k + 16 → k < length lengths
@@ -117,19 +108,19 @@ lies_in-blocks_of keeps base a k lengths marks same from before lt =
           let n_is = get_or-kept keeps lengths marks by.0 true same inside is in
           let n = get_or lengths by.0 0 in
           let start = base + 16 * by.0 in
-          let here = has_address_inside a start (16 * n) (omega (arith, by.1.0)) (omega (arith, by.1.1, n_is)) in
+          let here = has_address-within a (start, 16 * n) (omega (arith, by.1.0)) (omega (arith, by.1.1, n_is)) in
           rw taken (any-block (has_address a) keeps base 0 lengths marks true by.0 start same (omega arith) inside (omega (arith, by.1.0, by.1.1, n_is)) is here)
       | inr free ↦
           rw free (any-no_block (has_address a) keeps base lengths marks true
           (λ j start at j_lt some is.
           let n_is = get_or-kept keeps lengths marks j true same j_lt is in
           elim (cases_lt k j) [
-            | inl less ↦ has_address_before a start (16 * get_or lengths j 0) (omega arith)
+            | inl less ↦ has_address-before a (start, 16 * get_or lengths j 0) (omega arith)
             | inr le ↦ elim (cases_lt k (j + get_or lengths j 0)) [
               | inl reaches ↦
                   let taken = is_taken_within kept j k le (omega (arith, n_is)) in
                   absurd (true≢false (sym taken ∙ free))
-              | inr past ↦ has_address_after a start (16 * get_or lengths j 0) (omega arith)
+              | inr past ↦ has_address-after a (start, 16 * get_or lengths j 0) (omega arith)
             ]
           ]))
     ]

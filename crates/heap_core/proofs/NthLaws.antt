@@ -9,11 +9,12 @@ use Rattle.std.proofs.lemmas.List.Sums.{sum_by-cons, sum_by-take-drop}
 use Rattle.granule_rows.specs.Counts.{count_below, is_both}
 use Rattle.granule_rows.specs.Runs.{is_within}
 use Rattle.heap_core.specs.Blocks.{Span, has_address, lies_in}
+use Rattle.heap_core.specs.Laws.{has_address-after, has_address-before, has_address-within}
 use Rattle.heap_core.specs.Painting.{is_in_held}
 use Rattle.heap_core.specs.Stored.{marks_of}
 use Rattle.heap_core.specs.Table.{AreBlocks, IsHeldStart, IsTable, blocks_of, held_count, is_held, is_taken, kept_lengths, table_state}
 use Rattle.heap_core.proofs.BlockLaws.{All-blocks_of}
-use Rattle.heap_core.proofs.KeptLaws.{any-block, get_or-kept, has_address_after, has_address_before, has_address_inside, kept_block, length-kept_lengths}
+use Rattle.heap_core.proofs.KeptLaws.{any-block, get_or-kept, kept_block, length-kept_lengths}
 use Rattle.heap_core.proofs.RunLaws.{is_taken_by, is_taken_within}
 
 -- ---- marks counted
@@ -176,7 +177,7 @@ lies_in-part base lengths marks from to k table order within cut_from cut_to =
           let n_part : get_or part_l j 0 ≡ get_or lengths by.0 0 = get_or-part lengths 0 from to order within j short ∙ ap (λ (x : ℕ). get_or lengths x 0) at in
           let m_part : get_or part_m j true ≡ get_or marks by.0 true = get_or-part marks true from to order within_m j short ∙ ap (λ (x : ℕ). get_or marks x true) at in
           let start : ℕ = base + 16 * by.0 in
-          let here = has_address_inside a start (16 * get_or part_l j 0) (omega (arith, by.1.0)) (omega (arith, by.1.1, n_is, n_part)) in
+          let here = has_address-within a (start, 16 * get_or part_l j 0) (omega (arith, by.1.0)) (omega (arith, by.1.1, n_is, n_part)) in
           rw is (any-block (has_address a) is_held base from part_l part_m true j start (count_m ∙ sym count_l) (omega (arith, at)) (omega (arith, short, count_l)) (omega (arith, by.1.0, by.1.1, n_is, n_part)) (m_part ∙ mark) here)
       | inr none ↦
           rw none (list_any_none (has_address a) (blocks_of is_held base from part_l part_m) (All-blocks_of (λ block. has_address a block ≡ false) is_held base from part_l part_m true
@@ -188,13 +189,13 @@ lies_in-part base lengths marks from to k table order within cut_from cut_to =
           let m_part : get_or part_m i true ≡ get_or marks j true = get_or-part marks true from to order within_m i short in
           let n_is = get_or-kept is_held lengths marks j true table.same inside (sym m_part ∙ mark) in
           elim (cases_lt k j) [
-            | inl less ↦ has_address_before a start (16 * get_or part_l i 0) (omega (arith, less, start_is))
+            | inl less ↦ has_address-before a (start, 16 * get_or part_l i 0) (omega (arith, less, start_is))
             | inr le ↦ elim (cases_lt k (j + get_or lengths j 0)) [
               | inl reaches ↦
                   let taken = is_taken_within kept j k le (omega (arith, reaches, n_is)) in
                   let between = within_of from to k (omega (arith, le)) (omega (arith, reaches, cut_to j (omega (arith, short)))) in
                   absurd (true≢false (sym (and_from (is_within from to k) (is_taken k kept) between taken) ∙ none))
-              | inr past ↦ has_address_after a start (16 * get_or part_l i 0) (omega (arith, past, n_part, start_is))
+              | inr past ↦ has_address-after a (start, 16 * get_or part_l i 0) (omega (arith, past, n_part, start_is))
             ]
           ])))
     ]

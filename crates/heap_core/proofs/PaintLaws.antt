@@ -3,7 +3,7 @@ use Rattle.std.proofs.Common.{◌≡◌, ◌<◌, ◌≤◌, ◌+◌, ◌*◌, �
 use native.Mathlib.Decide.{ℕ_discrete}
 use mathlib.Core.Logic.{dite}
 use Rattle.std.specs.Int.{bit_at}
-use Rattle.std.proofs.lemmas.Bool.{and_parts, cases_Bool, cases_lt, eq-eqb, eqb-true, lt-ltb, ne_eqb, true≢false}
+use Rattle.std.proofs.lemmas.Bool.{and_parts, cases_lt, eq-eqb, eqb-true, lt-ltb, ne_eqb, or_cases, or_parts, true≢false}
 use Rattle.std.proofs.lemmas.Bool.Decides.{nat_tests}
 use Rattle.std.proofs.lemmas.Nat.Bits.{bit_at-lt, bit_at_or}
 use Rattle.granule_rows.specs.Runs.{is_within}
@@ -36,14 +36,6 @@ painted-by test other board old new same p = record {
   mine = λ k is. p.mine k (sym (same k) ∙ is);
 }
 
-neither : (a b : Bool) → (a || b) ≡ false → (a ≡ false) × (b ≡ false)
-neither true b none = absurd (true≢false none)
-neither false b none = (refl, none)
-
-other_of : (a b : Bool) → (a || b) ≡ true → a ≡ false → b ≡ true
-other_of true b either none = absurd (true≢false none)
-other_of false b either none = either
-
 -- One after the other.
 pub painted-both : (test other : ℕ → Bool) (board : BoardState) (old mid new : SeatState) → IsPainted test board old mid → IsPainted other board mid new
     → IsPainted (λ k. test k || other k) board old new
@@ -52,11 +44,11 @@ painted-both test other board old mid new first second = record {
   parts = second.parts ∙ first.parts;
   sound = λ sound. second.sound (first.sound sound);
   kept = λ w j. omega (arith, first.kept w j, second.kept w j);
-  seen = λ k is. elim (cases_Bool (test k)) [
+  seen = λ k is. elim (or_cases (test k) (other k) is) [
     | inl here ↦ omega (arith, first.seen k here, second.kept (k / 64) (k % 64), bit_at-lt (get_or new.seen (k / 64) 0) (k % 64))
-    | inr none ↦ second.seen k (other_of (test k) (other k) is none)
+    | inr there ↦ second.seen k there
   ];
-  mine = λ k is. let both = neither (test k) (other k) is in second.mine k both.1 ∙ first.mine k both.0;
+  mine = λ k is. let both = or_parts (test k) (other k) is in second.mine k both.1 ∙ first.mine k both.0;
 }
 
 -- ---- one mark

@@ -1,10 +1,23 @@
--- What the crates above need of blocks: what a test of bounds says, of one block and of a list.
-use Rattle.std.proofs.Common.{◌≡◌, ◌-◌, ◌==◌, ℕ, true, List, subst, arith}
+-- What the crates above need of blocks: what a test of an address and one of bounds say, of one block and
+-- of a list.
+use Rattle.std.proofs.Common.{◌≡◌, ◌<◌, ◌≤◌, ◌-◌, ◌==◌, ℕ, true, false, List, subst, arith}
 use Rattle.std.specs.List.{Contains}
 use Rattle.std.proofs.lemmas.Bool.{and_parts, eqb-true}
+use Rattle.std.proofs.lemmas.Bool.Decides.{nat_tests}
 use Rattle.std.proofs.lemmas.List.Folds.{Any-from_list_any}
-use Rattle.heap_core.specs.Blocks.{Span, end_of, has_bounds, is_block, start_of}
+use Rattle.heap_core.specs.Blocks.{Span, end_of, has_address, has_bounds, is_block, start_of}
 
+-- An address within a block, before it and after it.
+pub has_address-within : (a : ℕ) (block : Span) → start_of block ≤ a → a < end_of block → has_address a block ≡ true
+has_address-within a block from before = grind (arith, nat_tests)
+
+pub has_address-before : (a : ℕ) (block : Span) → a < start_of block → has_address a block ≡ false
+has_address-before a block before = grind (arith, nat_tests)
+
+pub has_address-after : (a : ℕ) (block : Span) → end_of block ≤ a → has_address a block ≡ false
+has_address-after a block after = grind (arith, nat_tests)
+
+-- A block with just these bounds.
 pub has_bounds-is : (base top : ℕ) (block : Span) → has_bounds base top block ≡ true → (start_of block ≡ base) × (end_of block ≡ top)
 has_bounds-is base top block is =
     let both = and_parts (start_of block == base) (end_of block == top) is in

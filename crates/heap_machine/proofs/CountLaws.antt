@@ -1,37 +1,16 @@
 -- The bits of masks, counted.
-use Rattle.std.proofs.Common.{◌≡◌, ◌∙◌, ◌<◌, ◌+◌, ◌*◌, ◌/◌, ◌%◌, ◌^◌, ◌==◌, ℕ, zero, suc, Bool, false, cond, if◌then◌else◌, List, [], ◌∷◌, length, get_or, drop, map, take, refl, sym, ap, subst, arith}
+use Rattle.std.proofs.Common.{◌≡◌, ◌∙◌, ◌<◌, ◌+◌, ◌*◌, ◌/◌, ◌%◌, ◌^◌, ℕ, suc, Bool, cond, List, [], ◌∷◌, length, get_or, drop, take, refl, sym, ap, arith}
 use native.Mathlib.Decide.{ℕ_discrete}
 use mathlib.Core.Logic.{dite}
-use lib.Lanes.{mask_l}
-use Rattle.std.specs.Int.{bit_at}
 use Rattle.std.specs.Prelude.{count_by, count_ones, sum_by}
 use Rattle.std.proofs.lemmas.Bool.{ne_eqb}
-use Rattle.std.proofs.lemmas.List.{get_or-drop, get_or-map, get_or-take, length-drop, length-map, length-take}
+use Rattle.std.proofs.lemmas.List.{get_or-drop, get_or-take, length-drop, length-take}
 use Rattle.std.proofs.lemmas.List.Sums.{sum_by-cons, sum_by-drop_more, sum_by-take-drop}
-use Rattle.std.proofs.lemmas.Nat.Bits.{bit_at-lt, same_from_bits_below}
-use Rattle.std.proofs.lemmas.Simd.{bit_mask_l, mask_l-lt, ones-mask_l}
 use Rattle.heap_core.specs.Blocks.{Span}
 use Rattle.sweep_pool.specs.Sweep.{takes_tag}
 use Rattle.tag_memory.specs.Cells.{Cell, null_cell, register_at}
-use Rattle.tag_memory.specs.Laws.{is_set_for-at}
+use Rattle.tag_memory.specs.Laws.{is_set_for-at, ones-row}
 use Rattle.tag_memory.specs.Tags.{is_set, is_set_for}
-
-of_test : (n : ℕ) → n < 2 → (if n == 1 then 1 else 0) ≡ n
-of_test zero h = refl
-of_test (suc zero) h = refl
-of_test (suc (suc n)) h = absurd (omega arith)
-
--- The ones of a word are as many as pass the test whose answers are its bits.
-pub ones-row : {X : Type 0} (p : X → Bool) (xs : List X) (d : X) (n word : ℕ) → length xs ≡ n → word < 2 ^ n
-    → ((j : ℕ) → j < n → is_set word j ≡ p (get_or xs j d)) → count_ones word ≡ count_by p xs
-ones-row p xs d n word long fits each =
-    let row : List Bool = map p xs in
-    let below : mask_l row < 2 ^ n = subst (λ (k : ℕ). mask_l row < 2 ^ k) (length-map xs p ∙ long) (mask_l-lt row) in
-    let same : word ≡ mask_l row = same_from_bits_below n word (mask_l row) fits below (λ j h.
-    sym (of_test (bit_at word j) (bit_at-lt word j))
-    ∙ (ap (λ (b : Bool). if b then 1 else 0) (each j h ∙ sym (get_or-map p xs j d false (omega (arith, h, long))))
-    ∙ sym (bit_mask_l row j))) in
-    ap count_ones same ∙ ones-mask_l p xs
 
 -- The ones of masks are as many as pass the test whose answers are their bits.
 pub ones-masks : {X : Type 0} (p : X → Bool) (masks : List ℕ) (xs : List X) (d : X) → 64 * length masks ≡ length xs → ((w : ℕ) → get_or masks w 0 < 2 ^ 64)

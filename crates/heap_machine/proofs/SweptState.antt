@@ -1,17 +1,17 @@
 -- The state after a sweep: each tagged word whose base lies in a held block has lost its tag.
-use Rattle.std.proofs.Common.{◌≡◌, ◌∙◌, ◌<◌, ◌≤◌, ◌+◌, ◌-◌, ◌&&◌, ℕ, Bool, true, false, cond, not, inl, inr, All, List, [], ◌∷◌, length, get_or, drop, refl, sym, ap, subst, arith}
+use Rattle.std.proofs.Common.{◌≡◌, ◌∙◌, ◌<◌, ◌+◌, ◌-◌, ◌&&◌, ℕ, Bool, true, false, cond, not, inl, inr, All, List, [], ◌∷◌, length, get_or, drop, refl, sym, ap, subst, arith}
 use Rattle.std.proofs.Math.Bool.{and-true}
 use Rattle.std.specs.Prelude.{count_by}
 use Rattle.std.specs.List.{Contains, enumerate_from}
 use Rattle.std.proofs.lemmas.Bool.{and_parts, not-true, true≢false}
-use Rattle.std.proofs.lemmas.Bool.Decides.{nat_tests}
 use Rattle.std.proofs.lemmas.List.{drop-map, ext_get_or, get_or-map, length-map}
 use Rattle.std.proofs.lemmas.List.Elements.{All-head, All-map, All-weaker}
 use Rattle.std.proofs.lemmas.List.Folds.{list_any-from_Any}
 use Rattle.std.proofs.lemmas.List.FromFn.{get_or-enumerate_from, length-enumerate_from}
 use Rattle.std.proofs.lemmas.List.Sums.{sum_by-cons}
 use Rattle.cap_codec.specs.declared.word.Word.{Word}
-use Rattle.heap_core.specs.Blocks.{Span, bytes_in, end_of, has_address, length_of, start_of}
+use Rattle.heap_core.specs.Blocks.{Span, bytes_in, has_address, length_of}
+use Rattle.heap_core.specs.Laws.{has_address-within}
 use Rattle.heap_core.specs.Heap.{HeapState, IsInside, IsSound as IsSoundHeap}
 use Rattle.heap_core.specs.Quarantine.{without_held}
 use Rattle.sweep_pool.specs.Sweep.{TakeTags, is_revoked, swept_cell, swept_cells, swept_granule, swept_granules, tags_taken}
@@ -115,10 +115,7 @@ tags_taken-difference s = omega (arith, tags_of-swept s)
 -- A word whose bounds lie in a held block is revoked.
 revoked_in : (held : List Span) (w : Word) (block : Span) → Contains held block → LieIn (bounds_in w) block → is_revoked held w ≡ true
 revoked_in held w block there lie =
-    let here : has_address (base_of w) block ≡ true =
-    (let from : start_of block ≤ base_of w = omega (arith, lie.start) in
-    let before : base_of w < end_of block = omega (arith, lie.some, lie.end) in
-    grind (arith, nat_tests)) in
+    let here = has_address-within (base_of w) block (omega (arith, lie.start)) (omega (arith, lie.some, lie.end)) in
     list_any-from_Any (has_address (base_of w)) held (there.0, block, there.1, there.2, here)
 
 -- What keeps its tag lies in a live block.

@@ -1,8 +1,7 @@
 -- Shares that are painted, and joined to a shadow.
 use Rattle.std.proofs.Common.{◌≡◌, ◌∙◌, ◌<◌, ◌≤◌, ◌+◌, ◌-◌, ◌*◌, ◌/◌, ◌%◌, ◌^◌, ◌==◌, ◌||◌, inl, inr, nat_le, ℕ, Bool, true, false, All, List, [], ◌∷◌, ◌++◌, drop, length, get_or, take, refl, sym, ap, subst, arith}
 use Rattle.std.specs.List.{list_any}
-use Rattle.std.proofs.lemmas.Bool.{and_parts, cases_Bool, cases_lt, eqb-true, or_cases, true≢false}
-use Rattle.std.proofs.lemmas.Bool.Decides.{nat_tests}
+use Rattle.std.proofs.lemmas.Bool.{and_parts, cases_Bool, cases_lt, eqb-true, or_cases, or_left, or_parts, or_right}
 use Rattle.std.proofs.lemmas.List.{drop-drop, drop-take, get_or_append_left, get_or_push, length-append, take-append-drop, take-take, take_all}
 use Rattle.std.proofs.lemmas.List.Folds.{list_any-append}
 use Rattle.std.proofs.lemmas.List.Elements.{All-head, All-tail}
@@ -11,6 +10,7 @@ use Rattle.std.proofs.lemmas.Nat.{le-div, mul-le}
 use Rattle.std.proofs.lemmas.Nat.Bits.{bit_at-lt}
 use Rattle.heap_core.specs.Blocks.{Span, end_of, has_address, lies_in, start_of}
 use Rattle.heap_core.specs.Heap.{HeapState, IsInside, IsSound}
+use Rattle.heap_core.specs.Laws.{has_address-after, has_address-before, has_address-within}
 use Rattle.heap_core.specs.Painting.{IsPainted, is_in_held}
 use Rattle.heap_core.specs.Quarantine.{IsShadow}
 use Rattle.mark_board.specs.Bits.{has, united}
@@ -20,10 +20,6 @@ use Rattle.sweep_pool.specs.Painting.{EachAt, HasGranules, HasPainted, is_held_a
 use Rattle.tag_memory.specs.Tags.{is_set_for}
 
 -- ---- blocks by their numbers
-
-or_none : (a b : Bool) → (a || b) ≡ false → (a ≡ false) × (b ≡ false)
-or_none true b none = absurd (true≢false none)
-or_none false b none = (refl, none)
 
 -- A granule in blocks a to c is in a to b, or in b to c.
 pub in_held-split : (s : HeapState) (a b c k : ℕ) → a ≤ b → b ≤ c → is_in_held s a c k ≡ (is_in_held s a b k || is_in_held s b c k)
@@ -42,10 +38,10 @@ abbrev lies_in_at : (s : HeapState) (k : ℕ) → List Span → Bool
 lies_in_at s k blocks = lies_in blocks (s.base + 16 * k)
 
 later : (test : Span → Bool) (xs ys : List Span) → list_any test (xs ++ ys) ≡ false → list_any test ys ≡ false
-later test xs ys none = (or_none (list_any test xs) (list_any test ys) (sym (list_any-append test xs ys) ∙ none)).1
+later test xs ys none = (or_parts (list_any test xs) (list_any test ys) (sym (list_any-append test xs ys) ∙ none)).1
 
 earlier : (test : Span → Bool) (xs ys : List Span) → list_any test (xs ++ ys) ≡ false → list_any test xs ≡ false
-earlier test xs ys none = (or_none (list_any test xs) (list_any test ys) (sym (list_any-append test xs ys) ∙ none)).0
+earlier test xs ys none = (or_parts (list_any test xs) (list_any test ys) (sym (list_any-append test xs ys) ∙ none)).0
 
 -- ---- seats
 
@@ -73,6 +69,17 @@ in_held-any s a b k free =
     let rest : list_any test (drop a s.held) ≡ false = later test (take a s.held) (drop a s.held) (ap (list_any test) (take-append-drop a s.held) ∙ free) in
     earlier test (take (b - a) (drop a s.held)) (drop (b - a) (drop a s.held)) (ap (list_any test) (take-append-drop (b - a) (drop a s.held)) ∙ rest)
 
+-- More blocks painted are painted too.
+pub painted-narrower : (s : HeapState) (board : BoardState) (a b c d : ℕ) (seat : SeatState) → a ≤ b → b ≤ c → c ≤ d → HasPainted s board a d seat → HasPainted s board b c seat
+painted-narrower s board a b c d seat low order high all = record {
+  of = all.of;
+  sound = all.sound;
+  mine = all.mine;
+  seen = λ k is.
+      let from_b : is_in_held s b d k ≡ true = in_held-split s b c d k order high ∙ or_left (is_in_held s b c k) (is_in_held s c d k) is in
+      all.seen k (in_held-split s a b d k low (omega (arith, order, high)) ∙ or_right (is_in_held s a b k) (is_in_held s b d k) from_b);
+}
+
 -- What a worker leaves.
 pub painted-share : (s : HeapState) (board : BoardState) (a b : ℕ) (old new : SeatState) → old.mine ≡ no_bits board → IsSeat old → IsPainted (is_in_held s a b) board old new → HasPainted s board a b new
 painted-share s board a b old new none sound p = record {
@@ -84,15 +91,6 @@ painted-share s board a b old new none sound p = record {
 
 -- ---- the shadow
 
-inside_it : (a : ℕ) (block : Span) → start_of block ≤ a → a < end_of block → has_address a block ≡ true
-inside_it a block from before = grind (arith, nat_tests)
-
-before_it : (a : ℕ) (block : Span) → a < start_of block → has_address a block ≡ false
-before_it a block before = grind (arith, nat_tests)
-
-after_it : (a : ℕ) (block : Span) → end_of block ≤ a → has_address a block ≡ false
-after_it a block after = grind (arith, nat_tests)
-
 base_whole : (s : HeapState) → IsSound s → s.base % 16 ≡ 0
 base_whole s sound =
     let page : s.base % 4096 ≡ 0 = eqb-true (s.base % 4096) 0 (and_parts (s.base % 4096 == 0) (nat_le (s.base + 4096 * sound.pages) (2 ^ 64)) sound.place).0 in
@@ -101,12 +99,12 @@ base_whole s sound =
 -- A held block is whole granules.
 same_granule : (s : HeapState) (a k : ℕ) (block : Span) → s.base % 16 ≡ 0 → IsInside s block → s.base + 16 * k ≤ a → a < s.base + 16 * k + 16 → has_address a block ≡ has_address (s.base + 16 * k) block
 same_granule s a k block base inside low high = elim (cases_lt a (start_of block)) [
-  | inl before ↦ (let there : s.base + 16 * k < start_of block = omega (arith, before, low) in before_it a block before ∙ sym (before_it (s.base + 16 * k) block there))
+  | inl before ↦ (let there : s.base + 16 * k < start_of block = omega (arith, before, low) in has_address-before a block before ∙ sym (has_address-before (s.base + 16 * k) block there))
   | inr from ↦
       let there : start_of block ≤ s.base + 16 * k = omega (arith, from, high, base, inside.start) in
       elim (cases_lt a (end_of block)) [
-        | inl short ↦ (let less : s.base + 16 * k < end_of block = omega (arith, short, low) in inside_it a block from short ∙ sym (inside_it (s.base + 16 * k) block there less))
-        | inr past ↦ (let less : end_of block ≤ s.base + 16 * k = omega (arith, past, high, base, inside.start, inside.length) in after_it a block past ∙ sym (after_it (s.base + 16 * k) block less))
+        | inl short ↦ (let less : s.base + 16 * k < end_of block = omega (arith, short, low) in has_address-within a block from short ∙ sym (has_address-within (s.base + 16 * k) block there less))
+        | inr past ↦ (let less : end_of block ≤ s.base + 16 * k = omega (arith, past, high, base, inside.start, inside.length) in has_address-after a block past ∙ sym (has_address-after (s.base + 16 * k) block less))
       ]
 ]
 

@@ -14,6 +14,7 @@ use Rattle.tag_memory.specs.Laws.{is_set_for-at}
 use mathlib.Core.Logic.{dite}
 use Rattle.cap_codec.specs.Words.{base_of}
 use Rattle.heap_core.specs.Blocks.{Span, has_address, lies_in}
+use Rattle.heap_core.specs.Laws.{has_address-after, has_address-before}
 use Rattle.heap_core.specs.Heap.{HeapState, IsInside, IsSound}
 use Rattle.heap_core.specs.Quarantine.{IsShadow}
 use Rattle.sweep_pool.specs.Sweep.{AreBits, AreMasks, ArePageMasks, IsShadowOf, TakePageTags, TakeTags, is_hit, is_painted, takes_tag}
@@ -37,8 +38,8 @@ below_of-IsTask c pages n k count is = dite (dec_lt k n)
 -- ---- the shadow of a heap
 
 has_address-outside : (heap : HeapState) (a : ℕ) (block : Span) → IsInside heap block → (a < heap.base) ⊎ (heap.base + heap.size ≤ a) → has_address a block ≡ false
-has_address-outside heap a block inside (inl below) = (let from = inside.from in grind (arith, nat_tests))
-has_address-outside heap a block inside (inr above) = (let end = inside.end in grind (arith, nat_tests))
+has_address-outside heap a block inside (inl below) = has_address-before a block (omega (arith, below, inside.from))
+has_address-outside heap a block inside (inr above) = has_address-after a block (omega (arith, above, inside.end))
 
 -- No address outside the heap lies in a held block.
 lies_in-outside : (heap : HeapState) (a : ℕ) → IsSound heap → (a < heap.base) ⊎ (heap.base + heap.size ≤ a) → lies_in heap.held a ≡ false

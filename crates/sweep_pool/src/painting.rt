@@ -147,6 +147,21 @@ fn deal(
     Ok(shares)
 }
 
+// The blocks of a share, from the first number up to the second, and perhaps some before and after them.
+fn share_of(number: u32, workers: u32, blocks: usize) -> (usize, usize)
+    requires number { number < workers }
+    requires workers { workers ≤ 64 }
+    requires blocks { blocks ≤ 262144 }
+    ensures from { result.0 ≤ share_start blocks workers number }
+    ensures to { share_start blocks workers (number + 1) ≤ result.1 }
+    ensures order { result.0 ≤ result.1 }
+    ensures within { result.1 ≤ blocks }
+{
+    let first = number as usize * blocks / workers as usize;
+    let last = (number as usize + 1) * blocks / workers as usize;
+    (first, last)
+}
+
 // What one worker does.
 fn painted_by<G: Gate>(painting: &Painting<'_, G>, share: Share) -> MarkSeat
     requires blank { IsBlank painting.now.board.now painting.now.workers share.number share }
@@ -155,10 +170,7 @@ fn painted_by<G: Gate>(painting: &Painting<'_, G>, share: Share) -> MarkSeat
     ensures { IsPaintedShare painting.now.heap.now painting.now.board.now painting.now.workers share.number result }
 {
     let Share { mut seat, number } = share;
-    let blocks = painting.heap.held_blocks();
-    let workers = painting.workers as usize;
-    let first = number as usize * blocks / workers;
-    let last = (number as usize + 1) * blocks / workers;
+    let (first, last) = share_of(number, painting.workers, painting.heap.held_blocks());
     painting.heap.paint(painting.board, &mut seat, first, last);
     painting.gate.pass(number);
     seat

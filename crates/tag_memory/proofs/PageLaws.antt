@@ -8,9 +8,9 @@ use Rattle.std.proofs.lemmas.List.{get_or_past}
 use Rattle.std.proofs.lemmas.Nat.{div_below}
 use Rattle.std.proofs.lemmas.Nat.Bits.{bit_at-lt, bit_at-suc, bit_at-zero, bit_at_lowest, same_from_bits_below}
 use Rattle.tag_memory.specs.Cells.{Granule, AreUntagged, may_hold_at}
-use Rattle.tag_memory.specs.Laws.{is_set_zero, same_test}
+use Rattle.tag_memory.specs.Laws.{is_set_zero, of_test, same_test}
 use Rattle.tag_memory.specs.Tags.{AreBlank, HasTag, HasWord, granules_of, is_set, is_set_for, is_tagged}
-use Rattle.tag_memory.proofs.TagLaws.{get_or-granules_of, length-granules_of, of_test, zero_at}
+use Rattle.tag_memory.proofs.TagLaws.{get_or-granules_of, length-granules_of, zero_at}
 
 -- ---- words and bits
 

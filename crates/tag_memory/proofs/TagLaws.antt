@@ -12,7 +12,7 @@ use Rattle.std.proofs.lemmas.List.Sums.{sum_by-take-drop}
 use Rattle.std.proofs.lemmas.Nat.{div_below, mod_below}
 use Rattle.std.proofs.lemmas.Nat.Bits.{bit_at-zero, bit_at-lt, same_from_bits_below}
 use Rattle.tag_memory.specs.Cells.{Granule}
-use Rattle.tag_memory.specs.Laws.{is_set-cleared, is_set_for-other}
+use Rattle.tag_memory.specs.Laws.{is_set-cleared, is_set_for-other, of_test}
 use Rattle.tag_memory.specs.Tags.{granules_of, is_set, is_set_for, is_tagged, number_of_bits, tag_word, without_tags}
 use Rattle.tag_memory.proofs.BitLaws.{bit_at-number_of_bits, number_of_bits-lt, ones-number_of_bits}
 
@@ -103,12 +103,6 @@ is_set-granules_of bits tags w j within h =
     let place : ((64 * w + j) / 64 ≡ w) × ((64 * w + j) % 64 ≡ j) = word_place w j h in
     let cell : get_or (granules_of bits tags) (64 * w + j) (0, false) ≡ (get_or bits (64 * w + j) 0, is_set_for tags (64 * w + j)) = get_or-granules_of bits tags (64 * w + j) within in
     sym (ap (λ (x : Granule). x.1) cell ∙ rw (place.0, place.1) refl)
-
--- a bit by the test of it
-pub of_test : (n : ℕ) → n < 2 → (if n == 1 then 1 else 0) ≡ n
-of_test zero h = refl
-of_test (suc zero) h = refl
-of_test (suc (suc n)) h = absurd (omega arith)
 
 abbrev tag_of : Granule → Bool
 tag_of cell = cell.1

@@ -1,16 +1,25 @@
--- What the crates above need of bits in words: a bit that is set, and a row of words that is made word
--- by word.
-use Rattle.std.proofs.Common.{◌≡◌, ◌≢◌, ℕ, zero, suc, ◌+◌, ◌-◌, ◌*◌, ◌/◌, ◌%◌, ◌^◌, ◌==◌, ◌<◌, ◌&&◌, ◌||◌, min, max, not, inl, inr, Bool, true, false, List, length, get_or, set, refl, ap, ◌∙◌, arith, bit_and, bit_or, w64}
+-- What the crates above need of bits in words: a bit that is set, a row of words that is made word by
+-- word, and the ones of a word.
+use Rattle.std.proofs.Common.{◌≡◌, ◌≢◌, ℕ, zero, suc, ◌+◌, ◌-◌, ◌*◌, ◌/◌, ◌%◌, ◌^◌, ◌==◌, ◌<◌, ◌&&◌, ◌||◌, if◌then◌else◌, min, max, not, inl, inr, Bool, true, false, List, length, get_or, map, set, refl, sym, ap, ◌∙◌, subst, arith, bit_and, bit_or, w64}
 use Rattle.std.proofs.lemmas.Bool.{cases_lt}
-use Rattle.std.proofs.lemmas.List.{get_or-set_other, get_or-set_same}
-use Rattle.std.proofs.lemmas.Nat.Bits.{bit_at-lt, bit_at-zero, bit_at_and, bit_at_not, bit_at_or, bit_at_set_other, bit_at_set_same}
+use lib.Lanes.{mask_l}
+use Rattle.std.proofs.lemmas.List.{get_or-map, get_or-set_other, get_or-set_same, length-map}
+use Rattle.std.proofs.lemmas.Nat.Bits.{bit_at-lt, bit_at-zero, bit_at_and, bit_at_not, bit_at_or, bit_at_set_other, bit_at_set_same, same_from_bits_below}
+use Rattle.std.proofs.lemmas.Simd.{bit_mask_l, mask_l-lt, ones-mask_l}
 use Rattle.std.specs.Int.{Width, bit_at, bit_not}
+use Rattle.std.specs.Prelude.{count_by, count_ones}
 use mir.Val.{bits}
 use Rattle.tag_memory.specs.Tags.{is_set, is_set_for}
 
 -- What a bit is as a number, it is as a test.
 pub same_test : (a b : ℕ) → a ≡ b → (a == 1) ≡ (b == 1)
 same_test a b e = ap (λ (x : ℕ). x == 1) e
+
+-- And by that test it is the number again.
+pub of_test : (n : ℕ) → n < 2 → (if n == 1 then 1 else 0) ≡ n
+of_test zero h = refl
+of_test (suc zero) h = refl
+of_test (suc (suc n)) h = absurd (omega arith)
 
 -- Bit j of a word set, at any width.
 module _ (width : Width) (word j : ℕ) (below : j < bits width) where
@@ -86,3 +95,15 @@ is_set_for-more test words w x i inside here done lt =
           let place : 64 * w + i % 64 ≡ i = omega arith in
           ap (λ (word : ℕ). is_set word (i % 64)) there ∙ (here (i % 64) (omega arith) ∙ ap test place)
     ]
+
+-- The ones of a word are as many as pass the test whose answers are its bits.
+pub ones-row : {X : Type 0} (p : X → Bool) (xs : List X) (d : X) (n word : ℕ) → length xs ≡ n → word < 2 ^ n
+    → ((j : ℕ) → j < n → is_set word j ≡ p (get_or xs j d)) → count_ones word ≡ count_by p xs
+ones-row p xs d n word long fits each =
+    let row : List Bool = map p xs in
+    let below : mask_l row < 2 ^ n = subst (λ (k : ℕ). mask_l row < 2 ^ k) (length-map xs p ∙ long) (mask_l-lt row) in
+    let same : word ≡ mask_l row = same_from_bits_below n word (mask_l row) fits below (λ j h.
+    sym (of_test (bit_at word j) (bit_at-lt word j))
+    ∙ (ap (λ (b : Bool). if b then 1 else 0) (each j h ∙ sym (get_or-map p xs j d false (omega (arith, h, long))))
+    ∙ sym (bit_mask_l row j))) in
+    ap count_ones same ∙ ones-mask_l p xs

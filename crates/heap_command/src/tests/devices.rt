@@ -166,6 +166,29 @@ impl io::Write for Full<'_> {
     }
 }
 
+/// One that fails whatever it is asked.
+#[derive(Drop)]
+struct Never;
+
+impl io::Write for Never {
+    fn write(&mut self, _bytes: &[u8]) -> io::Result<usize> {
+        Err(io::Error::from(io::ErrorKind::Other))
+    }
+
+    fn flush(&mut self) -> io::Result<()> {
+        Ok(())
+    }
+}
+
+#[test]
+fn a_write_of_nothing_asks_the_device_for_nothing(rt: HostRuntime) {
+    let mut writer = FromWrite::new(Never);
+    assert_eq!(rt; writer.write(b""), Ok(0));
+    assert!(rt; !writer.has_failed());
+    assert_eq!(rt; writer.write(b"a"), Err(Failed));
+    assert!(rt; writer.has_failed());
+}
+
 #[test]
 fn devices_of_the_standard_library_are_wrapped(rt: HostRuntime) {
     let mut reader = FromRead::new(Full { rest: b"abc" });

@@ -46,13 +46,15 @@ fn held_granules_are_painted(rt: &impl Abort, shadow: &Shadow) {
 fn a_shadow_is_the_same_for_every_cutting(rt: HostRuntime) {
     let heap = held_heap(rt.alloc()).expect(&rt, "there is memory");
     assert_eq!(rt; heap.held_blocks(), 4);
-    for workers in [1, 2, 3, 4, 5, 64] {
-        let cutting = Cutting::new(workers, 1).expect(&rt, "it is a cutting");
-        let shadow = paint_shadow(&rt, rt.alloc(), &heap, &cutting, &Open).expect(
-            &rt,
-            "there is memory",
-        );
-        held_granules_are_painted(&rt, &shadow);
+    for workers in [1, 2, 3, 5, 64] {
+        for pages in [1, 3, 256] {
+            let cutting = Cutting::new(workers, pages).expect(&rt, "it is a cutting");
+            let shadow = paint_shadow(&rt, rt.alloc(), &heap, &cutting, &Open).expect(
+                &rt,
+                "there is memory",
+            );
+            held_granules_are_painted(&rt, &shadow);
+        }
     }
 }
 

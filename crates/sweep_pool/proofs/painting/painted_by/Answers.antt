@@ -1,23 +1,16 @@
-use Rattle.std.proofs.Common.{◌≤◌, ◌+◌, ◌*◌, ◌∙◌, arith}
-use Rattle.std.proofs.lemmas.Nat.{mul-le}
-use Rattle.sweep_pool.proofs.PaintLaws.{painted-share}
+use Rattle.std.proofs.Common.{◌∙◌, arith, length}
+use Rattle.sweep_pool.proofs.PaintLaws.{painted-narrower, painted-share, share_order}
 use Rattle.sweep_pool.proofs.painting.painted_by.Goals as goal
-
-pub overflow_mul-first : goal.overflow_mul-first
-overflow_mul-first g c =
-    let few : c.args.share.number * c.held_blocks-blocks.result ≤ 64 * 262144 = mul-le c.args.share.number c.held_blocks-blocks.result 64 262144 (omega (arith, c.requires.blank.few, c.requires.most)) c.held_blocks-blocks.ensures.limit in
-    record { fits = omega (arith, few) }
-
-pub overflow_mul-last : goal.overflow_mul-last
-overflow_mul-last g c =
-    let few : (c.args.share.number + 1) * c.held_blocks-blocks.result ≤ 64 * 262144 = mul-le (c.args.share.number + 1) c.held_blocks-blocks.result 64 262144 (omega (arith, c.requires.blank.few, c.requires.most)) c.held_blocks-blocks.ensures.limit in
-    record { fits = omega (arith, few) }
 
 pub returns : goal.returns
 returns g c =
+    let s = c.args.painting.now.heap.now in
+    let board = c.args.painting.now.board.now in
     let blank = c.requires.blank in
-    let painted = rw c.held_blocks-blocks.ensures.count at c.paint.ensures in
+    let all = painted-share s board _ _ c.args.share.seat c.paint.new.seat blank.none blank.sound c.paint.ensures in
+    let order = share_order (length s.held) c.args.painting.now.workers c.args.share.number (omega (arith, blank.few)) in
+    let share = rw c.held_blocks.ensures.count at c.share_of-first.ensures in
     record {
-      painted = painted-share c.args.painting.now.heap.now c.args.painting.now.board.now _ _ c.args.share.seat c.paint.new.seat blank.none blank.sound painted;
+      painted = painted-narrower s board _ _ _ _ c.paint.new.seat share.from order share.to all;
       part = c.paint.ensures.parts ∙ blank.part;
     }

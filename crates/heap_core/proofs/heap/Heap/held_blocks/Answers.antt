@@ -1,4 +1,4 @@
-use Rattle.std.proofs.Common.{◌≡◌, ◌∙◌, arith, length, sym}
+use Rattle.std.proofs.Common.{◌∙◌, arith, sym}
 use Rattle.std.proofs.lemmas.List.Sums.{count_by-le-length}
 use Rattle.heap_core.specs.Table.{is_held}
 use Rattle.heap_core.proofs.NthLaws.{length-blocks}

@@ -1,0 +1,171 @@
+//! Traces with what their runs leave.
+
+use heap_reply::{Reply, Shown, Trap};
+
+/// A trace, and what its run leaves: the report, the image, the tagged registers as a mask, and the reply of
+/// each command.
+#[derive(Clone, Copy)]
+pub struct Row {
+    pub text: &'static str,
+    pub report: &'static str,
+    pub image: &'static str,
+    pub tagged: u32,
+    pub replies: &'static [Reply],
+}
+
+// The two blocks of 32 bytes that most traces begin with.
+const FIRST: Reply = Reply::Block {
+    base: 0x4000_0000,
+    top: 0x4000_0020,
+};
+
+const SECOND: Reply = Reply::Block {
+    base: 0x4000_0020,
+    top: 0x4000_0040,
+};
+
+/// A top of 2^64, and a window that wraps.
+const WRAPPED: Row = Row {
+    text: "heap 0xfffffffffffff000 1\nmalloc c1 4096\nsetaddr c2 c1 0x10\nshow c2\n",
+    report: "2 malloc block 0xfffffffffffff000 0x10000000000000000
+3 setaddr ok
+4 show tag 1 address 0x10 base 0xfffffffffffff000 top 0x10000000000000000 perms 0x3d type 0x3ffff exponent 0
+end live 4096 held 0 free 0 tags 2
+",
+    image: "",
+    tagged: 0b110,
+    replies: &[
+        Reply::Block {
+            base: 0xffff_ffff_ffff_f000,
+            top: 1 << 64,
+        },
+        Reply::Done,
+        Reply::Shown(Shown {
+            tag: true,
+            address: 0x10,
+            base: 0xffff_ffff_ffff_f000,
+            top: 1 << 64,
+            perms: 0x3d,
+            otype: 0x3ffff,
+            exponent: 0,
+        }),
+    ],
+};
+
+/// No reuse before the sweep.
+const REUSED: Row = Row {
+    text: "heap 0x40000000 1\nmalloc c1 32\ncopy c2 c1\nfree c1\nmalloc c3 32\nsweep\nmalloc c4 32\n",
+    report: "2 malloc block 0x40000000 0x40000020
+3 copy ok
+4 free held 32
+5 malloc block 0x40000020 0x40000040
+6 sweep cleared 2 released 32
+7 malloc block 0x40000000 0x40000020
+end live 64 held 0 free 4032 tags 2
+",
+    image: "",
+    tagged: 0b11000,
+    replies: &[
+        FIRST,
+        Reply::Done,
+        Reply::Held(32),
+        SECOND,
+        Reply::Swept {
+            cleared: 2,
+            released: 32,
+        },
+        FIRST,
+    ],
+};
+
+/// A sweep and a new block leave contents alone.
+pub const KEPT: Row = Row {
+    text: "heap 0x40000000 1\nmalloc c1 32\nmalloc c2 32\nstorecap c1 c2\nfree c1\nsweep\nmalloc c3 32\nloadcap c4 c3\nshow c4\n",
+    report: "2 malloc block 0x40000000 0x40000020
+3 malloc block 0x40000020 0x40000040
+4 storecap ok
+5 free held 32
+6 sweep cleared 1 released 32
+7 malloc block 0x40000000 0x40000020
+8 loadcap ok
+9 show tag 1 address 0x40000020 base 0x40000020 top 0x40000040 perms 0x3d type 0x3ffff exponent 0
+end live 64 held 0 free 4032 tags 4
+",
+    image: "0x40000000 1 20000040000000002480110400003d00\n",
+    tagged: 0b11100,
+    replies: &[
+        FIRST,
+        SECOND,
+        Reply::Done,
+        Reply::Held(32),
+        Reply::Swept {
+            cleared: 1,
+            released: 32,
+        },
+        FIRST,
+        Reply::Done,
+        Reply::Shown(Shown {
+            tag: true,
+            address: 0x4000_0020,
+            base: 0x4000_0020,
+            top: 0x4000_0040,
+            perms: 0x3d,
+            otype: 0x3ffff,
+            exponent: 0,
+        }),
+    ],
+};
+
+/// Bounds narrowed, with the traps on the way.
+const NARROWED: Row = Row {
+    text: "heap 0x40000000 64\nmalloc c1 100000\nnarrow c2 c1 0\nsetaddr c3 c1 0x40000001\nnarrow c2 c3 5000\nnarrow c2 c3 100096\nnarrow c2 c1 100096\n",
+    report: "2 malloc block 0x40000000 0x40018700
+3 narrow trap empty
+4 setaddr ok
+5 narrow trap inexact
+6 narrow trap bounds
+7 narrow ok
+end live 100096 held 0 free 162048 tags 3
+",
+    image: "",
+    tagged: 0b1110,
+    replies: &[
+        Reply::Block {
+            base: 0x4000_0000,
+            top: 0x4001_8700,
+        },
+        Reply::Trap(Trap::Empty),
+        Reply::Done,
+        Reply::Trap(Trap::Inexact),
+        Reply::Trap(Trap::Bounds),
+        Reply::Done,
+    ],
+};
+
+/// The least place, in a gap too.
+const PLACED: Row = Row {
+    text: "heap 0x40000000 16\nmalloc c1 16\nmalloc c2 16384\nmalloc c3 16\n",
+    report: "2 malloc block 0x40000000 0x40000010
+3 malloc block 0x40000020 0x40004020
+4 malloc block 0x40000010 0x40000020
+end live 16416 held 0 free 49120 tags 3
+",
+    image: "",
+    tagged: 0b1110,
+    replies: &[
+        Reply::Block {
+            base: 0x4000_0000,
+            top: 0x4000_0010,
+        },
+        Reply::Block {
+            base: 0x4000_0020,
+            top: 0x4000_4020,
+        },
+        Reply::Block {
+            base: 0x4000_0010,
+            top: 0x4000_0020,
+        },
+    ],
+};
+
+pub const ROWS: [Row; 5] = [WRAPPED, REUSED, KEPT, NARROWED, PLACED];
