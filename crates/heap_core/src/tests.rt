@@ -2,6 +2,7 @@
 
 use crate::{Block, Freed, Heap, HeapFault, Shadow};
 use mark_board::Board;
+use std::alloc::Global;
 use std::process::Abort;
 
 const BASE: u64 = 0x4000_0000;
@@ -213,16 +214,16 @@ fn extents_are_joined(rt: HostRuntime) {
     blocks_lie(&rt, &mut heap, &[(4080, Some((0x4000_0000, 0x4000_0ff0)))]);
 }
 
-#[test]
-fn held_blocks_are_painted_by_their_numbers(rt: HostRuntime) {
-    let mut heap = Heap::new(rt.alloc(), BASE, 1).expect(&rt, "a heap");
+// A heap whose blocks are held but the second; that of granules 42 to 105 is the second of those held.
+fn held_heap(rt: &impl Abort, alloc: Global) -> Heap {
+    let mut heap = Heap::new(alloc, BASE, 1).expect(rt, "a heap");
     let blocks = [
         (640, Some((0x4000_0000, 0x4000_0280))),
         (32, Some((0x4000_0280, 0x4000_02a0))),
         (1024, Some((0x4000_02a0, 0x4000_06a0))),
         (16, Some((0x4000_06a0, 0x4000_06b0))),
     ];
-    blocks_lie(&rt, &mut heap, &blocks);
+    blocks_lie(rt, &mut heap, &blocks);
     for (base, top) in [
         (0x4000_06a0, 0x4000_06b0),
         (0x4000_0000, 0x4000_0280),
@@ -230,31 +231,31 @@ fn held_blocks_are_painted_by_their_numbers(rt: HostRuntime) {
     ] {
         assert_eq!(rt; heap.release(base, top), Ok(Freed::Held), "at {base:x}");
     }
+    heap
+}
+
+#[test]
+fn held_blocks_are_painted_by_their_numbers(rt: HostRuntime) {
+    let heap = held_heap(&rt, rt.alloc());
     assert_eq!(rt; heap.held_blocks(), 3);
     assert_eq!(rt; heap.granules(), 256);
-    // Granules 42 to 105 are the second of the held blocks.
     let (board, mut seat) = Board::new(rt.alloc(), 256, 1).expect(&rt, "a board");
     heap.paint(&board, &mut seat, 1, 2);
     heap.paint(&board, &mut seat, 3, 3);
-    let words = board
-        .finish(rt.alloc(), seat)
-        .expect(&rt, "there is memory");
+    let words = board.finish(rt.alloc(), seat).expect(&rt, "memory");
     assert_eq!(rt;
         words.as_slice(),
         [u64::MAX << 42, (1 << 42) - 1, 0, 0].as_slice()
     );
-    let granules = 64 * words.len();
-    let shadow = Shadow::from_words(words, granules);
-    assert_eq!(rt; shadow.granules(), 256);
-    for (granule, painted) in [
-        (0, false),
-        (41, false),
-        (42, true),
-        (105, true),
-        (106, false),
-    ] {
-        assert_eq!(rt; shadow.painted(granule), painted, "granule {granule}");
-    }
+}
+
+#[test]
+fn a_shadow_is_painted_as_its_words_are(rt: HostRuntime) {
+    let mut words = vec![in rt.alloc(); 0; 2].expect(&rt, "memory");
+    words.copy_from_slice(&[u64::MAX << 42, (1 << 42) - 1]);
+    let shadow = Shadow::from_words(words, 128);
+    assert_eq!(rt; shadow.granules(), 128);
+    granules_are_painted(&rt, &shadow, 42, 106);
 }
 
 // It is run with each allocation refused in turn.
