@@ -12,13 +12,13 @@ use Rattle.trace_text.specs.declared.trace.Command.TheVariants.{Malloc, Free, Co
 use Rattle.heap_machine.specs.declared.parts.Parts.{Parts}
 use Rattle.heap_machine.specs.declared.fault.MachineFault.{MachineFault}
 use Rattle.heap_reply.specs.declared.reply.Reply.{Reply}
-use Rattle.heap_reply.specs.declared.reply.Reply.TheVariants.{Block, NoSpace, Held, Done, Cleared, Swept, Shown, Trap}
+use Rattle.heap_reply.specs.declared.reply.Reply.TheVariants.{Block, BlockAfter, NoSpace, NoSpaceAfter, Held, Done, Cleared, Swept, Shown, Trap}
 use Rattle.heap_reply.specs.declared.reply.Trap.{Trap as TheTrap}
 use Rattle.heap_machine.specs.Parts.{AreParts, state_of}
 use Rattle.heap_machine.specs.Safety.{FitsTypes, IsSafe}
 use Rattle.heap_machine.specs.Sound.{IsMachine}
 use Rattle.heap_machine.specs.State.{State, with_cell}
-use Rattle.heap_machine.specs.Step.{Effect, Step, StepAfter, checks, first_failed, index_in, swept, with_granule}
+use Rattle.heap_machine.specs.Step.{Effect, HandsOut, HandsOutNone, Step, StepAfter, checks, first_failed, index_in, swept, with_granule}
 
 record HasSizes (s : State) : Type 0 where
   pub granules : 16 * length s.cells ≡ s.heap.size
@@ -52,10 +52,18 @@ HasSizes-swept s sizes = record {
 HasSizes-live : (s : State) (size a : ℕ) → HasSizes s → HasSizes (record s { heap = with_live s.heap size a })
 HasSizes-live s size a sizes = record { granules = sizes.granules; count = sizes.count; zero = sizes.zero }
 
+HandsOut-sizes : (old : State) (rd size base top : ℕ) (new : State) → HasSizes old → HandsOut old rd size base top new → HasSizes new
+HandsOut-sizes old rd size base top new sizes out =
+    subst HasSizes (sym out.state) (HasSizes-with (record old { heap = with_live old.heap size base }) rd _ (HasSizes-live old size base sizes))
+
+HandsOutNone-sizes : (old : State) (rd size : ℕ) (new : State) → HasSizes old → HandsOutNone old rd size new → HasSizes new
+HandsOutNone-sizes old rd size new sizes out = subst HasSizes (sym out.state) (HasSizes-with old rd null_cell sizes)
+
 Malloc-sizes : (old : State) (rd size : ℕ) (r : Reply) (new : State) → HasSizes old → Effect old (Malloc rd size) r new → HasSizes new
-Malloc-sizes old rd size (Block base top) new sizes effect =
-    subst HasSizes (sym effect.2) (HasSizes-with (record old { heap = with_live old.heap size base }) rd _ (HasSizes-live old size base sizes))
-Malloc-sizes old rd size NoSpace new sizes effect = subst HasSizes (sym effect.1) (HasSizes-with old rd null_cell sizes)
+Malloc-sizes old rd size (Block base top) new sizes effect = HandsOut-sizes old rd size base top new sizes effect
+Malloc-sizes old rd size (BlockAfter base top cleared) new sizes effect = HandsOut-sizes (swept old) rd size base top new (HasSizes-swept old sizes) effect.1
+Malloc-sizes old rd size NoSpace new sizes effect = HandsOutNone-sizes old rd size new sizes effect.1
+Malloc-sizes old rd size (NoSpaceAfter cleared) new sizes effect = HandsOutNone-sizes (swept old) rd size new (HasSizes-swept old sizes) effect.1
 Malloc-sizes old rd size (Held bytes) new sizes effect = absurd effect
 Malloc-sizes old rd size Done new sizes effect = absurd effect
 Malloc-sizes old rd size Cleared new sizes effect = absurd effect

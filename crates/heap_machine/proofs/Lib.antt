@@ -11,5 +11,6 @@ mod RevokedLaws
 mod SafeSteps
 mod SoundLaws
 mod SweepStep
+mod SweptMalloc
 mod SweptState
 mod UnusedLaws

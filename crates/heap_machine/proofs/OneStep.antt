@@ -1,16 +1,18 @@
 -- In each state a command has one answer and leaves one state.
-use Rattle.std.proofs.Common.{◌≡◌, ◌+◌, ◌∙◌, ℕ, Option, Some, None, inl, inr, true, refl, sym, ap}
+use Rattle.std.proofs.Common.{◌≡◌, ◌+◌, ◌∙◌, ℕ, Option, Some, None, List, [], ◌∷◌, inl, inr, true, refl, sym, ap}
+use Rattle.std.specs.Prelude.{◌⊎◌}
+use Rattle.heap_core.specs.Blocks.{Span}
 use Rattle.heap_core.specs.Place.{block_length, with_live}
 use Rattle.tag_memory.specs.Cells.{null_cell}
 use Rattle.trace_text.specs.declared.trace.Command.{Command}
 use Rattle.trace_text.specs.declared.trace.Command.TheVariants.{Malloc, Free, Copy, SetAddr, Narrow, AndPerm, StoreCap, LoadCap, Write, Show, Sweep}
 use Rattle.heap_reply.specs.declared.reply.Reply.{Reply}
-use Rattle.heap_reply.specs.declared.reply.Reply.TheVariants.{Block, NoSpace}
+use Rattle.heap_reply.specs.declared.reply.Reply.TheVariants.{Block, BlockAfter, NoSpace, NoSpaceAfter}
 use Rattle.heap_reply.specs.declared.reply.Reply.TheVariants as reply
 use Rattle.heap_reply.specs.declared.reply.Trap.{Trap}
 use Rattle.heap_machine.specs.State.{State, with_cell}
 use Rattle.cap_codec.specs.Words.{capability_of}
-use Rattle.heap_machine.specs.Step.{Effect, Step, StepAfter, checks, first_failed}
+use Rattle.heap_machine.specs.Step.{Effect, HandsOut, SweepsFirst, Step, StepAfter, checks, first_failed, swept, taken}
 use Rattle.heap_machine.proofs.OnePlace.{IsPlace-only, IsPlace-some}
 
 -- The state after a block.
@@ -23,19 +25,56 @@ with_block old rd size base top =
 same_as : {r s a : Reply} {m n b : State} → (r ≡ a) × (m ≡ b) → (s ≡ a) × (n ≡ b) → (r ≡ s) × (m ≡ n)
 same_as p q = (p.0 ∙ sym q.0, p.1 ∙ sym q.1)
 
+-- One block is handed out.
+record AreOne (b c t u : ℕ) (m n : State) : Type 0 where
+  pub base : b ≡ c
+  pub top : t ≡ u
+  pub state : m ≡ n
+
+HandsOut-only : (old : State) (rd size b t c u : ℕ) (m n : State) → HandsOut old rd size b t m → HandsOut old rd size c u n → AreOne b c t u m n
+HandsOut-only old rd size b t c u m n p q =
+    let base : b ≡ c = IsPlace-only old.heap size b c p.place q.place in
+    let top : t ≡ u = p.end ∙ ap (λ (x : ℕ). x + block_length size) base ∙ sym q.end in
+    let same : with_block old rd size b t ≡ with_block old rd size c u = cc in
+    record { base = base; top = top; state = p.state ∙ same ∙ sym q.state }
+
+Malloc-only : (old : State) (rd size : ℕ) (r s : Reply) (m n : State) → Effect old (Malloc rd size) r m → Effect old (Malloc rd size) s n → (r ≡ s) × (m ≡ n)
+Malloc-only old rd size (Block b t) (Block c u) m n p q =
+    let one = HandsOut-only old rd size b t c u m n p q in
+    let base = one.base in
+    let top = one.top in
+    let r : Block b t ≡ Block c u = cc in
+    (r, one.state)
+Malloc-only old rd size (Block b t) (BlockAfter c u k) m n p q = absurd (q.0.none b p.place.free)
+Malloc-only old rd size (Block b t) NoSpace m n p q = absurd (q.1.none b p.place.free)
+Malloc-only old rd size (Block b t) (NoSpaceAfter k) m n p q = absurd (q.0.none b p.place.free)
+Malloc-only old rd size (BlockAfter b t k) (Block c u) m n p q = absurd (p.0.none c q.place.free)
+Malloc-only old rd size (BlockAfter b t k) (BlockAfter c u l) m n p q =
+    let one = HandsOut-only (swept old) rd size b t c u m n p.1 q.1 in
+    let base = one.base in
+    let top = one.top in
+    let count : k ≡ l = p.0.cleared_is ∙ sym q.0.cleared_is in
+    let r : BlockAfter b t k ≡ BlockAfter c u l = cc in
+    (r, one.state)
+Malloc-only old rd size (BlockAfter b t k) NoSpace m n p q = absurd (p.0.held q.0)
+Malloc-only old rd size (BlockAfter b t k) (NoSpaceAfter l) m n p q = absurd (q.1.none b p.1.place.free)
+Malloc-only old rd size NoSpace (Block c u) m n p q = absurd (p.1.none c q.place.free)
+Malloc-only old rd size NoSpace (BlockAfter c u k) m n p q = absurd (q.0.held p.0)
+Malloc-only old rd size NoSpace NoSpace m n p q = (refl, p.1.state ∙ sym q.1.state)
+Malloc-only old rd size NoSpace (NoSpaceAfter k) m n p q = absurd (q.0.held p.0)
+Malloc-only old rd size (NoSpaceAfter k) (Block c u) m n p q = absurd (p.0.none c q.place.free)
+Malloc-only old rd size (NoSpaceAfter k) (BlockAfter c u l) m n p q = absurd (p.1.none c q.1.place.free)
+Malloc-only old rd size (NoSpaceAfter k) NoSpace m n p q = absurd (p.0.held q.0)
+Malloc-only old rd size (NoSpaceAfter k) (NoSpaceAfter l) m n p q =
+    let count : k ≡ l = p.0.cleared_is ∙ sym q.0.cleared_is in (ap NoSpaceAfter count, p.1.state ∙ sym q.1.state)
+Malloc-only old rd size (Block b t) other m n p q = absurd q
+Malloc-only old rd size (BlockAfter b t k) other m n p q = absurd q
+Malloc-only old rd size NoSpace other m n p q = absurd q
+Malloc-only old rd size (NoSpaceAfter k) other m n p q = absurd q
+Malloc-only old rd size other s m n p q = absurd p
+
 Effect-only : (old : State) (c : Command) (r s : Reply) (m n : State) → Effect old c r m → Effect old c s n → (r ≡ s) × (m ≡ n)
-Effect-only old (Malloc rd size) (Block base top) (Block start end) m n p q =
-    let b : base ≡ start = IsPlace-only old.heap size base start p.0 q.0 in
-    let t : top ≡ end = p.1 ∙ ap (λ (x : ℕ). x + block_length size) b ∙ sym q.1 in
-    let r : Block base top ≡ Block start end = cc in
-    let e : with_block old rd size base top ≡ with_block old rd size start end = cc in
-    (r, p.2 ∙ e ∙ sym q.2)
-Effect-only old (Malloc rd size) (Block base top) NoSpace m n p q = absurd (q.0 base p.0.free)
-Effect-only old (Malloc rd size) NoSpace (Block base top) m n p q = absurd (p.0 base q.0.free)
-Effect-only old (Malloc rd size) NoSpace NoSpace m n p q = (refl, p.1 ∙ sym q.1)
-Effect-only old (Malloc rd size) (Block base top) other m n p q = absurd q
-Effect-only old (Malloc rd size) NoSpace other m n p q = absurd q
-Effect-only old (Malloc rd size) other s m n p q = absurd p
+Effect-only old (Malloc rd size) r s m n p q = Malloc-only old rd size r s m n p q
 Effect-only old (Free rs) r s m n p q = same_as p q
 Effect-only old (Copy rd rs) r s m n p q = same_as p q
 Effect-only old (SetAddr rd rs a) r s m n p q = same_as p q
@@ -57,12 +96,37 @@ Step-only old c r s m n p q = StepAfter-only (first_failed (checks old c)) old c
 
 -- ---- some
 
-Effect-some : (old : State) (c : Command) → (r : Reply) × (m : State) × Effect old c r m
-Effect-some old (Malloc rd size) =
-    elim (IsPlace-some old.heap size) [
-      | inl found ↦ (Block found.0 (found.0 + block_length size), with_block old rd size found.0 (found.0 + block_length size), (found.1, refl, refl))
-      | inr none ↦ (NoSpace, with_cell old rd null_cell, (none, refl))
+none_or_some : (blocks : List Span) → (blocks ≡ []) ⊎ (blocks ≡ [] → ⊥)
+none_or_some [] = inl refl
+none_or_some (b ∷ blocks) = inr (λ e. absurd cc)
+
+-- Where a block has no place, and others are held.
+Sweep-some : (old : State) (rd size cleared : ℕ) → SweepsFirst old size cleared → (r : Reply) × (m : State) × Effect old (Malloc rd size) r m
+Sweep-some old rd size cleared first =
+    elim (IsPlace-some (swept old).heap size) [
+      | inl found ↦
+          let base = found.0 in
+          let top = base + block_length size in
+          (BlockAfter base top cleared, with_block (swept old) rd size base top, (first, record { place = found.1; end = refl; state = refl }))
+      | inr none ↦ (NoSpaceAfter cleared, with_cell (swept old) rd null_cell, (first, record { none = none; state = refl }))
     ]
+
+Malloc-some : (old : State) (rd size : ℕ) → (r : Reply) × (m : State) × Effect old (Malloc rd size) r m
+Malloc-some old rd size =
+    elim (IsPlace-some old.heap size) [
+      | inl found ↦
+          let base = found.0 in
+          let top = base + block_length size in
+          (Block base top, with_block old rd size base top, record { place = found.1; end = refl; state = refl })
+      | inr none ↦
+          elim (none_or_some old.heap.held) [
+            | inl free ↦ (NoSpace, with_cell old rd null_cell, (free, record { none = none; state = refl }))
+            | inr held ↦ Sweep-some old rd size (taken old) (record { none = none; held = held; cleared_is = refl })
+          ]
+    ]
+
+Effect-some : (old : State) (c : Command) → (r : Reply) × (m : State) × Effect old c r m
+Effect-some old (Malloc rd size) = Malloc-some old rd size
 Effect-some old (Free rs) = (_, _, (refl, refl))
 Effect-some old (Copy rd rs) = (_, _, (refl, refl))
 Effect-some old (SetAddr rd rs a) = (_, _, (refl, refl))

@@ -8,9 +8,9 @@ use Rattle.tag_memory.specs.Cells.{Cell, cell_of}
 use Rattle.trace_text.specs.declared.trace.Command.{Command}
 use Rattle.trace_text.specs.declared.trace.Command.TheVariants.{Malloc, Free, Copy, SetAddr, Narrow, AndPerm, StoreCap, LoadCap, Write, Show, Sweep}
 use Rattle.heap_reply.specs.declared.reply.Reply.{Reply}
-use Rattle.heap_reply.specs.declared.reply.Reply.TheVariants.{Block, NoSpace, Held, Done, Cleared, Swept, Shown, Trap}
+use Rattle.heap_reply.specs.declared.reply.Reply.TheVariants.{Block, BlockAfter, NoSpace, NoSpaceAfter, Held, Done, Cleared, Swept, Shown, Trap}
 use Rattle.heap_reply.specs.declared.reply.Trap.{Trap as TheTrap}
-use Rattle.heap_machine.specs.Safety.{AreInUse, HoldsGuarded, IsGuarded, IsInUse, IsSafe, LeavesInUse, TellsNoSweep}
+use Rattle.heap_machine.specs.Safety.{AreInUse, HoldsGuarded, IsGuarded, IsInUse, IsSafe, LeavesBlocksInUse, LeavesInUse, TellsNoSweep}
 use Rattle.heap_machine.specs.State.{State}
 use Rattle.heap_machine.specs.Step.{Effect, Step, StepAfter, checks, first_failed}
 
@@ -41,15 +41,18 @@ either_way : (t : Bool) → TellsNoSweep (cond t Cleared Done)
 either_way true = tt
 either_way false = tt
 
-Malloc-silent : (old : State) (rd size : ℕ) (r : Reply) (new : State) → Effect old (Malloc rd size) r new → TellsNoSweep r
-Malloc-silent old rd size (Block base top) new effect = tt
-Malloc-silent old rd size NoSpace new effect = tt
-Malloc-silent old rd size (Held bytes) new effect = tt
-Malloc-silent old rd size Done new effect = tt
-Malloc-silent old rd size Cleared new effect = tt
-Malloc-silent old rd size (Swept cleared released) new effect = effect
-Malloc-silent old rd size (Shown shown) new effect = tt
-Malloc-silent old rd size (Trap trap) new effect = tt
+-- What a malloc leaves: after a sweep no block is held.
+Malloc-leaves : (old : State) (rd size : ℕ) (r : Reply) (new : State) → IsSafe new → Effect old (Malloc rd size) r new → LeavesBlocksInUse r new
+Malloc-leaves old rd size (Block base top) new safe effect = tt
+Malloc-leaves old rd size (BlockAfter base top cleared) new safe effect = AreInUse-swept new safe (ap (λ (s : State). s.heap.held) effect.1.state)
+Malloc-leaves old rd size NoSpace new safe effect = tt
+Malloc-leaves old rd size (NoSpaceAfter cleared) new safe effect = AreInUse-swept new safe (ap (λ (s : State). s.heap.held) effect.1.state)
+Malloc-leaves old rd size (Held bytes) new safe effect = effect
+Malloc-leaves old rd size Done new safe effect = effect
+Malloc-leaves old rd size Cleared new safe effect = effect
+Malloc-leaves old rd size (Swept cleared released) new safe effect = effect
+Malloc-leaves old rd size (Shown shown) new safe effect = effect
+Malloc-leaves old rd size (Trap trap) new safe effect = effect
 
 -- Where the command's checks pass, and where one fails.
 After-silent : (t : Option TheTrap) (old : State) (c : Command) (r : Reply) (new : State)
@@ -58,7 +61,7 @@ After-silent None old c r new effect step = effect step
 After-silent (Some t) old c r new effect step = silent r (Trap t) tt step.0
 
 pub Step-revoked : (old : State) (c : Command) (r : Reply) (new : State) → IsSafe new → Step old c r new → LeavesInUse c r new
-Step-revoked old (Malloc rd size) r new safe step = Malloc-silent old rd size r new step
+Step-revoked old (Malloc rd size) r new safe step = Malloc-leaves old rd size r new safe step
 Step-revoked old (Free rs) r new safe step = After-silent (first_failed (checks old (Free rs))) old (Free rs) r new (λ e. silent r _ tt e.0) step
 Step-revoked old (Copy rd rs) r new safe step = silent r Done tt step.0
 Step-revoked old (SetAddr rd rs a) r new safe step = silent r _ (either_way _) step.0

@@ -12,12 +12,12 @@ use Rattle.tag_memory.specs.Cells.{null_cell}
 use Rattle.trace_text.specs.declared.trace.Command.{Command}
 use Rattle.trace_text.specs.declared.trace.Command.TheVariants.{Malloc, Free, Copy, SetAddr, Narrow, AndPerm, StoreCap, LoadCap, Write, Show, Sweep}
 use Rattle.heap_reply.specs.declared.reply.Reply.{Reply}
-use Rattle.heap_reply.specs.declared.reply.Reply.TheVariants.{Block, NoSpace, Held, Done, Cleared, Swept, Shown, Trap}
+use Rattle.heap_reply.specs.declared.reply.Reply.TheVariants.{Block, BlockAfter, NoSpace, NoSpaceAfter, Held, Done, Cleared, Swept, Shown, Trap}
 use Rattle.heap_reply.specs.declared.reply.Trap.{Trap as TheTrap}
 use Rattle.heap_machine.specs.Safety.{FitsTypes, IsSafe}
 use Rattle.heap_machine.specs.State.{State, register}
 use Rattle.cap_codec.specs.Words.{address_in, allows, bounds_in, capability_of, is_exact, keeps_bounds, lie_within, load_capability, narrowed, with_address, with_perms}
-use Rattle.heap_machine.specs.Step.{Effect, Step, StepAfter, checks, first_failed, granule_at}
+use Rattle.heap_machine.specs.Step.{Effect, HandsOut, HandsOutNone, Step, StepAfter, checks, first_failed, granule_at, swept}
 use Rattle.heap_machine.proofs.BlockLists.{Contains-new}
 use Rattle.heap_machine.proofs.FreedBlock.{IsSafe-held}
 use Rattle.heap_machine.proofs.GuardLaws.{IsGuarded-kept, IsGuarded-narrowed, IsGuarded-untagged, IsInside-block}
@@ -59,18 +59,29 @@ all_four false b c d x y z t e = absurd cc
 some_bytes : (heap : HeapState) (size a : ℕ) → IsSoundHeap (with_live heap size a) → 0 < block_length size
 some_bytes heap size a sound = (IsInside-block (with_live heap size a) (a, block_length size) sound (inl (Contains-new (a, block_length size) heap.live))).some
 
-Malloc-safe : Laws → (old : State) (rd size : ℕ) (r : Reply) (new : State) → IsSafe old → Effect old (Malloc rd size) r new → IsSafe new
-Malloc-safe laws old rd size (Block base top) new safe effect =
-    let free = effect.0.free in
+HandsOut-safe : Laws → (old : State) (rd size base top : ℕ) (new : State) → IsSafe old → HandsOut old rd size base top new → IsSafe new
+HandsOut-safe laws old rd size base top new safe out =
+    let free = out.place.free in
     let heap = laws.live old.heap size base safe.heap free in
     let fits = FitsAddresses-state old safe in
     let room : base + block_length size ≤ 2 ^ 64 = omega (arith, free.end, fits.end) in
     let some = some_bytes old.heap size base heap in
     let is = laws.capability base (base + block_length size) (omega (arith, room, some)) (omega arith) room ∙ laws.exact old.heap size base safe.heap free in
     let word : bounds_in (capability_of base top) ≡ record { base = base; top = base + block_length size } =
-    subst (λ (t : ℕ). bounds_in (capability_of base t) ≡ record { base = base; top = base + block_length size }) (sym effect.1) is in
-    subst IsSafe (sym effect.2) (IsSafe-new old rd size base (capability_of base top) safe heap word)
-Malloc-safe laws old rd size NoSpace new safe effect = subst IsSafe (sym effect.1) (IsSafe-with old rd null_cell safe (IsGuarded-untagged old.heap _))
+    subst (λ (t : ℕ). bounds_in (capability_of base t) ≡ record { base = base; top = base + block_length size }) (sym out.end) is in
+    subst IsSafe (sym out.state) (IsSafe-new old rd size base (capability_of base top) safe heap word)
+
+HandsOutNone-safe : (old : State) (rd size : ℕ) (new : State) → IsSafe old → HandsOutNone old rd size new → IsSafe new
+HandsOutNone-safe old rd size new safe out = subst IsSafe (sym out.state) (IsSafe-with old rd null_cell safe (IsGuarded-untagged old.heap _))
+
+swept-safe : Laws → (s : State) → IsSafe s → IsSafe (swept s)
+swept-safe laws s safe = IsSafe-swept s safe (laws.free s.heap safe.heap)
+
+Malloc-safe : Laws → (old : State) (rd size : ℕ) (r : Reply) (new : State) → IsSafe old → Effect old (Malloc rd size) r new → IsSafe new
+Malloc-safe laws old rd size (Block base top) new safe effect = HandsOut-safe laws old rd size base top new safe effect
+Malloc-safe laws old rd size (BlockAfter base top cleared) new safe effect = HandsOut-safe laws (swept old) rd size base top new (swept-safe laws old safe) effect.1
+Malloc-safe laws old rd size NoSpace new safe effect = HandsOutNone-safe old rd size new safe effect.1
+Malloc-safe laws old rd size (NoSpaceAfter cleared) new safe effect = HandsOutNone-safe (swept old) rd size new (swept-safe laws old safe) effect.1
 Malloc-safe laws old rd size (Held bytes) new safe effect = absurd effect
 Malloc-safe laws old rd size Done new safe effect = absurd effect
 Malloc-safe laws old rd size Cleared new safe effect = absurd effect
@@ -127,7 +138,7 @@ Effect-safe laws old (LoadCap rd ra) r new safe fits passed effect =
     subst IsSafe (sym effect.1) (IsSafe-with old rd (record { bits = granule.0 }, granule.1 && keeps) safe guarded)
 Effect-safe laws old (Write ra bytes) r new safe fits passed effect = subst IsSafe (sym effect.1) (IsSafe-put old (register old ra).0 _ safe (IsGuarded-untagged old.heap _))
 Effect-safe laws old (Show rs) r new safe fits passed effect = subst IsSafe (sym effect.1) safe
-Effect-safe laws old Sweep r new safe fits passed effect = subst IsSafe (sym effect.1) (IsSafe-swept old safe (laws.free old.heap safe.heap))
+Effect-safe laws old Sweep r new safe fits passed effect = subst IsSafe (sym effect.1) (swept-safe laws old safe)
 
 StepAfter-safe : Laws → (t : Option TheTrap) (old : State) (c : Command) (r : Reply) (new : State) → IsSafe old → FitsTypes c → first_failed (checks old c) ≡ t
     → StepAfter t old c r new → IsSafe new

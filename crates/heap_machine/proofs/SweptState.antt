@@ -1,5 +1,5 @@
 -- The state after a sweep: each tagged word whose base lies in a held block has lost its tag.
-use Rattle.std.proofs.Common.{◌≡◌, ◌∙◌, ◌<◌, ◌+◌, ◌-◌, ◌&&◌, ℕ, Bool, true, false, cond, not, inl, inr, All, List, [], ◌∷◌, length, get_or, drop, refl, sym, ap, subst, arith}
+use Rattle.std.proofs.Common.{◌≡◌, ◌∙◌, ◌<◌, ◌+◌, ◌&&◌, ℕ, Bool, true, false, cond, not, inl, inr, All, List, [], ◌∷◌, length, get_or, drop, refl, sym, ap, subst, arith}
 use Rattle.std.proofs.Math.Bool.{and-true}
 use Rattle.std.specs.Prelude.{count_by}
 use Rattle.std.specs.List.{Contains, enumerate_from}
@@ -105,10 +105,6 @@ tags_of-swept s =
     let registers = subst (λ (xs : List Cell). count_by (λ (c : Cell). c.1) xs + taken ≡ count_by (λ (c : Cell). c.1) (drop 1 s.registers))
     (sym (drop-map (swept_cell held) 1 s.registers)) (count-swept_cells held (drop 1 s.registers)) in
     omega (arith, count-swept_granules held s.cells, registers)
-
--- So what is counted before and after tells how many it takes.
-pub tags_taken-difference : (s : State) → tags_of s - tags_of (swept s) ≡ tags_taken s.heap.held s.cells s.registers
-tags_taken-difference s = omega (arith, tags_of-swept s)
 
 -- ---- what stays guarded
 

@@ -9,12 +9,12 @@ use Rattle.tag_memory.specs.Cells.{Cell, cell_of}
 use Rattle.trace_text.specs.declared.trace.Command.{Command}
 use Rattle.trace_text.specs.declared.trace.Command.TheVariants.{Malloc, Free, Copy, SetAddr, Narrow, AndPerm, StoreCap, LoadCap, Write, Show, Sweep}
 use Rattle.heap_reply.specs.declared.reply.Reply.{Reply}
-use Rattle.heap_reply.specs.declared.reply.Reply.TheVariants.{Block, NoSpace, Held, Done, Cleared, Swept, Shown, Trap}
+use Rattle.heap_reply.specs.declared.reply.Reply.TheVariants.{Block, BlockAfter, NoSpace, NoSpaceAfter, Held, Done, Cleared, Swept, Shown, Trap}
 use Rattle.heap_reply.specs.declared.reply.Trap.{Trap as TheTrap}
 use Rattle.heap_machine.specs.Safety.{HandsOutNothing, HasBaseIn, HasNoBase, HoldsGuarded, IsGuarded, IsLiveOrHeld, IsSafe, IsUnused, IsUnusedBlock, LieIn}
 use Rattle.heap_machine.specs.State.{State}
 use Rattle.cap_codec.specs.Words.{bounds_in}
-use Rattle.heap_machine.specs.Step.{Effect, Step, StepAfter, checks, first_failed}
+use Rattle.heap_machine.specs.Step.{Effect, Step, StepAfter, checks, first_failed, swept}
 
 -- ---- a new block
 
@@ -51,15 +51,17 @@ either_way : (t : Bool) → HandsOutNothing (cond t Cleared Done)
 either_way true = tt
 either_way false = tt
 
-Malloc-unused : (old : State) (rd size : ℕ) (r : Reply) (new : State) → IsSafe old → Effect old (Malloc rd size) r new → IsUnusedBlock old r
-Malloc-unused old rd size (Block base top) new safe effect = HasNoBase-free old size base top safe effect.0.free effect.1
-Malloc-unused old rd size NoSpace new safe effect = tt
-Malloc-unused old rd size (Held bytes) new safe effect = effect
-Malloc-unused old rd size Done new safe effect = effect
-Malloc-unused old rd size Cleared new safe effect = effect
-Malloc-unused old rd size (Swept cleared released) new safe effect = effect
-Malloc-unused old rd size (Shown shown) new safe effect = effect
-Malloc-unused old rd size (Trap trap) new safe effect = absurd effect
+Malloc-unused : (old : State) (rd size : ℕ) (r : Reply) (new : State) → IsSafe old → IsSafe (swept old) → Effect old (Malloc rd size) r new → IsUnusedBlock old r
+Malloc-unused old rd size (Block base top) new safe after effect = HasNoBase-free old size base top safe effect.place.free effect.end
+Malloc-unused old rd size (BlockAfter base top cleared) new safe after effect = HasNoBase-free (swept old) size base top after effect.1.place.free effect.1.end
+Malloc-unused old rd size NoSpace new safe after effect = tt
+Malloc-unused old rd size (NoSpaceAfter cleared) new safe after effect = tt
+Malloc-unused old rd size (Held bytes) new safe after effect = effect
+Malloc-unused old rd size Done new safe after effect = effect
+Malloc-unused old rd size Cleared new safe after effect = effect
+Malloc-unused old rd size (Swept cleared released) new safe after effect = effect
+Malloc-unused old rd size (Shown shown) new safe after effect = effect
+Malloc-unused old rd size (Trap trap) new safe after effect = absurd effect
 
 -- Where the command's checks pass, and where one fails.
 After-nothing : (t : Option TheTrap) (old : State) (c : Command) (r : Reply) (new : State)
@@ -67,15 +69,15 @@ After-nothing : (t : Option TheTrap) (old : State) (c : Command) (r : Reply) (ne
 After-nothing None old c r new effect step = effect step
 After-nothing (Some t) old c r new effect step = nothing r (Trap t) tt step.0
 
-pub Step-unused : (old : State) (c : Command) (r : Reply) (new : State) → IsSafe old → Step old c r new → IsUnused old c r
-Step-unused old (Malloc rd size) r new safe step = Malloc-unused old rd size r new safe step
-Step-unused old (Free rs) r new safe step = After-nothing (first_failed (checks old (Free rs))) old (Free rs) r new (λ e. nothing r _ tt e.0) step
-Step-unused old (Copy rd rs) r new safe step = nothing r Done tt step.0
-Step-unused old (SetAddr rd rs a) r new safe step = nothing r _ (either_way _) step.0
-Step-unused old (Narrow rd rs n) r new safe step = After-nothing (first_failed (checks old (Narrow rd rs n))) old (Narrow rd rs n) r new (λ e. nothing r Done tt e.0) step
-Step-unused old (AndPerm rd rs mask) r new safe step = nothing r Done tt step.0
-Step-unused old (StoreCap ra rs) r new safe step = After-nothing (first_failed (checks old (StoreCap ra rs))) old (StoreCap ra rs) r new (λ e. nothing r Done tt e.0) step
-Step-unused old (LoadCap rd ra) r new safe step = After-nothing (first_failed (checks old (LoadCap rd ra))) old (LoadCap rd ra) r new (λ e. nothing r Done tt e.0) step
-Step-unused old (Write ra bytes) r new safe step = After-nothing (first_failed (checks old (Write ra bytes))) old (Write ra bytes) r new (λ e. nothing r Done tt e.0) step
-Step-unused old (Show rs) r new safe step = nothing r _ tt step.0
-Step-unused old Sweep r new safe step = nothing r _ tt step.0
+pub Step-unused : (old : State) (c : Command) (r : Reply) (new : State) → IsSafe old → IsSafe (swept old) → Step old c r new → IsUnused old c r
+Step-unused old (Malloc rd size) r new safe after step = Malloc-unused old rd size r new safe after step
+Step-unused old (Free rs) r new safe after step = After-nothing (first_failed (checks old (Free rs))) old (Free rs) r new (λ e. nothing r _ tt e.0) step
+Step-unused old (Copy rd rs) r new safe after step = nothing r Done tt step.0
+Step-unused old (SetAddr rd rs a) r new safe after step = nothing r _ (either_way _) step.0
+Step-unused old (Narrow rd rs n) r new safe after step = After-nothing (first_failed (checks old (Narrow rd rs n))) old (Narrow rd rs n) r new (λ e. nothing r Done tt e.0) step
+Step-unused old (AndPerm rd rs mask) r new safe after step = nothing r Done tt step.0
+Step-unused old (StoreCap ra rs) r new safe after step = After-nothing (first_failed (checks old (StoreCap ra rs))) old (StoreCap ra rs) r new (λ e. nothing r Done tt e.0) step
+Step-unused old (LoadCap rd ra) r new safe after step = After-nothing (first_failed (checks old (LoadCap rd ra))) old (LoadCap rd ra) r new (λ e. nothing r Done tt e.0) step
+Step-unused old (Write ra bytes) r new safe after step = After-nothing (first_failed (checks old (Write ra bytes))) old (Write ra bytes) r new (λ e. nothing r Done tt e.0) step
+Step-unused old (Show rs) r new safe after step = nothing r _ tt step.0
+Step-unused old Sweep r new safe after step = nothing r _ tt step.0

@@ -1,4 +1,5 @@
 pub mod Parts
+pub mod Revoked
 pub mod Safety
 pub mod Sound
 pub mod State

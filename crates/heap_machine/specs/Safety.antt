@@ -10,8 +10,9 @@ use Rattle.tag_memory.specs.Cells.{Cell, Granule, cell_of}
 use Rattle.trace_text.specs.declared.trace.Command.{Command}
 use Rattle.trace_text.specs.declared.trace.Command.TheVariants.{Malloc, Free, Copy, SetAddr, Narrow, AndPerm, StoreCap, LoadCap, Write, Show, Sweep}
 use Rattle.heap_reply.specs.declared.reply.Reply.{Reply}
-use Rattle.heap_reply.specs.declared.reply.Reply.TheVariants.{Block, NoSpace, Held, Done, Cleared, Swept, Shown, Trap}
+use Rattle.heap_reply.specs.declared.reply.Reply.TheVariants.{Block, BlockAfter, NoSpace, NoSpaceAfter, Held, Done, Cleared, Swept, Shown, Trap}
 use Rattle.heap_machine.specs.State.{State}
+use Rattle.heap_machine.specs.Step.{swept}
 use Rattle.cap_codec.specs.Words.{bounds_in}
 
 -- The bounds lie in the block, and aren't empty.
@@ -49,10 +50,13 @@ abbrev pub HasNoBase : State → ℕ → ℕ → Type 0
 HasNoBase s base top =
     All (λ c. HasBaseIn base top c → ⊥) s.registers × All (λ granule. HasBaseIn base top (cell_of granule) → ⊥) s.cells
 
--- The block that a malloc is answered with is unused: before it no tagged word has its base there.
+-- The block that a malloc is answered with is unused: before it is live no tagged word has its base there. Where the
+-- malloc sweeps first, that is after the sweep.
 abbrev pub IsUnusedBlock : State → Reply → Type 0
 IsUnusedBlock s (Block base top) = HasNoBase s base top
+IsUnusedBlock s (BlockAfter base top cleared) = HasNoBase (swept s) base top
 IsUnusedBlock s NoSpace = Unit {0}
+IsUnusedBlock s (NoSpaceAfter cleared) = Unit {0}
 IsUnusedBlock s (Held bytes) = ⊥
 IsUnusedBlock s Done = ⊥
 IsUnusedBlock s Cleared = ⊥
@@ -63,7 +67,9 @@ IsUnusedBlock s (Trap trap) = ⊥
 -- The reply hands out no block.
 abbrev pub HandsOutNothing : Reply → Type 0
 HandsOutNothing (Block base top) = ⊥
+HandsOutNothing (BlockAfter base top cleared) = ⊥
 HandsOutNothing NoSpace = Unit {0}
+HandsOutNothing (NoSpaceAfter cleared) = Unit {0}
 HandsOutNothing (Held bytes) = Unit {0}
 HandsOutNothing Done = Unit {0}
 HandsOutNothing Cleared = Unit {0}
@@ -96,7 +102,9 @@ AreInUse s = All (IsInUse s.heap) s.registers × All (λ granule. IsInUse s.heap
 -- The reply tells of no sweep.
 abbrev pub TellsNoSweep : Reply → Type 0
 TellsNoSweep (Block base top) = Unit {0}
+TellsNoSweep (BlockAfter base top cleared) = ⊥
 TellsNoSweep NoSpace = Unit {0}
+TellsNoSweep (NoSpaceAfter cleared) = ⊥
 TellsNoSweep (Held bytes) = Unit {0}
 TellsNoSweep Done = Unit {0}
 TellsNoSweep Cleared = Unit {0}
@@ -104,10 +112,23 @@ TellsNoSweep (Swept cleared released) = ⊥
 TellsNoSweep (Shown shown) = Unit {0}
 TellsNoSweep (Trap trap) = Unit {0}
 
+-- A malloc that swept leaves each tagged word in use; what else it may be answered tells of no sweep.
+abbrev pub LeavesBlocksInUse : Reply → State → Type 0
+LeavesBlocksInUse (Block base top) s = Unit {0}
+LeavesBlocksInUse (BlockAfter base top cleared) s = AreInUse s
+LeavesBlocksInUse NoSpace s = Unit {0}
+LeavesBlocksInUse (NoSpaceAfter cleared) s = AreInUse s
+LeavesBlocksInUse (Held bytes) s = ⊥
+LeavesBlocksInUse Done s = ⊥
+LeavesBlocksInUse Cleared s = ⊥
+LeavesBlocksInUse (Swept cleared released) s = ⊥
+LeavesBlocksInUse (Shown shown) s = ⊥
+LeavesBlocksInUse (Trap trap) s = ⊥
+
 -- After a sweep no tagged word is left that points into a block that was given up: each is in use. No other
 -- command tells of a sweep.
 abbrev pub LeavesInUse : Command → Reply → State → Type 0
-LeavesInUse (Malloc rd size) r s = TellsNoSweep r
+LeavesInUse (Malloc rd size) r s = LeavesBlocksInUse r s
 LeavesInUse (Free rs) r s = TellsNoSweep r
 LeavesInUse (Copy rd rs) r s = TellsNoSweep r
 LeavesInUse (SetAddr rd rs address) r s = TellsNoSweep r

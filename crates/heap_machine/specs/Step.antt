@@ -1,7 +1,7 @@
 -- What each command answers, and what state it leaves: the table of the commands (this project's own
 -- profile). First come the checks of a command in their order; the first that fails is the trap, and a trap
 -- changes nothing. Where none fails, the effect is the command's.
-use Rattle.std.specs.Prelude.{◌≡◌, ℕ, ◌+◌, ◌-◌, ◌/◌, ◌%◌, Bool, true, false, not, ◌||◌, slice_index_or, slice_set, List, [], ◌∷◌, Option, Some, None, ◌&&◌, ◌==◌, nat_le, if◌then◌else◌}
+use Rattle.std.specs.Prelude.{◌≡◌, ◌⊎◌, ℕ, ◌+◌, ◌-◌, ◌/◌, ◌%◌, Bool, true, false, not, ◌||◌, slice_index_or, slice_set, List, [], ◌∷◌, Option, Some, None, ◌&&◌, ◌==◌, nat_le, if◌then◌else◌}
 use Rattle.cap_codec.specs.declared.word.Word.{Word}
 use Rattle.cap_codec.specs.Bytes.{bits_of_bytes}
 use Rattle.cap_codec.specs.Words.{address_in, allows, bounds_in, capability_of, is_exact, keeps_bounds, lie_within, load, load_capability, narrowed, store, store_capability, with_address, with_perms}
@@ -13,7 +13,7 @@ use Rattle.tag_memory.specs.Cells.{Cell, Granule, null_cell}
 use Rattle.trace_text.specs.declared.trace.Command.{Command}
 use Rattle.trace_text.specs.declared.trace.Command.TheVariants.{Malloc, Free, Copy, SetAddr, Narrow, AndPerm, StoreCap, LoadCap, Write, Show, Sweep}
 use Rattle.heap_reply.specs.declared.reply.Reply.{Reply}
-use Rattle.heap_reply.specs.declared.reply.Reply.TheVariants.{Block, NoSpace, Held, Done, Cleared, Swept}
+use Rattle.heap_reply.specs.declared.reply.Reply.TheVariants.{Block, BlockAfter, NoSpace, NoSpaceAfter, Held, Done, Cleared, Swept}
 use Rattle.heap_reply.specs.declared.reply.Reply.TheVariants as reply
 use Rattle.heap_reply.specs.declared.reply.Trap.{Trap}
 use Rattle.heap_reply.specs.declared.reply.Trap.TheVariants as trap
@@ -57,6 +57,33 @@ swept s = record s {
   registers = swept_cells s.heap.held s.registers;
 }
 
+-- How many tags a sweep takes.
+abbrev pub taken : State → ℕ
+taken s = tags_taken s.heap.held s.cells s.registers
+
+-- ---- handing out
+
+-- No block of this size has a place.
+abbrev pub HasNoPlace : State → ℕ → Type 0
+HasNoPlace s size = (a : ℕ) → IsFree s.heap size a → ⊥
+
+-- A block of this size becomes live at its least place, from base to top, and the register has its capability.
+pub record HandsOut (old : State) (rd size base top : ℕ) (new : State) : Type 0 where
+  pub place : IsPlace old.heap size base
+  pub end : top ≡ base + block_length size
+  pub state : new ≡ record (with_cell old rd (capability_of base top, true)) { heap = with_live old.heap size base }
+
+-- No block of this size has a place, and the register is null.
+pub record HandsOutNone (old : State) (rd size : ℕ) (new : State) : Type 0 where
+  pub none : HasNoPlace old size
+  pub state : new ≡ with_cell old rd null_cell
+
+-- A malloc of this size sweeps first, and takes so many tags: it has no place, and some block is held.
+pub record SweepsFirst (old : State) (size cleared : ℕ) : Type 0 where
+  pub none : HasNoPlace old size
+  pub held : old.heap.held ≡ [] → ⊥
+  pub cleared_is : cleared ≡ taken old
+
 -- ---- steps
 
 -- The checks of a command in order, each with the trap where it fails.
@@ -93,10 +120,10 @@ first_failed (c ∷ cs) = if c.0 then first_failed cs else Some c.1
 
 -- What a command does where no check fails.
 abbrev pub Effect : State → Command → Reply → State → Type 0
-Effect old (Malloc rd size) (Block base top) new =
-    IsPlace old.heap size base × (top ≡ base + block_length size)
-    × (new ≡ record (with_cell old rd (capability_of base top, true)) { heap = with_live old.heap size base })
-Effect old (Malloc rd size) NoSpace new = ((a : ℕ) → IsFree old.heap size a → ⊥) × (new ≡ with_cell old rd null_cell)
+Effect old (Malloc rd size) (Block base top) new = HandsOut old rd size base top new
+Effect old (Malloc rd size) (BlockAfter base top cleared) new = SweepsFirst old size cleared × HandsOut (swept old) rd size base top new
+Effect old (Malloc rd size) NoSpace new = (old.heap.held ≡ []) × HandsOutNone old rd size new
+Effect old (Malloc rd size) (NoSpaceAfter cleared) new = SweepsFirst old size cleared × HandsOutNone (swept old) rd size new
 Effect old (Malloc rd size) (Held bytes) new = ⊥
 Effect old (Malloc rd size) Done new = ⊥
 Effect old (Malloc rd size) Cleared new = ⊥
@@ -127,7 +154,7 @@ Effect old (LoadCap rd ra) answer new =
 Effect old (Write ra bytes) answer new = (answer ≡ Done) × (new ≡ with_granule old (register old ra).0 (bits_of_bytes bytes, false))
 Effect old (Show rs) answer new = (answer ≡ reply.Shown (shown_of (register old rs))) × (new ≡ old)
 Effect old Sweep answer new =
-    (answer ≡ Swept (tags_taken old.heap.held old.cells old.registers) (bytes_in old.heap.held)) × (new ≡ swept old)
+    (answer ≡ Swept (taken old) (bytes_in old.heap.held)) × (new ≡ swept old)
 
 -- The step where a check fails, and where none does.
 abbrev pub StepAfter : Option Trap → State → Command → Reply → State → Type 0
@@ -138,16 +165,16 @@ StepAfter (Some trap) old command answer new = (answer ≡ reply.Trap trap) × (
 abbrev pub Step : State → Command → Reply → State → Type 0
 Step old command answer new = StepAfter (first_failed (checks old command)) old command answer new
 
--- The commands that need no memory.
-abbrev pub TakesNoMemory : Command → Type 0
-TakesNoMemory (Malloc rd size) = ⊥
-TakesNoMemory (Free rs) = Unit {0}
-TakesNoMemory (Copy rd rs) = Unit {0}
-TakesNoMemory (SetAddr rd rs address) = Unit {0}
-TakesNoMemory (Narrow rd rs length) = Unit {0}
-TakesNoMemory (AndPerm rd rs mask) = Unit {0}
-TakesNoMemory (StoreCap ra rs) = Unit {0}
-TakesNoMemory (LoadCap rd ra) = Unit {0}
-TakesNoMemory (Write ra bytes) = Unit {0}
-TakesNoMemory (Show rs) = Unit {0}
-TakesNoMemory Sweep = ⊥
+-- The command needs no memory: it sweeps nothing, since no block is held, or since the block that it asks for has a place.
+abbrev pub TakesNoMemory : State → Command → Type 0
+TakesNoMemory s (Malloc rd size) = ((a : ℕ) × IsFree s.heap size a) ⊎ (s.heap.held ≡ [])
+TakesNoMemory s (Free rs) = Unit {0}
+TakesNoMemory s (Copy rd rs) = Unit {0}
+TakesNoMemory s (SetAddr rd rs address) = Unit {0}
+TakesNoMemory s (Narrow rd rs length) = Unit {0}
+TakesNoMemory s (AndPerm rd rs mask) = Unit {0}
+TakesNoMemory s (StoreCap ra rs) = Unit {0}
+TakesNoMemory s (LoadCap rd ra) = Unit {0}
+TakesNoMemory s (Write ra bytes) = Unit {0}
+TakesNoMemory s (Show rs) = Unit {0}
+TakesNoMemory s Sweep = s.heap.held ≡ []

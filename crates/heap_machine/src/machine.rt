@@ -82,7 +82,7 @@ impl Machine {
         ensures step { IfOk result (λ reply. Step self.old command reply self.new) }
         ensures err { OnErr result (self.new ≡ self.old) }
         ensures memory { IfErr result (λ fault. fault ≡ MachineFault.Memory) }
-        ensures ok { TakesNoMemory command → IsOk result }
+        ensures ok { TakesNoMemory self.old command → IsOk result }
         ensures safe { IsSafe self.new }
         ensures unused { IfOk result (λ reply. IsUnused self.old command reply) }
         ensures revoked { IfOk result (λ reply. LeavesInUse command reply self.new) }

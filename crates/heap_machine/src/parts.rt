@@ -7,12 +7,13 @@ ghost use Rattle.heap_machine.specs.Parts.{AreParts, state_of};
 ghost use Rattle.heap_machine.specs.Safety.{FitsTypes};
 ghost use Rattle.heap_machine.specs.Step.{Step, TakesNoMemory, access, first_failed, index_in};
 
+mod allocation;
 mod revocation;
 
 use crate::fault::MachineFault;
 use cap_codec::{
-    LOAD, LOAD_CAPABILITY, STORE, STORE_CAPABILITY, Word, and_perms, block_capability, bounds,
-    fields, from_bytes, is_allowed, representable, set_address, with_bounds,
+    LOAD, LOAD_CAPABILITY, STORE, STORE_CAPABILITY, Word, and_perms, bounds, fields, from_bytes,
+    is_allowed, representable, set_address, with_bounds,
 };
 use heap_core::Heap;
 use heap_reply::{Reply, Shown, Trap};
@@ -47,12 +48,12 @@ impl Parts {
         ensures base { self.new.memory.base ≡ self.new.heap.base }
         ensures err { OnErr result (self.new ≡ self.old) }
         ensures memory { IfErr result (λ fault. fault ≡ MachineFault.Memory) }
-        ensures ok { TakesNoMemory command → IsOk result }
+        ensures ok { TakesNoMemory (state_of self.old) command → IsOk result }
         // What the command's type says of its numbers, for the law `steps`.
         ensures fits { FitsTypes command }
     {
         match command {
-            Command::Malloc { rd, size } => self.malloc(rd, size),
+            Command::Malloc { rd, size } => self.malloc(rt, alloc, rd, size, gate),
             Command::Free { rs } => self.free(rs),
             Command::Copy { rd, rs } => Ok(self.copy(rd, rs)),
             Command::SetAddr { rd, rs, address } => Ok(self.set_address(rd, rs, address)),
@@ -64,29 +65,6 @@ impl Parts {
             Command::Show { rs } => Ok(self.show(rs)),
             Command::Sweep => self.sweep(rt, alloc, gate),
         }
-    }
-
-    fn malloc(&mut self, rd: u8, size: u64) -> Result<Reply, MachineFault>
-        requires parts { AreParts self.old }
-        requires valid { IsValid (Command.Malloc rd size) }
-        ensures step { IfOk result (λ reply. Step (state_of self.old) (Command.Malloc rd size) reply (state_of self.new)) }
-        ensures base { self.new.memory.base ≡ self.new.heap.base }
-        ensures err { OnErr result (self.new ≡ self.old) }
-        ensures memory { IfErr result (λ fault. fault ≡ MachineFault.Memory) }
-    {
-        let Ok(found) = self.heap.reserve(size) else {
-            return Err(MachineFault::Memory);
-        };
-        let Some(block) = found else {
-            self.registers.set(rd, Word::NULL, false);
-            return Ok(Reply::NoSpace);
-        };
-        self.registers
-            .set(rd, block_capability(block.base, block.top), true);
-        Ok(Reply::Block {
-            base: block.base,
-            top: block.top,
-        })
     }
 
     fn copy(&mut self, rd: u8, rs: u8) -> Reply

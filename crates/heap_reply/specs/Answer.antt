@@ -2,7 +2,7 @@
 use Rattle.std.specs.Prelude.{ℕ, List, [], ◌∷◌, codes}
 use Rattle.std.specs.Fmt.{decimal}
 use Rattle.heap_reply.specs.declared.reply.Reply.{Reply}
-use Rattle.heap_reply.specs.declared.reply.Reply.TheVariants.{Block, NoSpace, Held, Done, Cleared, Swept}
+use Rattle.heap_reply.specs.declared.reply.Reply.TheVariants.{Block, BlockAfter, NoSpace, NoSpaceAfter, Held, Done, Cleared, Swept}
 use Rattle.heap_reply.specs.declared.reply.Reply.TheVariants as reply
 use Rattle.heap_reply.specs.declared.reply.Shown.{Shown as ShownCell}
 use Rattle.heap_reply.specs.declared.reply.Trap.{Trap}
@@ -26,10 +26,16 @@ shown_text s =
     ∷ codes " type " ∷ hexadecimal_text s.otype ∷ codes " exponent " ∷ decimal s.exponent ∷ []
     )
 
+abbrev pub block_text : ℕ → ℕ → List ℕ
+block_text base top = joined (codes "block " ∷ hexadecimal_text base ∷ codes " " ∷ hexadecimal_text top ∷ [])
+
 -- What a command is answered.
 abbrev pub answer_text : Reply → List ℕ
-answer_text (Block base top) = joined (codes "block " ∷ hexadecimal_text base ∷ codes " " ∷ hexadecimal_text top ∷ [])
+answer_text (Block base top) = block_text base top
+answer_text (BlockAfter base top cleared) =
+    joined (codes "block " ∷ hexadecimal_text base ∷ codes " " ∷ hexadecimal_text top ∷ codes " swept " ∷ decimal cleared ∷ [])
 answer_text NoSpace = codes "nospace"
+answer_text (NoSpaceAfter cleared) = joined (codes "nospace swept " ∷ decimal cleared ∷ [])
 answer_text (Held bytes) = joined (codes "held " ∷ decimal bytes ∷ [])
 answer_text Done = codes "ok"
 answer_text Cleared = codes "cleared"

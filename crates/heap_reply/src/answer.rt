@@ -55,7 +55,12 @@ impl fmt::Display for Reply {
                 let top = Hexadecimal(top);
                 write!(f, "block 0x{base:x} {top}")
             }
+            Reply::BlockAfter { base, top, cleared } => {
+                let top = Hexadecimal(top);
+                write!(f, "block 0x{base:x} {top} swept {cleared}")
+            }
             Reply::NoSpace => write!(f, "nospace"),
+            Reply::NoSpaceAfter { cleared } => write!(f, "nospace swept {cleared}"),
             Reply::Held(bytes) => write!(f, "held {bytes}"),
             Reply::Done => write!(f, "ok"),
             Reply::Cleared => write!(f, "cleared"),

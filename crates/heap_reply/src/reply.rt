@@ -62,8 +62,12 @@ impl Shown {
 pub enum Reply {
     /// A block was handed out.
     Block { base: u64, top: u128 },
+    /// A block was handed out after a sweep, which took so many tags.
+    BlockAfter { base: u64, top: u128, cleared: u32 },
     /// No place fits.
     NoSpace,
+    /// No place fits even after a sweep, which took so many tags.
+    NoSpaceAfter { cleared: u32 },
     /// So many bytes wait in quarantine.
     Held(u64),
     /// It is done.

@@ -13,6 +13,11 @@ fn replies_by_their_texts(rt: HostRuntime) {
         base: 0xffff_ffff_ffff_f000,
         top: 1 << 64,
     };
+    let after = Reply::BlockAfter {
+        base: 0x4000_0000,
+        top: 0x4000_0020,
+        cleared: 1,
+    };
     let swept = Reply::Swept {
         cleared: 3,
         released: 32,
@@ -20,7 +25,9 @@ fn replies_by_their_texts(rt: HostRuntime) {
     let texts = [
         (block, "block 0x40000000 0x40000020"),
         (last, "block 0xfffffffffffff000 0x10000000000000000"),
+        (after, "block 0x40000000 0x40000020 swept 1"),
         (Reply::NoSpace, "nospace"),
+        (Reply::NoSpaceAfter { cleared: 2 }, "nospace swept 2"),
         (Reply::Held(32), "held 32"),
         (Reply::Done, "ok"),
         (Reply::Cleared, "cleared"),

@@ -8,7 +8,7 @@ use Rattle.trace_text.specs.declared.trace.Command.{Command}
 use Rattle.trace_text.specs.declared.trace.Command.TheVariants.{Malloc, Free, Copy, SetAddr, Narrow, AndPerm, StoreCap, LoadCap, Write, Show, Sweep}
 use Rattle.heap_reply.specs.declared.reply.Reply.{Reply}
 use Rattle.heap_machine.specs.State.{State, tags_of}
-pub use Rattle.heap_reply.specs.Answer.{answer_text, shown_text, trap_name}
+pub use Rattle.heap_reply.specs.Answer.{answer_text, block_text, shown_text, trap_name}
 
 -- The first word of a command.
 abbrev pub name_of : Command → List ℕ

@@ -2,7 +2,7 @@
 
 ghost use Rattle.std.specs.Prelude.{◌≡◌, ◌≤◌, ◌+◌, ◌++◌, [], IfOk, OnErr, OnOk, length};
 ghost use Rattle.heap_machine.specs.State.{tags_of};
-ghost use Rattle.heap_trace.specs.Report.{answer_text, end_text, line_text, name_of, shown_text};
+ghost use Rattle.heap_trace.specs.Report.{answer_text, block_text, end_text, line_text, name_of, shown_text};
 
 use crate::line::Line;
 use heap_machine::{Machine, Reply, Shown, bit};
@@ -48,6 +48,19 @@ fn put_shown(line: &mut Line, shown: Shown)
     line.put_text(b"tag ");
 }
 
+// Puts a block's bounds before what stands in the line.
+#[inline(always)]
+fn put_block(line: &mut Line, base: u64, top: u128)
+    requires room { 60 + length line.old ≤ 256 }
+    ensures text { line.new ≡ block_text base top ++ line.old }
+    ensures length { length line.new ≤ 60 + length line.old }
+{
+    line.put_wide_hexadecimal(top);
+    line.put_text(b" ");
+    line.put_hexadecimal(base);
+    line.put_text(b"block ");
+}
+
 // The same of an answer.
 #[inline(always)]
 fn put_reply(line: &mut Line, reply: Reply)
@@ -56,13 +69,17 @@ fn put_reply(line: &mut Line, reply: Reply)
     ensures length { length line.new ≤ 200 + length line.old }
 {
     match reply {
-        Reply::Block { base, top } => {
-            line.put_wide_hexadecimal(top);
-            line.put_text(b" ");
-            line.put_hexadecimal(base);
-            line.put_text(b"block ");
+        Reply::Block { base, top } => put_block(line, base, top),
+        Reply::BlockAfter { base, top, cleared } => {
+            line.put_decimal(u64::from(cleared));
+            line.put_text(b" swept ");
+            put_block(line, base, top);
         }
         Reply::NoSpace => line.put_text(b"nospace"),
+        Reply::NoSpaceAfter { cleared } => {
+            line.put_decimal(u64::from(cleared));
+            line.put_text(b"nospace swept ");
+        }
         Reply::Held(bytes) => {
             line.put_decimal(bytes);
             line.put_text(b"held ");

@@ -1,11 +1,13 @@
 //! Blocks that are given up, and wait until their bytes may be used again.
 
-ghost use Rattle.std.specs.Prelude.{◌≡◌, IfErr, IfOk, IsOk, true};
+ghost use Rattle.std.specs.Prelude.{◌≡◌, ◌↔◌, ◌+◌, ℕ, IfErr, IfOk, IfSome, IsOk, None, true};
+ghost use Rattle.cap_codec.specs.Rounding.{IsExact};
 ghost use Rattle.heap_core.specs.Blocks.{bytes_in};
 ghost use Rattle.heap_core.specs.Heap.{IsSound};
+ghost use Rattle.heap_core.specs.Place.{IsFree, IsPlace, block_length, with_live};
 ghost use Rattle.heap_core.specs.Quarantine.{IsShadow, freed_of, with_held, without_held};
 
-use crate::block::Freed;
+use crate::block::{Block, Freed};
 use crate::fault::HeapFault;
 use crate::heap::Heap;
 use crate::shadow::Shadow;
@@ -70,5 +72,26 @@ impl Heap {
         self.table.drop_held();
         self.held_granules = 0;
         bytes
+    }
+
+    /// Makes the held blocks free, and then a block of `size` bytes live, at the least place for it. It
+    /// answers the block, or `None` where it has no place, and the bytes given back. It never errs.
+    pub fn give_back_and_reserve(&mut self, size: u64) -> Result<(Option<Block>, u64), HeapFault>
+        // As `reserve`, it needs no memory.
+        ensures ok { IsOk result }
+        ensures bytes { IfOk result (λ done. done.1 ≡ bytes_in self.old.held) }
+
+        ensures none { IfOk result (λ done. (done.0 ≡ None) ↔ ((a : ℕ) → ¬ IsFree (without_held self.old) size a)) }
+        ensures free { IfOk result (λ done. done.0 ≡ None → self.new ≡ without_held self.old) }
+
+        ensures place { IfOk result (λ done. IfSome done.0 (λ block. IsPlace (without_held self.old) size block.base)) }
+        ensures top { IfOk result (λ done. IfSome done.0 (λ block. block.top ≡ block.base + block_length size)) }
+        ensures exact { IfOk result (λ done. IfSome done.0 (λ block. IsExact block.base block.top)) }
+        ensures live { IfOk result (λ done. IfSome done.0 (λ block. self.new ≡ with_live (without_held self.old) size block.base)) }
+        ensures sound { IsSound self.new }
+    {
+        let bytes = self.give_back();
+        let found = self.reserve(size)?;
+        Ok((found, bytes))
     }
 }

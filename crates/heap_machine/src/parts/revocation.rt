@@ -1,9 +1,11 @@
 //! Freeing and sweeping: blocks in quarantine, and the tags of the words that point there.
 
-ghost use Rattle.std.specs.Prelude.{◌≡◌, ◌<◌, ◌≤◌, ◌*◌, ◌^◌, ℕ, IfErr, IfOk, IsOk, OnErr, count_ones, length, slice_index, sum_by};
+ghost use Rattle.std.specs.Prelude.{◌≡◌, ◌<◌, ◌≤◌, ◌*◌, ◌^◌, ℕ, [], IfErr, IfOk, IsOk, List, OnErr, count_ones, length, slice_index, sum_by};
+ghost use Rattle.heap_core.specs.Blocks.{Span};
 ghost use Rattle.trace_text.specs.Command.{IsValid};
 ghost use Rattle.heap_machine.specs.Parts.{AreParts, state_of};
-ghost use Rattle.heap_machine.specs.Step.{Step};
+ghost use Rattle.heap_machine.specs.Revoked.{AreRevoked, AreTaken};
+ghost use Rattle.heap_machine.specs.Step.{Step, TakesNoMemory};
 
 use crate::fault::MachineFault;
 use crate::parts::Parts;
@@ -13,6 +15,7 @@ use heap_reply::{Reply, Trap};
 use std::alloc::Global;
 use std::thread::Threads;
 use sweep_pool::{Cutting, Gate, Open, paint_shadow, sweep_masks, swept_registers};
+use tag_memory::{Memory, Registers};
 use trace_text::Command;
 
 // To decode the words of so many granules takes longer than a worker more costs: the start of its thread,
@@ -33,6 +36,7 @@ fn cutting_for(cutting: Cutting, tagged: usize) -> Cutting
 fn ones_in(masks: &[u64]) -> u32
     requires { 64 * length masks.now < 2 ^ 32 }
     ensures count { result ≡ sum_by count_ones masks.now }
+    ensures most { result ≤ 64 * length masks.now }
     ensures words { (w : ℕ) → slice_index masks.now w < 2 ^ 64 }
 {
     let mut count = 0;
@@ -40,6 +44,30 @@ fn ones_in(masks: &[u64]) -> u32
         count += mask.count_ones();
     }
     count
+}
+
+/// The tags that a sweep takes.
+#[derive(Drop)]
+pub struct RevokedTags {
+    // A bit for each granule.
+    masks: Vec<u64>,
+    // A bit for each register.
+    registers: u32,
+}
+
+impl RevokedTags {
+    /// Takes them, and tells how many they are.
+    pub fn take(&self, memory: &mut Memory, registers: &mut Registers) -> u32
+        requires masks { 64 * length self.now.masks.items ≡ length memory.old.cells }
+        requires few { length memory.old.cells < 2 ^ 31 }
+        ensures taken { (held : List Span) → AreRevoked held memory.old registers.old self.now
+            → AreTaken held memory.old registers.old memory.new registers.new result }
+        ensures base { memory.new.base ≡ memory.old.base }
+    {
+        memory.clear_tags(&self.masks);
+        registers.clear_tags(self.registers);
+        ones_in(&self.masks) + self.registers.count_ones()
+    }
 }
 
 impl Parts {
@@ -69,7 +97,7 @@ impl Parts {
     }
 
     // Every tagged word whose base lies in a held block loses its tag; then the held blocks are free.
-    // Where none is held there is nothing to look for.
+    // Where none is held there is nothing to look for. Whatever takes memory comes first.
     pub(super) fn sweep<R: Threads + Sync, G: Gate + Sync>(
         &mut self,
         rt: &R,
@@ -81,6 +109,7 @@ impl Parts {
         ensures base { self.new.memory.base ≡ self.new.heap.base }
         ensures err { OnErr result (self.new ≡ self.old) }
         ensures memory { IfErr result (λ fault. fault ≡ MachineFault.Memory) }
+        ensures ok { TakesNoMemory (state_of self.old) Command.Sweep → IsOk result }
     {
         if self.heap.held_bytes() == 0 {
             return Ok(Reply::Swept {
@@ -88,26 +117,29 @@ impl Parts {
                 released: 0,
             });
         }
-        self.pass_over(rt, alloc, gate)
-    }
-
-    // A pass over all memory and registers. Whatever takes memory comes first. One worker paints the shadow:
-    // it copies the row of held granules, which takes less than the start of a thread.
-    fn pass_over<R: Threads + Sync, G: Gate + Sync>(
-        &mut self,
-        rt: &R,
-        alloc: Global,
-        gate: &G,
-    ) -> Result<Reply, MachineFault>
-        requires { AreParts self.old }
-        ensures step { IfOk result (λ reply. Step (state_of self.old) Command.Sweep reply (state_of self.new)) }
-        ensures base { self.new.memory.base ≡ self.new.heap.base }
-        ensures err { OnErr result (self.new ≡ self.old) }
-        ensures memory { IfErr result (λ fault. fault ≡ MachineFault.Memory) }
-    {
         let Ok(()) = self.heap.prepare() else {
             return Err(MachineFault::Memory);
         };
+        let revoked = self.revoked_tags(rt, alloc, gate)?;
+        let cleared = revoked.take(&mut self.memory, &mut self.registers);
+        let released = self.heap.give_back();
+        Ok(Reply::Swept { cleared, released })
+    }
+
+    // The tags that a sweep takes now. One worker paints the shadow: it copies the row of held granules,
+    // which takes less than the start of a thread.
+    pub(super) fn revoked_tags<R: Threads + Sync, G: Gate + Sync>(
+        &self,
+        rt: &R,
+        alloc: Global,
+        gate: &G,
+    ) -> Result<RevokedTags, MachineFault>
+        requires { AreParts self.now }
+        ensures memory { IfErr result (λ fault. fault ≡ MachineFault.Memory) }
+        ensures revoked { IfOk result (λ tags. AreRevoked self.now.heap.held self.now.memory self.now.registers tags) }
+        ensures masks { IfOk result (λ tags. 64 * length tags.masks.items ≡ length self.now.memory.cells) }
+        ensures few { length self.now.memory.cells < 2 ^ 31 }
+    {
         let painters = cutting_for(self.cutting, 0);
         let Ok(shadow) = paint_shadow(rt, alloc, &self.heap, &painters, &Open) else {
             return Err(MachineFault::Memory);
@@ -116,13 +148,7 @@ impl Parts {
         let Ok(masks) = sweep_masks(rt, alloc, &self.memory, &shadow, &cutting, gate) else {
             return Err(MachineFault::Memory);
         };
-        let mask = swept_registers(&self.registers, &shadow, self.memory.base());
-        self.memory.clear_tags(&masks);
-        self.registers.clear_tags(mask);
-        let released = self.heap.give_back();
-        Ok(Reply::Swept {
-            cleared: ones_in(&masks) + mask.count_ones(),
-            released,
-        })
+        let registers = swept_registers(&self.registers, &shadow, self.memory.base());
+        Ok(RevokedTags { masks, registers })
     }
 }

@@ -1,3 +1,8 @@
+use Rattle.std.proofs.Common.{refl}
+use Rattle.heap_core.specs.Blocks.{bytes_in}
+use Rattle.trace_text.specs.declared.trace.Command.TheVariants.{Sweep}
+use Rattle.heap_reply.specs.declared.reply.Reply.TheVariants.{Swept}
+use Rattle.heap_machine.specs.Step.{swept, taken}
 use Rattle.heap_machine.proofs.OneStep.{Step-only, Step-some}
 use Rattle.heap_machine.proofs.RevokedLaws.{Step-revoked}
 use Rattle.heap_machine.proofs.SafeSteps.{Laws, Step-safe}
@@ -32,7 +37,10 @@ returns-clause-safe c =
     λ old command reply new safe fits step. Step-safe laws old command reply new safe fits step
 
 pub returns-clause-unused : goal.returns-clause-unused
-returns-clause-unused c = λ old command reply new safe step. Step-unused old command reply new safe step
+returns-clause-unused c =
+    λ old command reply new safe step.
+    let after = returns-clause-safe c old Sweep (Swept (taken old) (bytes_in old.heap.held)) (swept old) safe tt (refl, refl) in
+    Step-unused old command reply new safe after step
 
 pub returns-clause-revoked : goal.returns-clause-revoked
 returns-clause-revoked c = λ old command reply new safe fits step. Step-revoked old command reply new (returns-clause-safe c old command reply new safe fits step) step

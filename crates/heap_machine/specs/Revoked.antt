@@ -1,0 +1,21 @@
+-- The tags that a sweep takes, as masks of bits, and what is left once they are taken.
+use Rattle.std.specs.Prelude.{◌≡◌, ◌<◌, ℕ, List, length, slice_index_or}
+use Rattle.heap_core.specs.Blocks.{Span}
+use Rattle.sweep_pool.specs.Sweep.{TakeTags, swept_cells, swept_granules, tags_taken, takes_tag}
+use Rattle.tag_memory.specs.Cells.{Cell, MemoryState, null_cell, register_at, register_count}
+use Rattle.tag_memory.specs.Tags.{is_set}
+use Rattle.heap_machine.specs.declared.parts.revocation.RevokedTags.{RevokedTags}
+
+-- With these blocks held, they are the tags of a memory and of 32 registers that a sweep takes.
+pub record AreRevoked (held : List Span) (memory : MemoryState) (registers : List Cell) (tags : RevokedTags) : Type 0 where
+  pub granules : TakeTags memory held tags.masks.items
+  pub bits : (r : ℕ) → r < register_count → is_set tags.registers r ≡ takes_tag held (register_at registers r)
+  pub count : length registers ≡ register_count
+  pub zero : slice_index_or registers 0 null_cell ≡ null_cell
+
+-- They are taken, and so many they were.
+pub record AreTaken (held : List Span) (memory : MemoryState) (registers : List Cell) (new : MemoryState) (left : List Cell) (cleared : ℕ) : Type 0 where
+  pub base : new.base ≡ memory.base
+  pub cells : new.cells ≡ swept_granules held memory.cells
+  pub registers_are : left ≡ swept_cells held registers
+  pub cleared_is : cleared ≡ tags_taken held memory.cells registers
