@@ -214,6 +214,32 @@ fn extents_are_joined(rt: HostRuntime) {
     blocks_lie(&rt, &mut heap, &[(4080, Some((0x4000_0000, 0x4000_0ff0)))]);
 }
 
+// The page is full, and its second half is held.
+#[test]
+fn a_block_gets_the_bytes_given_back(rt: HostRuntime) {
+    let halves = [
+        (2048, Some((0x4000_0000, 0x4000_0800))),
+        (2048, Some((0x4000_0800, 0x4000_1000))),
+    ];
+    for (size, place) in [
+        (16, Some((0x4000_0800, 0x4000_0810))),
+        (2048, Some((0x4000_0800, 0x4000_1000))),
+        (2049, None),
+        (u64::MAX, None),
+    ] {
+        let mut heap = Heap::new(rt.alloc(), BASE, 1).expect(&rt, "a heap");
+        blocks_lie(&rt, &mut heap, &halves);
+        assert_eq!(rt; heap.release(0x4000_0800, 0x4000_1000), Ok(Freed::Held));
+        let block = place.map(|(base, top)| Block { base, top });
+        assert_eq!(rt;
+            heap.give_back_and_reserve(size),
+            Ok((block, 2048)),
+            "at size {size}"
+        );
+        assert_eq!(rt; heap.held_bytes(), 0);
+    }
+}
+
 // A heap whose blocks are held but the second; that of granules 42 to 105 is the second of those held.
 fn held_heap(rt: &impl Abort, alloc: Global) -> Heap {
     let mut heap = Heap::new(alloc, BASE, 1).expect(rt, "a heap");

@@ -8,6 +8,7 @@ ghost use Rattle.heap_machine.specs.Safety.{FitsTypes};
 ghost use Rattle.heap_machine.specs.Step.{Step, TakesNoMemory, access, first_failed, index_in};
 
 mod allocation;
+mod retry;
 mod revocation;
 
 use crate::fault::MachineFault;

@@ -1,5 +1,5 @@
 -- What is answered for a text, by the grammar.
-use Rattle.std.proofs.Common.{◌≡◌, ◌≢◌, ℕ, List, sym, subst}
+use Rattle.std.proofs.Common.{◌≡◌, ◌≢◌, ℕ, List, subst}
 use Rattle.std.specs.Prelude.{◌↔◌, Result, Ok, Err, IfOk}
 use Rattle.trace_text.specs.declared.fault.TraceFault.{TraceFault}
 use Rattle.trace_text.specs.declared.fault.TraceFault.TheVariants as trace_fault
@@ -7,7 +7,7 @@ use Rattle.trace_text.specs.Grammar.{IsFaulty, IsTrace}
 use Rattle.trace_text.specs.Reading.{Script, trace_of}
 use Rattle.heap_trace.specs.declared.running.Outcome.{Outcome}
 use Rattle.heap_trace.specs.declared.running.RunFault.{RunFault}
-use Rattle.heap_trace.specs.declared.running.RunFault.TheVariants.{Memory, Trace}
+use Rattle.heap_trace.specs.declared.running.RunFault.TheVariants.{Trace}
 use Rattle.heap_trace.specs.Outcome.{Answers, IsOutcome}
 
 pub IsTrace-answered : ((text : List ℕ) (script : Script) → (trace_of text ≡ Ok script) ↔ IsTrace text script) → (text : List ℕ) (result : Result Outcome RunFault)

@@ -168,4 +168,46 @@ end live 16416 held 0 free 49120 tags 3
     ],
 };
 
-pub const ROWS: [Row; 5] = [WRAPPED, REUSED, KEPT, NARROWED, PLACED];
+/// A malloc without a place sweeps first, where some block is held.
+const FULL: Row = Row {
+    text: "heap 0x40000000 1\nmalloc c1 4096\nfree c1\nmalloc c2 32\nmalloc c3 8192\ncopy c4 c2\nfree c2\nmalloc c2 8192\nshow c4\n",
+    report: "2 malloc block 0x40000000 0x40001000
+3 free held 4096
+4 malloc block 0x40000000 0x40000020 swept 1
+5 malloc nospace
+6 copy ok
+7 free held 32
+8 malloc nospace swept 2
+9 show tag 0 address 0x40000000 base 0x40000000 top 0x40000020 perms 0x3d type 0x3ffff exponent 0
+end live 0 held 0 free 4096 tags 0
+",
+    image: "",
+    tagged: 0,
+    replies: &[
+        Reply::Block {
+            base: 0x4000_0000,
+            top: 0x4000_1000,
+        },
+        Reply::Held(4096),
+        Reply::BlockAfter {
+            base: 0x4000_0000,
+            top: 0x4000_0020,
+            cleared: 1,
+        },
+        Reply::NoSpace,
+        Reply::Done,
+        Reply::Held(32),
+        Reply::NoSpaceAfter { cleared: 2 },
+        Reply::Shown(Shown {
+            tag: false,
+            address: 0x4000_0000,
+            base: 0x4000_0000,
+            top: 0x4000_0020,
+            perms: 0x3d,
+            otype: 0x3ffff,
+            exponent: 0,
+        }),
+    ],
+};
+
+pub const ROWS: [Row; 6] = [WRAPPED, REUSED, KEPT, NARROWED, PLACED, FULL];

@@ -133,9 +133,31 @@ const SWEPT_REPORT: &str = "2 malloc block 0x40000000 0x40000020
 end live 64 held 0 free 28608 tags 2
 ";
 
-// The image is empty.
-#[test]
-fn each_cutting_gives_one_answer(rt: HostRuntime) {
+// A malloc without a place, which sweeps.
+const FULL: &str = "heap 0x40000000 1
+malloc c1 4096
+free c1
+malloc c2 32
+malloc c3 8192
+copy c4 c2
+free c2
+malloc c2 8192
+show c4
+";
+
+const FULL_REPORT: &str = "2 malloc block 0x40000000 0x40001000
+3 free held 4096
+4 malloc block 0x40000000 0x40000020 swept 1
+5 malloc nospace
+6 copy ok
+7 free held 32
+8 malloc nospace swept 2
+9 show tag 0 address 0x40000000 base 0x40000000 top 0x40000020 perms 0x3d type 0x3ffff exponent 0
+end live 0 held 0 free 4096 tags 0
+";
+
+// The trace gives the report with each cutting, and no line of an image.
+fn each_cutting_answers(rt: &impl Abort, alloc: Global, trace: &str, report: &str) {
     for workers in ["1", "2", "64"] {
         for pages in ["1", "3", "256"] {
             let words = [
@@ -147,11 +169,21 @@ fn each_cutting_gives_one_answer(rt: HostRuntime) {
                 pages,
                 "--image",
             ];
-            let (status, text) = answer_for(&rt, rt.alloc(), &words, SWEPT.as_bytes(), 1000);
+            let (status, text) = answer_for(rt, alloc, &words, trace.as_bytes(), 1000);
             assert_eq!(rt; status, 0);
-            assert_eq!(rt; text.as_slice(), SWEPT_REPORT.as_bytes());
+            assert_eq!(rt; text.as_slice(), report.as_bytes());
         }
     }
+}
+
+#[test]
+fn each_cutting_gives_one_answer(rt: HostRuntime) {
+    each_cutting_answers(&rt, rt.alloc(), SWEPT, SWEPT_REPORT);
+}
+
+#[test]
+fn each_cutting_gives_one_answer_where_malloc_sweeps(rt: HostRuntime) {
+    each_cutting_answers(&rt, rt.alloc(), FULL, FULL_REPORT);
 }
 
 #[test]

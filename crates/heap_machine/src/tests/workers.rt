@@ -102,11 +102,38 @@ fn a_sweep_where_nothing_is_held_has_no_task(rt: HostRuntime) {
     }
 }
 
+// The sweep of a malloc is shared too, and is one.
+#[test]
+fn a_malloc_that_sweeps_shares_its_sweep(rt: HostRuntime) {
+    let mut machine = crowded_machine(&rt, rt.alloc()).expect(&rt, "there is memory");
+    let gate = Count::of(2);
+    let asked = Command::Malloc {
+        rd: 1,
+        size: 1 << 20,
+    };
+    let reply = machine.step(&rt, rt.alloc(), asked, &gate);
+    assert_eq!(rt; reply, Ok(Reply::NoSpaceAfter { cleared: 2 }));
+    assert_eq!(rt; gate.calls.load(SeqCst), 130);
+    assert_eq!(rt; machine.memory().tagged(), 32_999);
+}
+
 // Whichever threads are refused, a sweep is the same.
 #[test]
 fn a_refused_thread_of_a_sweep_changes_nothing(rt: HostRuntime) {
     let mut machine = crowded_machine(&rt, rt.alloc()).expect(&rt, "there is memory");
     let reply = machine.step(&rt, rt.alloc(), Command::Sweep, &Open);
     assert_eq!(rt; reply, Ok(SWEPT));
+    assert_eq!(rt; machine.memory().tagged(), 32_999);
+}
+
+#[test]
+fn a_refused_thread_of_a_malloc_that_sweeps_changes_nothing(rt: HostRuntime) {
+    let mut machine = crowded_machine(&rt, rt.alloc()).expect(&rt, "there is memory");
+    let asked = Command::Malloc {
+        rd: 1,
+        size: 1 << 20,
+    };
+    let reply = machine.step(&rt, rt.alloc(), asked, &Open);
+    assert_eq!(rt; reply, Ok(Reply::NoSpaceAfter { cleared: 2 }));
     assert_eq!(rt; machine.memory().tagged(), 32_999);
 }

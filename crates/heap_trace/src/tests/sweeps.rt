@@ -4,7 +4,7 @@ use crate::tests::runs::answer;
 use crate::{RunFault, image_text};
 
 // Traces with the reports of their runs.
-const SWEEPS: [(&str, &str); 4] = [
+const SWEEPS: [(&str, &str); 5] = [
     // A block that is held isn't handed out, and its capabilities are gone before it is.
     (
         "heap 0x40000000 1
@@ -96,6 +96,30 @@ free c1
 8 free trap notblock
 9 sweep cleared 2 released 32
 10 free trap tag
+end live 0 held 0 free 4096 tags 0
+",
+    ),
+    // A malloc without a place sweeps first, where some block is held. The tag of the register that it
+    // writes counts too.
+    (
+        "heap 0x40000000 1
+malloc c1 4096
+free c1
+malloc c2 32
+malloc c3 8192
+copy c4 c2
+free c2
+malloc c2 8192
+show c4
+",
+        "2 malloc block 0x40000000 0x40001000
+3 free held 4096
+4 malloc block 0x40000000 0x40000020 swept 1
+5 malloc nospace
+6 copy ok
+7 free held 32
+8 malloc nospace swept 2
+9 show tag 0 address 0x40000000 base 0x40000000 top 0x40000020 perms 0x3d type 0x3ffff exponent 0
 end live 0 held 0 free 4096 tags 0
 ",
     ),

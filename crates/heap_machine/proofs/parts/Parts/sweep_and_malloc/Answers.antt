@@ -15,7 +15,7 @@ returns-in_default-found-clause-step g c =
     c.take-cleared.ensures.taken m.heap.held c.in_ok-revoked.ensures.revoked in (
       SweepsFirst-taken s c.args.size m.memory c.take-cleared.new.memory c.take-cleared.new.registers c.take-cleared.result refl c.requires.none c.requires.held taken,
       HandsOutNone-swept s c.args.rd c.args.size c.give_back_and_reserve.new.self m.memory c.take-cleared.new.memory c.take-cleared.new.registers c.set.new.self c.take-cleared.result
-      refl (c.in-Ok.ensures.none.0 c.in_default-found.is) (c.in-Ok.ensures.free c.in_default-found.is) taken c.set.ensures,
+          refl (c.in-Ok.ensures.none.0 c.in_default-found.is) (c.in-Ok.ensures.free c.in_default-found.is) taken c.set.ensures,
     )
 
 pub block_capability-requires-clause-room : goal.block_capability-requires-clause-room
@@ -38,5 +38,5 @@ returns-clause-step g c =
     c.take-cleared.ensures.taken m.heap.held c.in_ok-revoked.ensures.revoked in (
       SweepsFirst-taken s c.args.size m.memory c.take-cleared.new.memory c.take-cleared.new.registers c.take-cleared.result refl c.requires.none c.requires.held taken,
       HandsOut-swept s c.args.rd c.args.size block.base block.top c.give_back_and_reserve.new.self m.memory c.take-cleared.new.memory c.take-cleared.new.registers c.set-2.new.self c.take-cleared.result
-      refl place top live taken (rw c.block_capability.ensures.value at c.set-2.ensures),
+          refl place top live taken (rw c.block_capability.ensures.value at c.set-2.ensures),
     )

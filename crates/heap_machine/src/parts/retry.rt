@@ -1,0 +1,50 @@
+//! Handing out blocks after a sweep: where a block has no place, and others are held.
+
+ghost use Rattle.std.specs.Prelude.{◌≡◌, [], IfErr, IfOk, OnErr};
+ghost use Rattle.trace_text.specs.Command.{IsValid};
+ghost use Rattle.heap_machine.specs.Parts.{AreParts, state_of};
+ghost use Rattle.heap_machine.specs.Step.{HasNoPlace, Step};
+
+use crate::fault::MachineFault;
+use crate::parts::Parts;
+use cap_codec::{Word, block_capability};
+use heap_core::Block;
+use heap_reply::Reply;
+use std::alloc::Global;
+use std::thread::Threads;
+use sweep_pool::Gate;
+use trace_text::Command;
+
+impl Parts {
+    // A sweep, and then a block where it has a place now. Whatever takes memory comes before the first change.
+    pub(super) fn sweep_and_malloc<R: Threads + Sync, G: Gate + Sync>(
+        &mut self,
+        rt: &R,
+        alloc: Global,
+        rd: u8,
+        size: u64,
+        gate: &G,
+    ) -> Result<Reply, MachineFault>
+        requires parts { AreParts self.old }
+        requires valid { IsValid (Command.Malloc rd size) }
+        requires none { HasNoPlace (state_of self.old) size }
+        requires held { ¬ (self.old.heap.held ≡ []) }
+        ensures step { IfOk result (λ reply. Step (state_of self.old) (Command.Malloc rd size) reply (state_of self.new)) }
+        ensures base { self.new.memory.base ≡ self.new.heap.base }
+        ensures err { OnErr result (self.new ≡ self.old) }
+        ensures memory { IfErr result (λ fault. fault ≡ MachineFault.Memory) }
+    {
+        let revoked = self.revoked_tags(rt, alloc, gate)?;
+        let Ok((found, _)) = self.heap.give_back_and_reserve(size) else {
+            return Err(MachineFault::Memory);
+        };
+        let cleared = revoked.take(&mut self.memory, &mut self.registers);
+        let Some(block) = found else {
+            self.registers.set(rd, Word::NULL, false);
+            return Ok(Reply::NoSpaceAfter { cleared });
+        };
+        let Block { base, top } = block;
+        self.registers.set(rd, block_capability(base, top), true);
+        Ok(Reply::BlockAfter { base, top, cleared })
+    }
+}
