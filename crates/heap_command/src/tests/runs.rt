@@ -4,6 +4,7 @@ use crate::devices::{Failed, Source};
 use crate::program::tool;
 use crate::tests::devices::{Fixed, Short, Slow};
 use std::alloc::Global;
+use std::process::Abort;
 use std::thread::Threads;
 
 const WORDS: &[&str] = &["heap_tool", "run"];
@@ -157,7 +158,12 @@ end live 0 held 0 free 4096 tags 0
 ";
 
 // The trace gives the report with each cutting, and no line of an image.
-fn each_cutting_answers(rt: &impl Abort, alloc: Global, trace: &str, report: &str) {
+fn each_cutting_answers<R: Abort + Threads + Sync>(
+    rt: &R,
+    alloc: Global,
+    trace: &str,
+    report: &str,
+) {
     for workers in ["1", "2", "64"] {
         for pages in ["1", "3", "256"] {
             let words = [
