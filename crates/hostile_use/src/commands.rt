@@ -23,7 +23,7 @@ fn machine<R: Threads + Sync>(rt: &R, alloc: Global) -> Option<Machine> {
 }
 
 // Those commands, each of which succeeds on that machine after those before it.
-const COMMANDS: [Command; 8] = [
+const COMMANDS: [Command; 9] = [
     Command::Copy { rd: 3, rs: 1 },
     Command::SetAddr {
         rd: 4,
@@ -47,6 +47,7 @@ const COMMANDS: [Command; 8] = [
         bytes: [1; 16],
     },
     Command::Show { rs: 7 },
+    Command::Malloc { rd: 8, size: 32 },
 ];
 
 // With the allocation after the machine's refused, and all that come after it, they succeed, and a sweep
@@ -58,7 +59,10 @@ fn refused_allocations_leave_commands_that_need_none(rt: HostRuntime) {
     };
     for command in COMMANDS {
         let reply = machine.step(&rt, rt.alloc(), command, &Open);
-        let is_done = matches!(reply, Ok(Reply::Done | Reply::Shown(_)));
+        let is_done = matches!(
+            reply,
+            Ok(Reply::Done | Reply::Shown(_) | Reply::Block { .. })
+        );
         assert!(rt; is_done, "{command:?}: {reply:?}");
     }
     let before = Seen::of(&machine);
