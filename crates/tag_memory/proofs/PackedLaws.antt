@@ -8,7 +8,7 @@ use Rattle.std.proofs.lemmas.List.{get_or_past, get_or_read, take_all}
 use Rattle.std.proofs.lemmas.List.Elements.{All-from_get_or}
 use Rattle.std.proofs.lemmas.Nat.{and_le_r, div_below}
 use Rattle.std.proofs.lemmas.Option.{slice_get-get_or}
-use Rattle.tag_memory.specs.Cells.{AreUntagged, Granule, IsMemory, MemoryState, marked, may_hold_at}
+use Rattle.tag_memory.specs.Cells.{AreUntagged, Granule, IsMemory, MemoryState, is_dirty_at, marked, may_hold_at}
 use Rattle.tag_memory.specs.Tags.{AreBlank, HasTag, granules_of, is_set, is_set_for, is_tagged, tag_word, without_tags}
 use Rattle.tag_memory.specs.declared.memory.Memory.TheInside.{Inside}
 use Rattle.tag_memory.specs.contracts.memory.Memory.{the_view, the_invariant}
@@ -58,12 +58,26 @@ pub marked_at : {m : Inside} {state : MemoryState} → Packs m state → (page :
 marked_at {m = m} p page read h e =
     get_or_read m.may_hold.items page read (omega (arith, count p, p.invariant, h)) e false ∙ ap (λ (pages : List Bool). may_hold_at pages page) (marks p)
 
+-- which pages are dirty
+dirt : {m : Inside} {state : MemoryState} → Packs m state → m.dirty.items ≡ state.dirty
+dirt p = ap (λ (s : MemoryState). s.dirty) p.view
+
+pub dirty_count : {m : Inside} {state : MemoryState} → Packs m state → length state.dirty ≡ m.pages
+dirty_count p = ap length (sym (dirt p)) ∙ p.invariant.7
+
+-- whether one is, read
+pub dirty_at : {m : Inside} {state : MemoryState} → Packs m state → (page : ℕ) (read : Bool) → 256 * page < length state.cells → read ≡ get_or m.dirty.items page read
+    → read ≡ is_dirty_at state.dirty page
+dirty_at {m = m} p page read h e =
+    get_or_read m.dirty.items page read (omega (arith, count p, p.invariant, h)) e false ∙ ap (λ (pages : List Bool). is_dirty_at pages page) (dirt p)
+
 -- what holds of every memory
 pub whole : {m : Inside} {state : MemoryState} → Packs m state → IsMemory state
 whole {m = m} p = record {
   pages = m.pages;
   count = count p;
   marks = marks_count p;
+  dirty_marks = dirty_count p;
   untagged = untagged p;
   size = p.invariant.2;
   place = rw (← (ap (λ (s : MemoryState). s.base) p.view)) p.invariant.3;
@@ -176,6 +190,13 @@ put_mark {state = state} p i tag on = ap (λ (pages : List Bool). set pages (i /
 
 pub put_no_mark : {m : Inside} {state : MemoryState} → Packs m state → (i : ℕ) (tag : Bool) → tag ≡ false → m.may_hold.items ≡ marked state.may_hold i tag
 put_no_mark {state = state} p i tag off = marks p ∙ ap (marked state.may_hold i) (sym off)
+
+-- which are dirty then
+pub put_dirt : {m : Inside} {state : MemoryState} → Packs m state → (i : ℕ) (tag : Bool) → tag ≡ true → set m.dirty.items (i / 256) true ≡ marked state.dirty i tag
+put_dirt {state = state} p i tag on = ap (λ (pages : List Bool). set pages (i / 256) true) (dirt p) ∙ ap (marked state.dirty i) (sym on)
+
+pub put_no_dirt : {m : Inside} {state : MemoryState} → Packs m state → (i : ℕ) (tag : Bool) → tag ≡ false → m.dirty.items ≡ marked state.dirty i tag
+put_no_dirt {state = state} p i tag off = dirt p ∙ ap (marked state.dirty i) (sym off)
 
 -- ---- the tags of masks taken
 

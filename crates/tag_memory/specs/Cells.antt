@@ -12,27 +12,42 @@ abbrev pub Granule : Type 0
 Granule = ℕ × Bool
 
 -- A memory: its first address, its granules in order of address, and for each of its pages whether it may
--- hold tags.
+-- hold tags, and whether it is dirty: a tagged word was written there since all pages were made clean.
 pub record MemoryState : Type 0 where
   pub base : ℕ
   pub cells : List Granule
   pub may_hold : List Bool
+  pub dirty : List Bool
 
--- A new memory: every granule zero and untagged, and no page that may hold tags.
+-- A new memory: every granule zero and untagged, no page that may hold tags, and none dirty.
 abbrev pub new_memory : ℕ → ℕ → MemoryState
-new_memory base pages = record { base = base; cells = replicate (256 * pages) (0, false); may_hold = replicate pages false }
+new_memory base pages = record {
+  base = base;
+  cells = replicate (256 * pages) (0, false);
+  may_hold = replicate pages false;
+  dirty = replicate pages false;
+}
 
 -- Whether this page may hold tags; past the last one there are none.
 abbrev pub may_hold_at : List Bool → ℕ → Bool
 may_hold_at may_hold page = slice_index_or may_hold page false
 
+-- Whether this page is dirty; past the last one none is.
+abbrev pub is_dirty_at : List Bool → ℕ → Bool
+is_dirty_at dirty page = slice_index_or dirty page false
+
+-- No page is dirty, of as many as here.
+abbrev pub all_clean : List Bool → List Bool
+all_clean dirty = replicate (length dirty) false
+
 -- A page that may hold no tags has no tagged granule.
 abbrev pub AreUntagged : List Granule → List Bool → Type 0
 AreUntagged cells may_hold = (i : ℕ) → may_hold_at may_hold (i / page_granules) ≡ false → (slice_index_or cells i (0, false)).1 ≡ false
 
--- The pages that may hold tags once granule i is written with this tag: its own page with them where it is one.
+-- Marks of pages once granule i is written with this tag: where it is one its own page is marked too. So do the
+-- pages change that may hold tags, and those that are dirty.
 abbrev pub marked : List Bool → ℕ → Bool → List Bool
-marked may_hold i tag = if tag then slice_set may_hold (i / page_granules) true else may_hold
+marked pages i tag = if tag then slice_set pages (i / page_granules) true else pages
 
 -- What holds of every memory: it is some whole pages that may begin at its base, of granules whose
 -- numbers have 128 bits, and pages that may hold no tags have none.
@@ -40,6 +55,7 @@ pub record IsMemory (m : MemoryState) : Type 0 where
   pub pages : ℕ
   pub count : length m.cells ≡ 256 * pages
   pub marks : length m.may_hold ≡ pages
+  pub dirty_marks : length m.dirty ≡ pages
   pub untagged : AreUntagged m.cells m.may_hold
   pub size : IsTrue (is_size pages)
   pub place : IsTrue (is_base m.base pages)

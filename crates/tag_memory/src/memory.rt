@@ -1,7 +1,7 @@
 //! Tagged memory.
 
 ghost use Rattle.std.specs.Prelude.{◌≡◌, ◌↔◌, ◌<◌, ◌+◌, ◌*◌, ◌/◌, ℕ, IfOk, Some, count_by, false, length, slice_get, slice_set, true};
-ghost use Rattle.tag_memory.specs.Cells.{IsMemory, marked, may_hold_at, new_memory};
+ghost use Rattle.tag_memory.specs.Cells.{IsMemory, all_clean, is_dirty_at, marked, may_hold_at, new_memory};
 ghost use Rattle.tag_memory.specs.Span as span;
 ghost use Rattle.tag_memory.specs.Tags.{HasTag, is_set, is_tagged, without_tags};
 ghost use Rattle.tag_memory.specs.Tags as tags;
@@ -39,6 +39,8 @@ pub struct Memory {
     bits: Vec<u128>,
     tags: Vec<u64>,
     may_hold: Vec<bool>,
+    // Into which pages a tagged word was written since all were made clean.
+    dirty: Vec<bool>,
 }
 
 impl Model for Memory {
@@ -50,9 +52,9 @@ impl Model for Memory {
 
     ghost Value = { MemoryState };
 
-    ghost view = { λ m. record { base = m.base; cells = granules_of m.bits.items m.tags.items; may_hold = m.may_hold.items } };
+    ghost view = { λ m. record { base = m.base; cells = granules_of m.bits.items m.tags.items; may_hold = m.may_hold.items; dirty = m.dirty.items } };
 
-    ghost invariant = { λ m. (length m.bits.items ≡ 256 * m.pages) × (length m.tags.items ≡ page_words * m.pages) × (is_size m.pages ≡ true) × (is_base m.base m.pages ≡ true) × All (λ number. number < 2 ^ 128) m.bits.items × (length m.may_hold.items ≡ m.pages) × AreBlank m.tags.items m.may_hold.items };
+    ghost invariant = { λ m. (length m.bits.items ≡ 256 * m.pages) × (length m.tags.items ≡ page_words * m.pages) × (is_size m.pages ≡ true) × (is_base m.base m.pages ≡ true) × All (λ number. number < 2 ^ 128) m.bits.items × (length m.may_hold.items ≡ m.pages) × AreBlank m.tags.items m.may_hold.items × (length m.dirty.items ≡ m.pages) };
 }
 
 impl Memory {
@@ -79,12 +81,16 @@ impl Memory {
         let Ok(may_hold) = vec![in alloc; false; pages as usize] else {
             return Err(MemoryFault::Memory);
         };
+        let Ok(dirty) = vec![in alloc; false; pages as usize] else {
+            return Err(MemoryFault::Memory);
+        };
         Ok(Memory {
             base,
             pages,
             bits,
             tags,
             may_hold,
+            dirty,
         })
     }
 
@@ -127,16 +133,18 @@ impl Memory {
         )
     }
 
-    /// Writes a granule's bytes and its tag. With one, its page may hold tags from then on.
+    /// Writes a granule's bytes and its tag. With one, its page may hold tags from then on, and is dirty.
     pub fn put(&mut self, i: usize, bits: u128, tag: bool)
         requires { i < length self.old.cells }
-        ensures { self.new ≡ record self.old { cells = slice_set self.old.cells i (bits, tag); may_hold = marked self.old.may_hold i tag } }
+        ensures { self.new ≡ record self.old { cells = slice_set self.old.cells i (bits, tag); may_hold = marked self.old.may_hold i tag; dirty = marked self.old.dirty i tag } }
     {
         self.bits[i] = bits;
         let word = &mut self.tags[i / WORD_GRANULES];
         *word = with_bit(*word, i % WORD_GRANULES, tag);
         if tag {
-            self.may_hold[i / PAGE_GRANULES as usize] = true;
+            let page = i / PAGE_GRANULES as usize;
+            self.may_hold[page] = true;
+            self.dirty[page] = true;
         }
     }
 
@@ -148,6 +156,22 @@ impl Memory {
         ensures untagged { result ≡ false → (i : ℕ) → i / 256 ≡ page → is_tagged self.now.cells i ≡ false }
     {
         self.may_hold[page as usize]
+    }
+
+    /// Makes every page clean. Nothing else changes.
+    pub fn mark_clean(&mut self)
+        ensures { self.new ≡ record self.old { dirty = all_clean self.old.dirty } }
+    {
+        self.dirty.fill(false);
+    }
+
+    /// Whether a tagged word was written into this page since all pages were made clean, or since the memory was
+    /// made (Filardo et al. 2020, Cornucopia: capability dirty pages). Pages are counted from the base.
+    pub fn dirty(&self, page: u32) -> bool
+        requires { 256 * page < length self.now.cells }
+        ensures { result ≡ is_dirty_at self.now.dirty page }
+    {
+        self.dirty[page as usize]
     }
 
     /// The tags of granules `64 * w` to `64 * w + 63`, the first in bit 0.
@@ -166,6 +190,7 @@ impl Memory {
         ensures base { self.new.base ≡ self.old.base }
         ensures cells { self.new.cells ≡ without_tags masks.now self.old.cells }
         ensures count { length self.new.cells ≡ length self.old.cells }
+        ensures dirty { self.new.dirty ≡ self.old.dirty }
         ensures marks { (page : ℕ) → (may_hold_at self.new.may_hold page ≡ true) ↔ HasTag self.new.cells page }
     {
         for page in 0..self.may_hold.len() {

@@ -1,5 +1,6 @@
 use Rattle.std.proofs.Common.{ℕ, ◌≡◌, ◌<◌, ◌≤◌, ◌*◌, ◌^◌, ◌∙◌, ap, arith, length, subst, sym}
 use Rattle.std.specs.List.{All}
+use Rattle.tag_memory.specs.Cells.{MemoryState}
 use Rattle.tag_memory.proofs.PackedLaws.{Packs, cleared, cleared_count, count, taken_blank, taken_marks, taken_word}
 use Rattle.tag_memory.proofs.TakenLaws.{still_blank}
 use Rattle.tag_memory.proofs.memory.Memory.clear_tags.Goals as goal
@@ -26,6 +27,7 @@ invariant_of-self c =
       subst (All (λ (number : ℕ). number < 2 ^ 128)) (sym l.bits) old.4,
       l.taken.marks ∙ (old.5 ∙ sym l.pages),
       taken_blank p l.taken all,
+      ap length l.dirty ∙ (old.7 ∙ sym l.pages),
     )
 
 pub returns-clause-cells : goal.returns-clause-cells
@@ -48,3 +50,6 @@ returns-clause-marks c =
     let taken = c.loop-page.invariant.taken in
     let all : length c.loop-page.self-inside.may_hold.items ≤ c.loop-page.page = omega (arith, c.loop-page-test.false, c.len-page-end.ensures, taken.marks) in
     taken_marks p taken all c.loop-page.self-inside.bits.items c.loop-page.invariant.bits
+
+pub returns-clause-dirty : goal.returns-clause-dirty
+returns-clause-dirty c = c.loop-page.invariant.dirty ∙ ap (λ (m : MemoryState). m.dirty) c.self.view_is

@@ -8,5 +8,6 @@ invariant-loop-page l =
       base : l.self-inside.base ≡ l.initial.self-inside.base;
       pages : l.self-inside.pages ≡ l.initial.self-inside.pages;
       bits : l.self-inside.bits.items ≡ l.initial.self-inside.bits.items;
+      dirty : l.self-inside.dirty.items ≡ l.initial.self-inside.dirty.items;
       taken : AreTaken l.masks l.initial.self-inside.tags.items l.self-inside.tags.items l.initial.self-inside.may_hold.items l.self-inside.may_hold.items l.page;
     }

@@ -13,7 +13,8 @@ returns-clause-made c =
     let tags : c.in-Ok-vec.tags.items ≡ replicate (4 * c.args.pages) 0 = search (rules, c.in-Ok-vec.ensures) in
     let cells = (λ k. granules_of (bits k) (tags k)) ∙ granules_of-zeros (256 * c.args.pages) (4 * c.args.pages) in
     let marks : c.in-Ok-vec-2.may_hold.items ≡ replicate c.args.pages false = search (rules, c.in-Ok-vec-2.ensures) in
-    λ k. record { base = c.args.base; cells = cells k; may_hold = marks k }
+    let dirt : c.in-Ok-vec-3.dirty.items ≡ replicate c.args.pages false = search (rules, c.in-Ok-vec-3.ensures) in
+    λ k. record { base = c.args.base; cells = cells k; may_hold = marks k; dirty = dirt k }
 
 pub invariant_of-result : goal.invariant_of-result
 invariant_of-result c =
@@ -21,6 +22,7 @@ invariant_of-result c =
     let tags : c.in-Ok-vec.tags.items ≡ replicate (4 * c.args.pages) 0 = search (rules, c.in-Ok-vec.ensures) in
     let marks : c.in-Ok-vec-2.may_hold.items ≡ replicate c.args.pages false = search (rules, c.in-Ok-vec-2.ensures) in
     let numbers : All (λ (number : ℕ). number < 2 ^ 128) (replicate (256 * c.args.pages) 0) = All-replicate (λ (number : ℕ). number < 2 ^ 128) (256 * c.args.pages) 0 (omega arith) in
+    let dirt : c.in-Ok-vec-3.dirty.items ≡ replicate c.args.pages false = search (rules, c.in-Ok-vec-3.ensures) in
     let blank = blank-zeros (4 * c.args.pages) c.in-Ok-vec-2.may_hold.items in (
       ap length bits ∙ length-replicate {A = ℕ} (256 * c.args.pages) 0,
       ap length tags ∙ length-replicate {A = ℕ} (4 * c.args.pages) 0,
@@ -29,4 +31,5 @@ invariant_of-result c =
       subst (All (λ (number : ℕ). number < 2 ^ 128)) (sym bits) numbers,
       ap length marks ∙ length-replicate {A = Bool} c.args.pages false,
       subst (λ (words : List ℕ). AreBlank words c.in-Ok-vec-2.may_hold.items) (sym tags) blank,
+      ap length dirt ∙ length-replicate {A = Bool} c.args.pages false,
     )

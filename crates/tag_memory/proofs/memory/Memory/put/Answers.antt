@@ -2,7 +2,7 @@ use Rattle.std.proofs.Common.{◌<◌, ◌^◌, ◌∙◌, ap, arith}
 use Rattle.std.proofs.lemmas.List.{length-set}
 use Rattle.std.proofs.lemmas.List.Elements.{All-set}
 use Rattle.tag_memory.specs.Cells.{MemoryState}
-use Rattle.tag_memory.proofs.PackedLaws.{Packs, page_place, place, put_mark, put_marked, put_no_mark, put_unmarked, written}
+use Rattle.tag_memory.proofs.PackedLaws.{Packs, count, page_place, place, put_dirt, put_mark, put_marked, put_no_dirt, put_no_mark, put_unmarked, written}
 use Rattle.tag_memory.proofs.memory.Memory.put.Goals as goal
 
 pub index_mut-requires : goal.index_mut-requires
@@ -20,11 +20,16 @@ index_mut-requires-then-tag c =
     let p : Packs c.self.inside c.args.self.now = record { view = c.self.view_is; invariant = c.self.invariant } in
     omega (arith, page_place p c.args.i c.requires)
 
+pub index_mut-requires-then-tag-2 : goal.index_mut-requires-then-tag-2
+index_mut-requires-then-tag-2 c =
+    let p : Packs c.self.inside c.args.self.now = record { view = c.self.view_is; invariant = c.self.invariant } in
+    omega (arith, count p, c.self.invariant, c.requires)
+
 pub invariant_of-self : goal.invariant_of-self
 invariant_of-self c =
     let p : Packs c.self.inside c.args.self.now = record { view = c.self.view_is; invariant = c.self.invariant } in
     let kept = c.self.invariant in
-    (length-set _ _ _ ∙ kept.0, length-set _ _ _ ∙ kept.1, kept.2, kept.3, All-set (λ number. number < 2 ^ 128) _ _ _ c.ranges.bits.fits kept.4, length-set _ _ _ ∙ kept.5, put_marked p c.args.i c.with_bit.result c.requires)
+    (length-set _ _ _ ∙ kept.0, length-set _ _ _ ∙ kept.1, kept.2, kept.3, All-set (λ number. number < 2 ^ 128) _ _ _ c.ranges.bits.fits kept.4, length-set _ _ _ ∙ kept.5, put_marked p c.args.i c.with_bit.result c.requires, length-set _ _ _ ∙ kept.7)
 
 pub invariant_of-self-else-tag : goal.invariant_of-self-else-tag
 invariant_of-self-else-tag c =
@@ -37,6 +42,7 @@ invariant_of-self-else-tag c =
       All-set (λ number. number < 2 ^ 128) _ _ _ c.ranges.bits.fits kept.4,
       kept.5,
       put_unmarked p c.args.i c.with_bit.result c.index_mut-word.result.now c.args.tag c.requires (omega arith) c.index_mut-word.ensures.value c.if-tag.false c.with_bit.ensures,
+      kept.7,
     )
 
 pub returns-then-tag : goal.returns-then-tag
@@ -44,11 +50,11 @@ returns-then-tag c =
     let p : Packs c.self.inside c.args.self.now = record { view = c.self.view_is; invariant = c.self.invariant } in
     let base = ap (λ (m : MemoryState). m.base) c.self.view_is in
     let cells = written p c.args.i c.args.bits c.index_mut-word.result.now c.with_bit.result c.args.tag c.requires c.index_mut-word.ensures.value c.with_bit.ensures in
-    λ k. record { base = base k; cells = cells k; may_hold = put_mark p c.args.i c.args.tag c.if-tag.true k }
+    λ k. record { base = base k; cells = cells k; may_hold = put_mark p c.args.i c.args.tag c.if-tag.true k; dirty = put_dirt p c.args.i c.args.tag c.if-tag.true k }
 
 pub returns-else-tag : goal.returns-else-tag
 returns-else-tag c =
     let p : Packs c.self.inside c.args.self.now = record { view = c.self.view_is; invariant = c.self.invariant } in
     let base = ap (λ (m : MemoryState). m.base) c.self.view_is in
     let cells = written p c.args.i c.args.bits c.index_mut-word.result.now c.with_bit.result c.args.tag c.requires c.index_mut-word.ensures.value c.with_bit.ensures in
-    λ k. record { base = base k; cells = cells k; may_hold = put_no_mark p c.args.i c.args.tag c.if-tag.false k }
+    λ k. record { base = base k; cells = cells k; may_hold = put_no_mark p c.args.i c.args.tag c.if-tag.false k; dirty = put_no_dirt p c.args.i c.args.tag c.if-tag.false k }
