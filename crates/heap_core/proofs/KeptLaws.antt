@@ -6,8 +6,7 @@ use Rattle.std.proofs.lemmas.List.Folds.{list_any_none}
 use Rattle.std.specs.List.{list_any}
 use Rattle.heap_core.specs.Blocks.{Span, has_address, lies_in}
 use Rattle.heap_core.specs.Laws.{has_address-after, has_address-before, has_address-within}
-use Rattle.heap_core.specs.Quarantine.{without_held}
-use Rattle.heap_core.specs.Table.{IsTable, blocks_of, is_held, is_live, is_taken, kept_lengths, table_state}
+use Rattle.heap_core.specs.Table.{IsTable, blocks_of, is_held, is_live, is_taken, kept_lengths}
 use Rattle.heap_core.proofs.BlockLaws.{All-blocks_of}
 use Rattle.heap_core.proofs.RunLaws.{is_taken_by, is_taken_within}
 
@@ -127,17 +126,6 @@ lies_in-blocks_of keeps base a k lengths marks same from before lt =
 
 -- ---- the table of the live blocks alone
 
--- Its live blocks are those of the whole table.
-pub live_blocks-kept : (base i : ℕ) (lengths : List ℕ) (marks : List Bool) → length marks ≡ length lengths
-    → blocks_of is_live base i (kept_lengths is_live lengths marks) (replicate (length lengths) false) ≡ blocks_of is_live base i lengths marks
-live_blocks-kept base i [] marks same = refl
-live_blocks-kept base i (n ∷ lengths) [] same = absurd (omega arith)
-live_blocks-kept base i (n ∷ lengths) (mark ∷ marks) same =
-    elim (cases_Bool mark) [
-      | inl is ↦ rw (is, live_blocks-kept base (i + 1) lengths marks (omega arith)) (grind arith)
-      | inr is ↦ rw (is, live_blocks-kept base (i + 1) lengths marks (omega arith)) refl
-    ]
-
 -- It has no held blocks.
 pub held_blocks-kept : (base i : ℕ) (lengths : List ℕ) (marks : List Bool) → length marks ≡ length lengths
     → blocks_of is_held base i (kept_lengths is_live lengths marks) (replicate (length lengths) false) ≡ []
@@ -162,8 +150,3 @@ IsTable-kept base lengths marks table =
       inside = λ j lt. omega (arith, table.inside j (omega arith), kept-le is_live lengths marks j);
       apart = λ j k lt some. omega (arith, table.apart j k lt (omega (arith, kept-le is_live lengths marks k)), kept-le is_live lengths marks j);
     }
-
-pub table_state-kept : (base : ℕ) (lengths : List ℕ) (marks : List Bool) → length marks ≡ length lengths
-    → table_state base (kept_lengths is_live lengths marks) (replicate (length lengths) false) ≡ without_held (table_state base lengths marks)
-table_state-kept base lengths marks same =
-    rw (length-kept_lengths is_live lengths marks same, live_blocks-kept base 0 lengths marks same, held_blocks-kept base 0 lengths marks same) refl

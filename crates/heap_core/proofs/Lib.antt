@@ -1,6 +1,8 @@
 pub mod BlockLaws
 pub mod EmptyLaws
+pub mod HeapLaws
 pub mod KeptLaws
+pub mod LateLaws
 pub mod NthLaws
 pub mod PaintLaws
 pub mod PlaceLaws
@@ -11,6 +13,7 @@ pub mod ShadowLaws
 pub mod SizeLaws
 pub mod SoundLaws
 pub mod SpanLaws
+pub mod StartLaws
 pub mod StateLaws
 pub mod StoredLaws
 pub mod SumLaws

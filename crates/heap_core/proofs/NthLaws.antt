@@ -9,13 +9,15 @@ use Rattle.std.proofs.lemmas.List.Sums.{sum_by-cons, sum_by-take-drop}
 use Rattle.granule_rows.specs.Counts.{count_below, is_both}
 use Rattle.granule_rows.specs.Runs.{is_within}
 use Rattle.heap_core.specs.Blocks.{Span, has_address, lies_in}
+use Rattle.heap_core.specs.Consistent.{heap_state}
 use Rattle.heap_core.specs.Laws.{has_address-after, has_address-before, has_address-within}
-use Rattle.heap_core.specs.Painting.{is_in_held}
+use Rattle.heap_core.specs.Painting.{is_in_due}
 use Rattle.heap_core.specs.Stored.{marks_of}
-use Rattle.heap_core.specs.Table.{AreBlocks, IsHeldStart, IsTable, blocks_of, held_count, is_held, is_taken, kept_lengths, table_state}
+use Rattle.heap_core.specs.Table.{AreBlocks, IsHeldStart, IsTable, blocks_of, held_count, is_held, is_taken, kept_lengths}
 use Rattle.heap_core.proofs.BlockLaws.{All-blocks_of}
 use Rattle.heap_core.proofs.KeptLaws.{any-block, get_or-kept, kept_block, length-kept_lengths}
 use Rattle.heap_core.proofs.RunLaws.{is_taken_by, is_taken_within}
+use Rattle.heap_core.proofs.ShadowLaws.{due-heap_state}
 
 -- ---- marks counted
 
@@ -200,11 +202,13 @@ lies_in-part base lengths marks from to k table order within cut_from cut_to =
           ])))
     ]
 
--- So granules lie in held blocks that are told by their numbers exactly where they are between the starts, and in a held block.
-pub in_held : (base : ℕ) (lengths : List ℕ) (marks : List Bool) (first last from to : ℕ) → IsTable base lengths marks → AreBlocks lengths marks → first ≤ last
+-- So granules lie in blocks that are due and told by their numbers exactly where they are between the starts, and in one
+-- that the table has as held.
+pub in_due : (base : ℕ) (lengths : List ℕ) (marks lates : List Bool) (is_open : Bool) (first last from to : ℕ) → IsTable base lengths marks → AreBlocks lengths marks → first ≤ last
     → IsHeldStart lengths marks first from → IsHeldStart lengths marks last to → (k : ℕ)
-    → is_in_held (table_state base lengths marks) first last k ≡ (is_within from to k && is_taken k (kept_lengths is_held lengths marks))
-in_held base lengths marks first last from to table some order a b k =
+    → is_in_due (heap_state base lengths marks lates is_open) first last k ≡ (is_within from to k && is_taken k (kept_lengths is_held lengths marks))
+in_due base lengths marks lates is_open first last from to table some order a b k =
     let starts = start_order lengths marks first last from to table.same a b order in
-    ap (λ (blocks : List Span). lies_in blocks (base + 16 * k)) (blocks-part base lengths marks first last from to table.same some a b starts)
+    ap (λ (blocks : List Span). lies_in (take (last - first) (drop first blocks)) (base + 16 * k)) (due-heap_state base lengths marks lates is_open)
+    ∙ ap (λ (blocks : List Span). lies_in blocks (base + 16 * k)) (blocks-part base lengths marks first last from to table.same some a b starts)
     ∙ lies_in-part base lengths marks from to k table starts b.within (cut_at base lengths marks first from table some a) (cut_at base lengths marks last to table some b)

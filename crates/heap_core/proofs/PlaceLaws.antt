@@ -1,11 +1,14 @@
 -- The places of a heap are the free runs of its table from multiples of the block's unit on.
-use Rattle.std.proofs.Common.{◌≡◌, ◌<◌, ◌≤◌, ◌+◌, ◌-◌, ◌*◌, ◌/◌, ◌%◌, inl, inr, ℕ, Bool, true, false, List, length, get_or, refl, subst, arith}
-use Rattle.std.proofs.lemmas.Bool.{cases_Bool}
+use Rattle.std.proofs.Common.{◌≡◌, ◌<◌, ◌≤◌, ◌+◌, ◌-◌, ◌*◌, ◌/◌, ◌%◌, inl, inr, ℕ, Bool, true, false, List, length, get_or, refl, sym, ◌∙◌, ◌||◌, subst, arith}
+use Rattle.std.proofs.lemmas.Bool.{cases_Bool, or_cases}
+use Rattle.std.proofs.lemmas.List.Elements.{All-nil}
 use Rattle.std.specs.Prelude.{All}
 use Rattle.heap_core.specs.Blocks.{IsApart, Span}
-use Rattle.heap_core.specs.Place.{IsFree, IsPlace, block_unit, granule_size}
-use Rattle.heap_core.specs.Table.{IsFirstGap, IsGap, IsTable, blocks_of, is_held, is_live, is_taken, table_state}
+use Rattle.heap_core.specs.Consistent.{AreLate, either_mark, heap_state}
+use Rattle.heap_core.specs.Place.{IsFree, IsPlace, block_length, block_unit, granule_size}
+use Rattle.heap_core.specs.Table.{IsFirstGap, IsGap, IsTable, blocks_of, is_held, is_live, is_taken}
 use Rattle.heap_core.proofs.BlockLaws.{All-block, All-blocks_of}
+use Rattle.heap_core.proofs.LateLaws.{get_or-either, length-either, no_held}
 use Rattle.heap_core.proofs.RunLaws.{is_taken_by, run_is_apart}
 use Rattle.heap_core.proofs.SizeLaws.{HasShape, le-block_length}
 use Rattle.heap_core.proofs.SpanLaws.{LiesWithin-table}
@@ -46,55 +49,90 @@ apart_is_free base lengths marks p n k same live held le lt within =
 pub base_granule : (base : ℕ) (lengths : List ℕ) (marks : List Bool) → IsTable base lengths marks → base ≡ 16 * (base / 16)
 base_granule base lengths marks table = omega (arith, (LiesWithin-table base lengths marks table).multiple)
 
+-- What holds of the blocks that are due and of the late ones holds of those with either mark.
+All-either : (P : Span → Type 0) (base : ℕ) (lengths : List ℕ) (marks lates : List Bool) → length marks ≡ length lengths → length lates ≡ length lengths
+    → All P (blocks_of is_held base 0 lengths marks) → All P (blocks_of is_held base 0 lengths lates) → All P (blocks_of is_held base 0 lengths (either_mark marks lates))
+All-either P base lengths marks lates same also due late =
+    All-blocks_of P is_held base 0 lengths (either_mark marks lates) false
+    (λ k start at lt some kept. elim (or_cases (get_or marks k false) (get_or lates k false) (sym (get_or-either marks lates k (also ∙ sym same)) ∙ kept)) [
+      | inl is ↦ All-block P is_held base 0 lengths marks false k start due same at lt some is
+      | inr is ↦ All-block P is_held base 0 lengths lates false k start late also at lt some is
+    ])
+
 -- A block may start at a free run from a multiple of its unit on.
-IsFree-from_run : (base : ℕ) (lengths : List ℕ) (marks : List Bool) (size p n unit : ℕ) → IsTable base lengths marks → HasShape size n unit
-    → IsGap lengths p n → (base / 16 + p) % unit ≡ 0 → IsFree (table_state base lengths marks) size (base + 16 * p)
-IsFree-from_run base lengths marks size p n unit table has run multiple =
+IsFree-from_run : (base : ℕ) (lengths : List ℕ) (marks lates : List Bool) (is_open : Bool) (size p n unit : ℕ) → IsTable base lengths marks → HasShape size n unit
+    → IsGap lengths p n → (base / 16 + p) % unit ≡ 0 → IsFree (heap_state base lengths marks lates is_open) size (base + 16 * p)
+IsFree-from_run base lengths marks lates true size p n unit table has run multiple =
     let at : 16 * (base / 16 + p) ≡ base + 16 * p = omega (arith, base_granule base lengths marks table) in
     record {
       granule = omega arith;
       unit = subst (λ a. a % block_unit size ≡ 0) at (has.units.from (base / 16 + p) multiple);
       from = omega arith;
       end = rw has.length (omega (arith, run.end));
-      live = rw has.length (All-IsApart is_live base lengths marks p n run);
-      held = rw has.length (All-IsApart is_held base lengths marks p n run);
+      live = rw has.length (All-IsApart is_live base lengths (either_mark marks lates) p n run);
+      waiting = rw has.length (All-IsApart is_held base lengths lates p n run);
+      painted = rw has.length (All-IsApart is_held base lengths marks p n run);
+    }
+IsFree-from_run base lengths marks lates false size p n unit table has run multiple =
+    let at : 16 * (base / 16 + p) ≡ base + 16 * p = omega (arith, base_granule base lengths marks table) in
+    record {
+      granule = omega arith;
+      unit = subst (λ a. a % block_unit size ≡ 0) at (has.units.from (base / 16 + p) multiple);
+      from = omega arith;
+      end = rw has.length (omega (arith, run.end));
+      live = rw has.length (All-IsApart is_live base lengths (either_mark marks lates) p n run);
+      waiting = rw has.length (All-IsApart is_held base lengths marks p n run);
+      painted = All-nil (IsApart (base + 16 * p, block_length size));
     }
 
+-- What a place shares no address with, by the marks.
+apart_from_due : (base : ℕ) (lengths : List ℕ) (marks lates : List Bool) (is_open : Bool) (size a : ℕ) → IsFree (heap_state base lengths marks lates is_open) size a
+    → All (IsApart (a, block_length size)) (blocks_of is_held base 0 lengths marks)
+apart_from_due base lengths marks lates true size a free = free.painted
+apart_from_due base lengths marks lates false size a free = free.waiting
+
+apart_from_late : (base : ℕ) (lengths : List ℕ) (marks lates : List Bool) (is_open : Bool) (size a : ℕ) → AreLate lengths marks lates is_open → IsFree (heap_state base lengths marks lates is_open) size a
+    → All (IsApart (a, block_length size)) (blocks_of is_held base 0 lengths lates)
+apart_from_late base lengths marks lates true size a are free = free.waiting
+apart_from_late base lengths marks lates false size a are free = rw (no_held base 0 lengths lates (are.closed refl)) (All-nil (IsApart (a, block_length size)))
+
 -- Where it may start, there is one.
-pub IsGap-from_free : (base : ℕ) (lengths : List ℕ) (marks : List Bool) (size a n unit : ℕ) → IsTable base lengths marks
-    → HasShape size n unit → IsFree (table_state base lengths marks) size a → IsGap lengths ((a - base) / 16) n
-IsGap-from_free base lengths marks size a n unit table has free =
+pub IsGap-from_free : (base : ℕ) (lengths : List ℕ) (marks lates : List Bool) (is_open : Bool) (size a n unit : ℕ) → IsTable base lengths marks → AreLate lengths marks lates is_open
+    → HasShape size n unit → IsFree (heap_state base lengths marks lates is_open) size a → IsGap lengths ((a - base) / 16) n
+IsGap-from_free base lengths marks lates is_open size a n unit table are has free =
     let p = (a - base) / 16 in
     let at : a ≡ base + 16 * ((a - base) / 16) = omega (arith, free.granule, free.from, base_granule base lengths marks table) in
     let end : (a - base) / 16 + n ≤ length lengths = omega (arith, free.end, has.length) in
     let live = rw (has.length, at) at free.live in
-    let held = rw (has.length, at) at free.held in
+    let due = apart_from_due base lengths marks lates is_open size a free in
+    let late = apart_from_late base lengths marks lates is_open size a are free in
+    let held = rw (has.length, at) at (All-either (IsApart (a, block_length size)) base lengths marks lates table.same are.same due late) in
     record {
       some = has.some;
       end = end;
-      free = λ k le lt. apart_is_free base lengths marks p n k table.same live held le lt (omega arith);
+      free = λ k le lt. apart_is_free base lengths (either_mark marks lates) p n k (length-either marks lates ∙ table.same) live held le lt (omega arith);
     }
 
 -- And it is from a multiple of its unit on.
-pub multiple-from_free : (base : ℕ) (lengths : List ℕ) (marks : List Bool) (size a n unit : ℕ) → IsTable base lengths marks
-    → HasShape size n unit → IsFree (table_state base lengths marks) size a → (base / 16 + (a - base) / 16) % unit ≡ 0
-multiple-from_free base lengths marks size a n unit table has free =
+pub multiple-from_free : (base : ℕ) (lengths : List ℕ) (marks lates : List Bool) (is_open : Bool) (size a n unit : ℕ) → IsTable base lengths marks
+    → HasShape size n unit → IsFree (heap_state base lengths marks lates is_open) size a → (base / 16 + (a - base) / 16) % unit ≡ 0
+multiple-from_free base lengths marks lates is_open size a n unit table has free =
     let at : a ≡ 16 * (base / 16 + (a - base) / 16) = omega (arith, free.granule, free.from, base_granule base lengths marks table) in
     has.units.to (base / 16 + (a - base) / 16) (subst (λ x. x % block_unit size ≡ 0) at free.unit)
 
 -- A block that is longer than the heap has no place.
-pub too_long : (base : ℕ) (lengths : List ℕ) (marks : List Bool) (size asked a : ℕ) → 16 * asked ≡ granule_size size → length lengths < asked
-    → IsFree (table_state base lengths marks) size a → ⊥
-too_long base lengths marks size asked a holds long free = omega (arith, free.from, free.end, le-block_length size asked holds)
+pub too_long : (base : ℕ) (lengths : List ℕ) (marks lates : List Bool) (is_open : Bool) (size asked a : ℕ) → 16 * asked ≡ granule_size size → length lengths < asked
+    → IsFree (heap_state base lengths marks lates is_open) size a → ⊥
+too_long base lengths marks lates is_open size asked a holds long free = omega (arith, free.from, free.end, le-block_length size asked holds)
 
 -- The first such run is at the least place.
-pub IsPlace-from_run : (base : ℕ) (lengths : List ℕ) (marks : List Bool) (size p n unit : ℕ) → IsTable base lengths marks
-    → HasShape size n unit → IsFirstGap (base / 16) unit lengths p n → IsPlace (table_state base lengths marks) size (base + 16 * p)
-IsPlace-from_run base lengths marks size p n unit table has first =
+pub IsPlace-from_run : (base : ℕ) (lengths : List ℕ) (marks lates : List Bool) (is_open : Bool) (size p n unit : ℕ) → IsTable base lengths marks → AreLate lengths marks lates is_open
+    → HasShape size n unit → IsFirstGap (base / 16) unit lengths p n → IsPlace (heap_state base lengths marks lates is_open) size (base + 16 * p)
+IsPlace-from_run base lengths marks lates is_open size p n unit table are has first =
     record {
-      free = IsFree-from_run base lengths marks size p n unit table has first.run first.multiple;
+      free = IsFree-from_run base lengths marks lates is_open size p n unit table has first.run first.multiple;
       least = λ a free.
-          let le = first.least ((a - base) / 16) (IsGap-from_free base lengths marks size a n unit table has free)
-          (multiple-from_free base lengths marks size a n unit table has free) in
+          let le = first.least ((a - base) / 16) (IsGap-from_free base lengths marks lates is_open size a n unit table are has free)
+          (multiple-from_free base lengths marks lates is_open size a n unit table has free) in
           omega (arith, free.from);
     }

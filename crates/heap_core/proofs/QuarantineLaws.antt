@@ -1,15 +1,17 @@
 -- A block of a table that is given up: what it is, and the table once it is held.
-use Rattle.std.proofs.Common.{◌≡◌, ◌<◌, ◌+◌, ◌*◌, ◌-◌, ◌==◌, inl, inr, nat_lt, ◌&&◌, not, ℕ, zero, suc, Bool, true, false, List, [], ◌∷◌, length, get_or, set, length-set, refl, sym, ap, ◌∙◌, subst, arith}
-use Rattle.std.proofs.lemmas.Bool.{and_left, and_right, cases_Bool, cases_eq, eq-eqb, lt-ltb, ne_eqb, true≢false}
+use Rattle.std.proofs.Common.{◌≡◌, ◌<◌, ◌+◌, ◌*◌, ◌-◌, ◌==◌, inl, inr, nat_lt, ◌&&◌, ◌||◌, not, ℕ, zero, suc, Bool, true, false, List, [], ◌∷◌, length, get_or, set, length-set, refl, sym, ap, ◌∙◌, subst, arith}
+use Rattle.std.proofs.lemmas.Bool.{and_left, and_right, cases_Bool, cases_eq, eq-eqb, false_from_ne_true, lt-ltb, ne_eqb, true≢false}
 use Rattle.std.proofs.lemmas.List.{set-get_or}
 use Rattle.std.proofs.lemmas.List.Elements.{All-head, All-tail}
 use Rattle.std.specs.Prelude.{All}
 use Rattle.heap_core.specs.Blocks.{Span, blocks_with, blocks_without, bytes_in, has_bounds, is_block}
-use Rattle.heap_core.specs.Quarantine.{freed_of, with_held}
-use Rattle.heap_core.specs.Table.{IsBlockAt, IsTable, blocks_of, is_held, is_live, table_state}
+use Rattle.heap_core.specs.Consistent.{AreLate, either_mark, heap_state}
+use Rattle.heap_core.specs.Quarantine.{freed_of}
+use Rattle.heap_core.specs.Table.{IsBlockAt, IsTable, blocks_of, is_held, is_live}
 use Rattle.heap_core.specs.declared.block.Freed.TheVariants.{AlreadyHeld, Held, NotBlock}
 use Rattle.heap_core.proofs.BlockLaws.{All-blocks_of, blocks_of-set}
 use Rattle.heap_core.proofs.KeptLaws.{any-block, any-no_block}
+use Rattle.heap_core.proofs.LateLaws.{get_or-either, length-either}
 use Rattle.heap_core.proofs.SumLaws.{bytes_in-blocks_with, bytes_of_both}
 
 -- ---- which block has these bounds
@@ -51,20 +53,41 @@ is_no_block keeps base lengths marks start top none =
 
 -- ---- what is answered
 
-pub freed_of-none : (base : ℕ) (lengths : List ℕ) (marks : List Bool) (start top : ℕ) → ((k : ℕ) → IsBlockAt base lengths start top k → ⊥)
-    → freed_of (table_state base lengths marks) start top ≡ NotBlock
-freed_of-none base lengths marks start top none =
-    rw (is_no_block is_live base lengths marks start top none, is_no_block is_held base lengths marks start top none) refl
+pub freed_of-none : (base : ℕ) (lengths : List ℕ) (marks lates : List Bool) (is_open : Bool) (start top : ℕ) → ((k : ℕ) → IsBlockAt base lengths start top k → ⊥)
+    → freed_of (heap_state base lengths marks lates is_open) start top ≡ NotBlock
+freed_of-none base lengths marks lates true start top none =
+    rw (is_no_block is_live base lengths (either_mark marks lates) start top none, is_no_block is_held base lengths lates start top none, is_no_block is_held base lengths marks start top none) refl
+freed_of-none base lengths marks lates false start top none =
+    rw (is_no_block is_live base lengths (either_mark marks lates) start top none, is_no_block is_held base lengths marks start top none) refl
 
-pub freed_of-held : (base : ℕ) (lengths : List ℕ) (marks : List Bool) (start top k : ℕ) → length marks ≡ length lengths
-    → IsBlockAt base lengths start top k → get_or marks k false ≡ true → freed_of (table_state base lengths marks) start top ≡ AlreadyHeld
-freed_of-held base lengths marks start top k same at held =
-    rw (is_other_block is_live base lengths marks start top k at (ap not held), is_block_at is_held base lengths marks start top k same at held) refl
+-- A block that is due.
+pub freed_of-due : (base : ℕ) (lengths : List ℕ) (marks lates : List Bool) (is_open : Bool) (start top k : ℕ) → length marks ≡ length lengths → AreLate lengths marks lates is_open
+    → IsBlockAt base lengths start top k → get_or marks k false ≡ true → freed_of (heap_state base lengths marks lates is_open) start top ≡ AlreadyHeld
+freed_of-due base lengths marks lates true start top k same are at held =
+    let either : get_or (either_mark marks lates) k false ≡ true = get_or-either marks lates k (are.same ∙ sym same) ∙ ap (λ b. b || get_or lates k false) held in
+    let other : get_or lates k false ≡ false = false_from_ne_true (get_or lates k false) (λ late. true≢false (sym held ∙ are.apart k late)) in
+    rw (is_other_block is_live base lengths (either_mark marks lates) start top k at (ap not either), is_other_block is_held base lengths lates start top k at other, is_block_at is_held base lengths marks start top k same at held) refl
+freed_of-due base lengths marks lates false start top k same are at held =
+    let either : get_or (either_mark marks lates) k false ≡ true = get_or-either marks lates k (are.same ∙ sym same) ∙ ap (λ b. b || get_or lates k false) held in
+    rw (is_other_block is_live base lengths (either_mark marks lates) start top k at (ap not either), is_block_at is_held base lengths marks start top k same at held) refl
 
-pub freed_of-live : (base : ℕ) (lengths : List ℕ) (marks : List Bool) (start top k : ℕ) → length marks ≡ length lengths
-    → IsBlockAt base lengths start top k → get_or marks k false ≡ false → freed_of (table_state base lengths marks) start top ≡ Held
-freed_of-live base lengths marks start top k same at live =
-    rw (is_block_at is_live base lengths marks start top k same at (ap not live)) refl
+-- A late block.
+pub freed_of-late : (base : ℕ) (lengths : List ℕ) (marks lates : List Bool) (is_open : Bool) (start top k : ℕ) → length marks ≡ length lengths → AreLate lengths marks lates is_open
+    → IsBlockAt base lengths start top k → get_or lates k false ≡ true → freed_of (heap_state base lengths marks lates is_open) start top ≡ AlreadyHeld
+freed_of-late base lengths marks lates true start top k same are at late =
+    let either : get_or (either_mark marks lates) k false ≡ true = get_or-either marks lates k (are.same ∙ sym same) ∙ (λ i. are.apart k late i || late i) in
+    rw (is_other_block is_live base lengths (either_mark marks lates) start top k at (ap not either), is_block_at is_held base lengths lates start top k are.same at late) refl
+freed_of-late base lengths marks lates false start top k same are at late = absurd (true≢false (sym late ∙ are.closed refl k))
+
+-- The mark of a live block.
+pub live_mark : (lengths : List ℕ) (marks lates : List Bool) (is_open : Bool) (k : ℕ) → length marks ≡ length lengths → AreLate lengths marks lates is_open
+    → get_or marks k false ≡ false → get_or lates k false ≡ false → get_or (either_mark marks lates) k false ≡ false
+live_mark lengths marks lates is_open k same are not_due not_late = get_or-either marks lates k (are.same ∙ sym same) ∙ (λ i. not_due i || not_late i)
+
+pub freed_of-live : (base : ℕ) (lengths : List ℕ) (marks lates : List Bool) (is_open : Bool) (start top k : ℕ) → length marks ≡ length lengths → AreLate lengths marks lates is_open
+    → IsBlockAt base lengths start top k → get_or (either_mark marks lates) k false ≡ false → freed_of (heap_state base lengths marks lates is_open) start top ≡ Held
+freed_of-live base lengths marks lates is_open start top k same are at live =
+    rw (is_block_at is_live base lengths (either_mark marks lates) start top k (length-either marks lates ∙ same) at (ap not live)) refl
 
 -- ---- the table once the block is held
 
@@ -109,12 +132,6 @@ held_blocks-held base lengths marks start top k same at live =
     let more = blocks_of-set is_held base 0 lengths marks false k n start true at.within same (and_right (nat_lt 0 n) (get_or marks k false) live) at.some refl (omega (arith, at.start_is)) in
     subst (λ (xs : List ℕ). blocks_of is_held base 0 xs (set marks k true) ≡ blocks_with (start, top - start) (blocks_of is_held base 0 lengths marks))
     (set-get_or lengths k 0) (more ∙ ap (λ (x : ℕ). blocks_with (start, x) (blocks_of is_held base 0 lengths marks)) bytes)
-
-pub table_state-held : (base : ℕ) (lengths : List ℕ) (marks : List Bool) (start top k : ℕ) → length marks ≡ length lengths
-    → IsBlockAt base lengths start top k → get_or marks k false ≡ false
-    → table_state base lengths (set marks k true) ≡ with_held (table_state base lengths marks) start top
-table_state-held base lengths marks start top k same at live =
-    rw (live_blocks-held base 0 lengths marks start top k same at.within (omega (arith, at.start_is)) at.top_is at.some, held_blocks-held base lengths marks start top k same at live) refl
 
 pub IsTable-held : (base : ℕ) (lengths : List ℕ) (marks : List Bool) (k : ℕ) → IsTable base lengths marks → IsTable base lengths (set marks k true)
 IsTable-held base lengths marks k table = record {

@@ -4,7 +4,7 @@ use Rattle.std.proofs.lemmas.Bool.{cases_Bool, cases_eq, cases_lt, lt-ltb, ltb-t
 use Rattle.std.proofs.lemmas.Bool.Decides.{nat_tests}
 use Rattle.std.proofs.lemmas.List.{get_or-set_other, get_or-set_same}
 use Rattle.heap_core.specs.Blocks.{blocks_with}
-use Rattle.heap_core.specs.Table.{IsGap, IsTable, blocks_of, is_held, is_live, is_taken, table_state}
+use Rattle.heap_core.specs.Table.{IsGap, IsTable, blocks_of, is_held, is_live, is_taken}
 use Rattle.heap_core.proofs.BlockLaws.{blocks_of-set, blocks_of-set_other}
 
 -- ---- the granules taken
@@ -144,9 +144,3 @@ pub held_blocks-set : (base : ℕ) (lengths : List ℕ) (marks : List Bool) (p n
 held_blocks-set base lengths marks p n run =
     let none = run_is_empty lengths p n p run (omega arith) (omega (arith, run.some)) in
     blocks_of-set_other is_held base 0 lengths marks p n false none refl
-
-pub table_state-set : (base : ℕ) (lengths : List ℕ) (marks : List Bool) (p n : ℕ) → length marks ≡ length lengths → IsGap lengths p n
-    → table_state base (set lengths p n) (set marks p false)
-    ≡ record (table_state base lengths marks) { live = blocks_with (base + 16 * p, 16 * n) (blocks_of is_live base 0 lengths marks) }
-table_state-set base lengths marks p n same run =
-    rw (length-set lengths p n, live_blocks-set base lengths marks p n same run, held_blocks-set base lengths marks p n run) refl

@@ -1,7 +1,7 @@
 -- What keeps a heap sound, seen from its blocks alone.
-use Rattle.std.proofs.Common.{◌≡◌, ◌<◌, ◌≤◌, ◌-◌, ◌%◌, inl, inr, nat_lt, not, ℕ, zero, suc, Bool, true, List, [], ◌∷◌, arith}
+use Rattle.std.proofs.Common.{◌≡◌, ◌<◌, ◌≤◌, ◌-◌, ◌%◌, inl, inr, nat_lt, not, ℕ, zero, suc, Bool, true, List, [], ◌∷◌, refl, arith}
 use Rattle.std.proofs.Math.Nat.{le-max_left}
-use Rattle.std.proofs.lemmas.Bool.{cases_Bool, ltb-true}
+use Rattle.std.proofs.lemmas.Bool.{cases_Bool, ltb-true, true≢false}
 use Rattle.std.proofs.lemmas.Bool.Decides.{nat_tests}
 use Rattle.std.proofs.lemmas.List.Elements.{All-cons, All-contains, All-filter, All-head, All-nil, All-tail, All-weaker}
 use Rattle.std.proofs.lemmas.List.Kept.{AllPairs-cons, AllPairs-filter}
@@ -10,7 +10,7 @@ use Rattle.heap_core.specs.Blocks.{IsApart, IsBefore, Span, blocks_with, blocks_
 use Rattle.heap_core.specs.Heap.{HeapState, IsInside, IsSound}
 use Rattle.heap_core.specs.Laws.{Contains-block, has_bounds-is}
 use Rattle.heap_core.specs.Place.{IsFree, block_length, granule_size, with_live}
-use Rattle.heap_core.specs.Quarantine.{with_held, without_held}
+use Rattle.heap_core.specs.Quarantine.{with_epoch, with_waiting, without_epoch, without_waiting}
 use Rattle.heap_core.proofs.SizeLaws.{le-length_for, length_for_granules}
 
 -- ---- lists of blocks
@@ -66,26 +66,32 @@ IsInside-free s size a free =
     }
 
 -- Where a block lies in a heap doesn't hang on the heap's blocks.
-IsInside-blocks : (s : HeapState) (live held : List Span) (block : Span) → IsInside s block → IsInside (record s { live = live; held = held }) block
-IsInside-blocks s live held block inside =
-    record { start = inside.start; length = inside.length; some = inside.some; from = inside.from; end = inside.end }
+IsInside-blocks : (s new : HeapState) → new.base ≡ s.base → new.size ≡ s.size → (block : Span) → IsInside s block → IsInside new block
+IsInside-blocks s new base size block inside =
+    record { start = inside.start; length = inside.length; some = inside.some; from = omega (arith, inside.from, base); end = omega (arith, inside.end, base, size) }
 
 pub IsSound-live : (s : HeapState) (size a : ℕ) → IsSound s → IsFree s size a → IsSound (with_live s size a)
 IsSound-live s size a sound free =
     let block : Span = (a, block_length size) in
+    let new = with_live s size a in
     let inside = IsInside-free s size a free in
-    let still = IsInside-blocks s (blocks_with block s.live) s.held in
+    let still = IsInside-blocks s new refl refl in
     record {
       pages = sound.pages;
       bytes = sound.bytes;
       size = sound.size;
       place = sound.place;
-      live_inside = All-blocks_with (IsInside (with_live s size a)) block s.live (still block inside)
-          (All-weaker (IsInside s) (IsInside (with_live s size a)) still s.live sound.live_inside);
-      held_inside = All-weaker (IsInside s) (IsInside (with_live s size a)) still s.held sound.held_inside;
+      live_inside = All-blocks_with (IsInside new) block s.live (still block inside)
+          (All-weaker (IsInside s) (IsInside new) still s.live sound.live_inside);
+      waiting_inside = All-weaker (IsInside s) (IsInside new) still s.waiting sound.waiting_inside;
+      painted_inside = All-weaker (IsInside s) (IsInside new) still s.painted sound.painted_inside;
       live_order = AllPairs-blocks_with block s.live inside.some free.live sound.live_order;
-      held_order = sound.held_order;
-      apart = All-blocks_with (λ b. All (IsApart b) s.held) block s.live free.held sound.apart;
+      waiting_order = sound.waiting_order;
+      painted_order = sound.painted_order;
+      apart_waiting = All-blocks_with (λ b. All (IsApart b) s.waiting) block s.live free.waiting sound.apart_waiting;
+      apart_painted = All-blocks_with (λ b. All (IsApart b) s.painted) block s.live free.painted sound.apart_painted;
+      apart_held = sound.apart_held;
+      closed = sound.closed;
     }
 
 -- ---- a block held
@@ -109,39 +115,98 @@ apart-without base top (b ∷ blocks) order there =
           rw is (All-cons P b (blocks_without base top blocks) (inl before) (apart-without base top blocks tail later))
     ]
 
-pub IsSound-held : (s : HeapState) (base top : ℕ) → IsSound s → is_block s.live base top ≡ true → IsSound (with_held s base top)
-IsSound-held s base top sound there =
-    let new = with_held s base top in
+pub IsSound-waiting : (s : HeapState) (base top : ℕ) → IsSound s → is_block s.live base top ≡ true → IsSound (with_waiting s base top)
+IsSound-waiting s base top sound there =
+    let new = with_waiting s base top in
     let block : Span = (base, top - base) in
     let keeps : Span → Bool = λ b. not (has_bounds base top b) in
     let in_live = Contains-block base top s.live there in
     let inside = All-contains (IsInside s) s.live block sound.live_inside in_live in
-    let apart = All-contains (λ b. All (IsApart b) s.held) s.live block sound.apart in_live in
+    let apart = All-contains (λ b. All (IsApart b) s.waiting) s.live block sound.apart_waiting in_live in
+    let from_painted = All-contains (λ b. All (IsApart b) s.painted) s.live block sound.apart_painted in_live in
     let others = apart-without base top s.live sound.live_order there in
-    let still = IsInside-blocks s new.live new.held in
+    let still = IsInside-blocks s new refl refl in
     record {
       pages = sound.pages;
       bytes = sound.bytes;
       size = sound.size;
       place = sound.place;
       live_inside = All-filter keeps (IsInside new) s.live (All-weaker (IsInside s) (IsInside new) still s.live sound.live_inside);
-      held_inside = All-blocks_with (IsInside new) block s.held (still block inside) (All-weaker (IsInside s) (IsInside new) still s.held sound.held_inside);
+      waiting_inside = All-blocks_with (IsInside new) block s.waiting (still block inside) (All-weaker (IsInside s) (IsInside new) still s.waiting sound.waiting_inside);
+      painted_inside = All-weaker (IsInside s) (IsInside new) still s.painted sound.painted_inside;
       live_order = AllPairs-filter IsBefore keeps s.live sound.live_order;
-      held_order = AllPairs-blocks_with block s.held inside.some apart sound.held_order;
-      apart = λ k d within. All-blocks_with (IsApart _) block s.held (others k d within) (All-filter keeps (λ b. All (IsApart b) s.held) s.live sound.apart k d within);
+      waiting_order = AllPairs-blocks_with block s.waiting inside.some apart sound.waiting_order;
+      painted_order = sound.painted_order;
+      apart_waiting = λ k d within. All-blocks_with (IsApart _) block s.waiting (others k d within) (All-filter keeps (λ b. All (IsApart b) s.waiting) s.live sound.apart_waiting k d within);
+      apart_painted = All-filter keeps (λ b. All (IsApart b) s.painted) s.live sound.apart_painted;
+      apart_held = All-blocks_with (λ b. All (IsApart b) s.painted) block s.waiting from_painted sound.apart_held;
+      closed = sound.closed;
     }
 
--- ---- the held blocks given back
+-- ---- blocks given back, and epochs
 
-pub IsSound-free : (s : HeapState) → IsSound s → IsSound (without_held s)
-IsSound-free s sound = record {
-  pages = sound.pages;
-  bytes = sound.bytes;
-  size = sound.size;
-  place = sound.place;
-  live_inside = All-weaker (IsInside s) (IsInside (without_held s)) (IsInside-blocks s s.live []) s.live sound.live_inside;
-  held_inside = All-nil (IsInside (without_held s));
-  live_order = sound.live_order;
-  held_order = λ j k d less within. absurd (omega arith);
-  apart = All-weaker (λ b. All (IsApart b) s.held) (λ b. All (IsApart b) []) (λ b _. All-nil (IsApart b)) s.live sound.apart;
-}
+no_pairs : AllPairs IsBefore []
+no_pairs = λ j k d less within. absurd (omega arith)
+
+pub IsSound-free : (s : HeapState) → IsSound s → IsSound (without_waiting s)
+IsSound-free s sound =
+    let new = without_waiting s in
+    let still = IsInside-blocks s new refl refl in
+    record {
+      pages = sound.pages;
+      bytes = sound.bytes;
+      size = sound.size;
+      place = sound.place;
+      live_inside = All-weaker (IsInside s) (IsInside new) still s.live sound.live_inside;
+      waiting_inside = All-nil (IsInside new);
+      painted_inside = All-weaker (IsInside s) (IsInside new) still s.painted sound.painted_inside;
+      live_order = sound.live_order;
+      waiting_order = no_pairs;
+      painted_order = sound.painted_order;
+      apart_waiting = All-weaker (λ b. All (IsApart b) s.waiting) (λ b. All (IsApart b) []) (λ b _. All-nil (IsApart b)) s.live sound.apart_waiting;
+      apart_painted = sound.apart_painted;
+      apart_held = All-nil (λ b. All (IsApart b) s.painted);
+      closed = sound.closed;
+    }
+
+pub IsSound-begun : (s : HeapState) → IsSound s → IsSound (with_epoch s)
+IsSound-begun s sound =
+    let new = with_epoch s in
+    let still = IsInside-blocks s new refl refl in
+    record {
+      pages = sound.pages;
+      bytes = sound.bytes;
+      size = sound.size;
+      place = sound.place;
+      live_inside = All-weaker (IsInside s) (IsInside new) still s.live sound.live_inside;
+      waiting_inside = All-nil (IsInside new);
+      painted_inside = All-weaker (IsInside s) (IsInside new) still s.waiting sound.waiting_inside;
+      live_order = sound.live_order;
+      waiting_order = no_pairs;
+      painted_order = sound.waiting_order;
+      apart_waiting = All-weaker (λ b. All (IsApart b) s.waiting) (λ b. All (IsApart b) []) (λ b _. All-nil (IsApart b)) s.live sound.apart_waiting;
+      apart_painted = sound.apart_waiting;
+      apart_held = All-nil (λ b. All (IsApart b) s.waiting);
+      closed = λ e. absurd (true≢false e);
+    }
+
+pub IsSound-ended : (s : HeapState) → IsSound s → IsSound (without_epoch s)
+IsSound-ended s sound =
+    let new = without_epoch s in
+    let still = IsInside-blocks s new refl refl in
+    record {
+      pages = sound.pages;
+      bytes = sound.bytes;
+      size = sound.size;
+      place = sound.place;
+      live_inside = All-weaker (IsInside s) (IsInside new) still s.live sound.live_inside;
+      waiting_inside = All-weaker (IsInside s) (IsInside new) still s.waiting sound.waiting_inside;
+      painted_inside = All-nil (IsInside new);
+      live_order = sound.live_order;
+      waiting_order = sound.waiting_order;
+      painted_order = no_pairs;
+      apart_waiting = sound.apart_waiting;
+      apart_painted = All-weaker (λ b. All (IsApart b) s.painted) (λ b. All (IsApart b) []) (λ b _. All-nil (IsApart b)) s.live sound.apart_painted;
+      apart_held = All-weaker (λ b. All (IsApart b) s.painted) (λ b. All (IsApart b) []) (λ b _. All-nil (IsApart b)) s.waiting sound.apart_held;
+      closed = λ _. refl;
+    }

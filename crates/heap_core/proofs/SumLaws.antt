@@ -5,7 +5,7 @@ use Rattle.std.proofs.lemmas.List.Sums.{sum_by-cons}
 use Rattle.heap_core.specs.Blocks.{Span, blocks_with, bytes_in, length_of, start_of}
 use Rattle.heap_core.specs.Table.{IsTable, blocks_of, is_held, is_live}
 
-bytes_in-cons : (block : Span) (blocks : List Span) → bytes_in (block ∷ blocks) ≡ length_of block + bytes_in blocks
+pub bytes_in-cons : (block : Span) (blocks : List Span) → bytes_in (block ∷ blocks) ≡ length_of block + bytes_in blocks
 bytes_in-cons block blocks = sum_by-cons length_of block blocks
 
 pub bytes_in-blocks_with : (block : Span) (blocks : List Span) → bytes_in (blocks_with block blocks) ≡ length_of block + bytes_in blocks
@@ -55,7 +55,7 @@ sum_fits taken (n ∷ lengths) none inside apart le =
     (omega arith) in
     omega (arith, sum_by-cons (λ x. x) n lengths)
 
--- So do those of live and of held blocks together.
+-- So do those of blocks with a mark and without together.
 pub granules_fit : (base : ℕ) (lengths : List ℕ) (marks : List Bool) (live held : ℕ) → IsTable base lengths marks
     → 16 * live ≡ bytes_in (blocks_of is_live base 0 lengths marks) → 16 * held ≡ bytes_in (blocks_of is_held base 0 lengths marks)
     → live + held ≤ length lengths

@@ -1,11 +1,14 @@
 -- What the crates above need of blocks: what a test of an address and one of bounds say, of one block and
--- of a list.
+-- of a list; and which blocks are due.
 use Rattle.std.proofs.Common.{◌≡◌, ◌<◌, ◌≤◌, ◌-◌, ◌==◌, ℕ, true, false, List, subst, arith}
 use Rattle.std.specs.List.{Contains}
 use Rattle.std.proofs.lemmas.Bool.{and_parts, eqb-true}
 use Rattle.std.proofs.lemmas.Bool.Decides.{nat_tests}
 use Rattle.std.proofs.lemmas.List.Folds.{Any-from_list_any}
+use Rattle.std.specs.Prelude.{All, Bool, refl, if◌then◌else◌}
 use Rattle.heap_core.specs.Blocks.{Span, end_of, has_address, has_bounds, is_block, start_of}
+use Rattle.heap_core.specs.Heap.{HeapState, IsInside, IsSound, due}
+use Rattle.heap_core.specs.Quarantine.{without_due, without_epoch, without_waiting}
 
 -- An address within a block, before it and after it.
 pub has_address-within : (a : ℕ) (block : Span) → start_of block ≤ a → a < end_of block → has_address a block ≡ true
@@ -33,3 +36,31 @@ pub Contains-block : (base top : ℕ) (blocks : List Span) → is_block blocks b
 Contains-block base top blocks is =
     let found = Any-from_list_any (has_bounds base top) blocks is in
     subst (Contains blocks) (the_block base top found.1 found.4) (found.0, found.2, found.3)
+
+-- ---- which blocks are due
+
+-- In an open epoch those that are painted, and else those that wait.
+pub due-open : (s : HeapState) → s.is_open ≡ true → due s ≡ s.painted
+unfolding due
+due-open s is = rw is refl
+
+pub due-closed : (s : HeapState) → s.is_open ≡ false → due s ≡ s.waiting
+unfolding due
+due-closed s is = rw is refl
+
+-- And so once these are free.
+pub without_due-open : (s : HeapState) → s.is_open ≡ true → without_due s ≡ without_epoch s
+unfolding without_due
+without_due-open s is = rw is refl
+
+pub without_due-closed : (s : HeapState) → s.is_open ≡ false → without_due s ≡ without_waiting s
+unfolding without_due
+without_due-closed s is = rw is refl
+
+-- They lie inside the heap.
+pub due-inside : (s : HeapState) → IsSound s → All (IsInside s) (due s)
+unfolding due
+due-inside s sound = either (All (IsInside s)) s.is_open sound.painted_inside sound.waiting_inside where
+  either : (P : List Span → Type 0) (b : Bool) → P s.painted → P s.waiting → P (if b then s.painted else s.waiting)
+  either P true p q = p
+  either P false p q = q

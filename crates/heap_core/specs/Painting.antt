@@ -4,7 +4,7 @@ use Rattle.std.specs.Prelude.{◌≡◌, ◌+◌, ◌-◌, ◌*◌, ℕ, Bool, t
 use Rattle.mark_board.specs.Bits.{Within, has}
 use Rattle.mark_board.specs.Board.{BoardState, IsOf, IsSeat, SeatState}
 use Rattle.heap_core.specs.Blocks.{Span, lies_in}
-use Rattle.heap_core.specs.Heap.{HeapState}
+use Rattle.heap_core.specs.Heap.{HeapState, due}
 
 -- Through a seat the granules that pass a test are painted, and no others: it has seen all of them set, and has set
 -- none but them.
@@ -16,10 +16,10 @@ pub record IsPainted (test : ℕ → Bool) (board : BoardState) (old new : SeatS
   pub seen : (k : ℕ) → test k ≡ true → has new.seen k ≡ 1
   pub mine : (k : ℕ) → test k ≡ false → has new.mine k ≡ has old.mine k
 
--- The held blocks `first` to `last - 1`, by rising start.
-abbrev pub held_blocks : HeapState → ℕ → ℕ → List Span
-held_blocks s first last = take (last - first) (drop first s.held)
+-- The blocks that are due, number `first` to `last - 1`, by rising start.
+abbrev pub due_blocks : HeapState → ℕ → ℕ → List Span
+due_blocks s first last = take (last - first) (drop first (due s))
 
 -- Granule k lies in one of them.
-abbrev pub is_in_held : HeapState → ℕ → ℕ → ℕ → Bool
-is_in_held s first last k = lies_in (held_blocks s first last) (s.base + 16 * k)
+abbrev pub is_in_due : HeapState → ℕ → ℕ → ℕ → Bool
+is_in_due s first last k = lies_in (due_blocks s first last) (s.base + 16 * k)

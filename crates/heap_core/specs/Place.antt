@@ -25,7 +25,8 @@ pub record IsFree (s : HeapState) (size a : ℕ) : Type 0 where
   pub from : s.base ≤ a
   pub end : a + block_length size ≤ s.base + s.size
   pub live : All (IsApart (a, block_length size)) s.live
-  pub held : All (IsApart (a, block_length size)) s.held
+  pub waiting : All (IsApart (a, block_length size)) s.waiting
+  pub painted : All (IsApart (a, block_length size)) s.painted
 
 -- a is the least address at which it may start.
 pub record IsPlace (s : HeapState) (size a : ℕ) : Type 0 where

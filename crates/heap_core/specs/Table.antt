@@ -1,8 +1,8 @@
 -- A heap as a table, which has for each granule the length in granules of the block that starts there,
--- or 0, and a mark that says whether that block is held.
+-- or 0, and a mark that says whether that block is held. (Those that are held in an open epoch alone, since it began,
+-- have marks apart from it: `Consistent.antt`.)
 use Rattle.std.specs.Prelude.{◌≡◌, ◌<◌, ◌≤◌, ◌+◌, ◌*◌, ◌%◌, nat_lt, ◌&&◌, ◌||◌, not, if◌then◌else◌, ℕ, zero, suc, Bool, true, false, List, [], ◌∷◌, ◌++◌, count_by, length, slice_index, slice_index_or, take}
 use Rattle.heap_core.specs.Blocks.{Span}
-use Rattle.heap_core.specs.Heap.{HeapState}
 use Rattle.tag_memory.specs.Span.{is_base, is_size}
 
 -- The table of a heap.
@@ -25,15 +25,6 @@ is_live mark = not mark
 -- The test that the marks of held blocks pass.
 abbrev pub is_held : Bool → Bool
 is_held mark = mark
-
--- What a caller sees of a table.
-abbrev pub table_state : ℕ → List ℕ → List Bool → HeapState
-table_state base lengths marks = record {
-  base = base;
-  size = 16 * length lengths;
-  live = blocks_of is_live base 0 lengths marks;
-  held = blocks_of is_held base 0 lengths marks;
-}
 
 -- Granule k lies in a block.
 abbrev pub is_taken : ℕ → List ℕ → Bool

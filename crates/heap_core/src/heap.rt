@@ -4,6 +4,7 @@ ghost use Rattle.std.specs.Prelude.{◌≡◌, ◌↔◌, ◌≤◌, ◌+◌, �
 ghost use Rattle.cap_codec.specs.Rounding.{IsExact};
 ghost use Rattle.heap_core.specs.Blocks.{bytes_in};
 ghost use Rattle.heap_core.specs.Heap.{IsSound, empty_heap};
+ghost use Rattle.heap_core.specs.Heap as heap;
 ghost use Rattle.heap_core.specs.Place.{IfOkSome, IsFree, IsPlace, block_length, with_live};
 ghost use Rattle.tag_memory.specs.Span as span;
 
@@ -15,18 +16,23 @@ use crate::fault::HeapFault;
 use crate::table::Table;
 use std::alloc::Global;
 use std::marker::Model;
-use tag_memory::{GRANULE, PAGE_GRANULES, is_base, is_size};
+use tag_memory::{GRANULE, PAGE_GRANULES, WORD_GRANULES, is_base, is_size};
 
-/// The live and the held blocks of one heap.
+/// The live and the held blocks of one heap, of which the latter wait or are painted. Blocks that are due are those
+/// that the next pass of a revoker is about: in an open epoch the painted ones, and else those that wait.
 #[derive(Drop)]
 pub struct Heap {
     base: u64,
-    // The blocks, and which are held.
+    // The blocks, of which those that are due are held.
     table: Table,
-    // How many granules lie in live blocks.
+    // At which granules a late block starts, which was given up in the open epoch: bits in words of 64.
+    late: Vec<u64>,
+    // Whether an epoch is open.
+    is_open: bool,
+    // How many granules lie in live blocks, in those that are due, and in late ones.
     live_granules: u32,
-    // How many granules lie in held blocks.
     held_granules: u32,
+    late_granules: u32,
 }
 
 impl Model for Heap {
@@ -69,12 +75,17 @@ impl Heap {
         ensures memory { IsOkUnless result HeapFault.Memory }
         ensures empty { IfOk result (λ heap. heap ≡ empty_heap base pages) }
     {
-        let table = Table::new(alloc, (PAGE_GRANULES * pages) as usize)?;
+        let granules = (PAGE_GRANULES * pages) as usize;
+        let table = Table::new(alloc, granules)?;
+        let late = vec![in alloc; 0; granules / WORD_GRANULES]?;
         Ok(Heap {
             base,
             table,
+            late,
+            is_open: false,
             live_granules: 0,
             held_granules: 0,
+            late_granules: 0,
         })
     }
 
@@ -115,20 +126,23 @@ impl Heap {
         GRANULE * u64::from(self.live_granules)
     }
 
-    /// The bytes of the held blocks.
+    /// The bytes of the held blocks, of those that wait and the painted ones.
     pub fn held_bytes(&self) -> u64
-        ensures { result ≡ bytes_in self.now.held }
+        ensures value { result ≡ heap.held_bytes self.now }
+        // What holds of every heap.
+        ensures sound { IsSound self.now }
     {
-        GRANULE * u64::from(self.held_granules)
+        GRANULE * (u64::from(self.held_granules) + u64::from(self.late_granules))
     }
 
     /// The bytes of the heap that lie in no block.
     pub fn free_bytes(&self) -> u64
-        ensures rest { bytes_in self.now.live + bytes_in self.now.held + result ≡ self.now.size }
+        ensures rest { bytes_in self.now.live + heap.held_bytes self.now + result ≡ self.now.size }
         // What holds of every heap.
         ensures sound { IsSound self.now }
     {
         let granules = self.table.granules() as u64;
-        GRANULE * (granules - u64::from(self.live_granules) - u64::from(self.held_granules))
+        let held = u64::from(self.held_granules) + u64::from(self.late_granules);
+        GRANULE * (granules - u64::from(self.live_granules) - held)
     }
 }

@@ -1,10 +1,11 @@
 //! The blocks of a heap, by the granules at which they start.
 
-ghost use Rattle.std.specs.Prelude.{◌≡◌, ◌<◌, ◌≤◌, ◌+◌, ◌*◌, ◌%◌, ◌^◌, ◌&&◌, ℕ, IfOk, IfSome, false, length, replicate, slice_index, slice_index_or, slice_set, true};
+ghost use Rattle.std.specs.Prelude.{◌≡◌, ◌≢◌, ◌<◌, ◌≤◌, ◌+◌, ◌*◌, ◌/◌, ◌%◌, ◌^◌, ◌&&◌, ℕ, IfOk, IfSome, false, length, replicate, slice_index, slice_index_or, slice_set, true};
 ghost use Rattle.granule_rows.specs.Runs.{is_within};
 ghost use Rattle.heap_core.specs.Painting.{IsPainted};
 ghost use Rattle.heap_core.specs.Table.{AreBlocks, IsBlockAt, IsFirstGap, IsGap, IsHeldStart, held_count, is_held, is_live, is_taken, kept_lengths};
 ghost use Rattle.mark_board.specs.Board.{IsOf};
+ghost use Rattle.tag_memory.specs.Tags.{is_set, is_set_for};
 
 use crate::block::Shape;
 use crate::painting::paint_row;
@@ -14,7 +15,7 @@ use granule_rows::{count_both, place_of_both, row_bit};
 use mark_board::{Board, MarkSeat};
 use std::alloc::{AllocError, Global};
 use std::marker::Model;
-use tag_memory::GRANULE;
+use tag_memory::{GRANULE, WORD_GRANULES, bit};
 
 /// The blocks over the granules of one heap, and which of them are held.
 #[derive(Drop)]
@@ -134,6 +135,48 @@ impl Table {
     {
         let granules = self.length_at(granule);
         self.rows.hold(granule, granules as usize);
+    }
+
+    /// Makes those live blocks held at whose first granules these bits are 1. No block is held before.
+    pub fn hold_starts(&mut self, starts: &[u64])
+        requires bits { 64 * length starts.now ≡ length self.old.lengths }
+        requires limit { length self.old.lengths ≤ 2 ^ 18 }
+        requires same { length self.old.marks ≡ length self.old.lengths }
+        requires none { (k : ℕ) → slice_index_or self.old.marks k false ≡ false }
+        requires blocks { (k : ℕ) → is_set_for starts.now k ≡ true → 0 < slice_index self.old.lengths k }
+        requires end { (j : ℕ) → j < length self.old.lengths → j + slice_index self.old.lengths j ≤ length self.old.lengths }
+        requires apart { (j k : ℕ) → j < k → 0 < slice_index self.old.lengths k → j + slice_index self.old.lengths j ≤ k }
+        ensures lengths { self.new.lengths ≡ self.old.lengths }
+        ensures count { length self.new.marks ≡ length self.old.marks }
+        ensures marks { (k : ℕ) → slice_index_or self.new.marks k false ≡ is_set_for starts.now k }
+    {
+        for w in 0..starts.len() {
+            self.hold_word(w, starts[w]);
+        }
+    }
+
+    // Makes those held at whose first granules the bits of one word are 1.
+    fn hold_word(&mut self, w: usize, word: u64)
+        requires word { 64 * w + 64 ≤ length self.old.lengths }
+        requires limit { length self.old.lengths ≤ 2 ^ 18 }
+        requires same { length self.old.marks ≡ length self.old.lengths }
+        requires none { (j : ℕ) → j < 64 → slice_index_or self.old.marks (64 * w + j) false ≡ false }
+        requires blocks { (j : ℕ) → j < 64 → is_set word j ≡ true → 0 < slice_index self.old.lengths (64 * w + j) }
+        requires end { (j : ℕ) → j < length self.old.lengths → j + slice_index self.old.lengths j ≤ length self.old.lengths }
+        requires apart { (j k : ℕ) → j < k → 0 < slice_index self.old.lengths k → j + slice_index self.old.lengths j ≤ k }
+        ensures lengths { self.new.lengths ≡ self.old.lengths }
+        ensures count { length self.new.marks ≡ length self.old.marks }
+        ensures here { (j : ℕ) → j < 64 → slice_index_or self.new.marks (64 * w + j) false ≡ is_set word j }
+        ensures rest { (k : ℕ) → k / 64 ≢ w → slice_index_or self.new.marks k false ≡ slice_index_or self.old.marks k false }
+    {
+        if word == 0 {
+            return;
+        }
+        for j in 0..WORD_GRANULES {
+            if bit(word, j) {
+                self.hold(WORD_GRANULES * w + j);
+            }
+        }
     }
 
     /// Takes the held blocks away.

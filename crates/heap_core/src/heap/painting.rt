@@ -1,8 +1,8 @@
 //! The shadow painted by several threads, on a board with a bit for each granule.
 
 ghost use Rattle.std.specs.Prelude.{◌≡◌, ◌≤◌, ◌*◌, ◌^◌, length};
-ghost use Rattle.heap_core.specs.Heap.{IsSound};
-ghost use Rattle.heap_core.specs.Painting.{IsPainted, is_in_held};
+ghost use Rattle.heap_core.specs.Heap.{IsSound, due};
+ghost use Rattle.heap_core.specs.Painting.{IsPainted, is_in_due};
 ghost use Rattle.mark_board.specs.Board.{IsOf};
 
 use crate::heap::Heap;
@@ -18,16 +18,16 @@ impl Heap {
         self.table.granules()
     }
 
-    /// How many held blocks there are.
+    /// How many blocks are due: in an open epoch the painted ones, and else those that wait.
     pub fn held_blocks(&self) -> usize
-        ensures count { result ≡ length self.now.held }
+        ensures count { result ≡ length (due self.now) }
         // A block has a granule at least.
         ensures limit { result ≤ 2 ^ 18 }
     {
         self.table.held_blocks()
     }
 
-    /// Marks the granules of the held blocks number `first` to `last - 1`, counted by rising start, on a board
+    /// Marks the granules of the blocks that are due, number `first` to `last - 1` by rising start, on a board
     /// that has a bit for each granule of the heap: afterwards the seat has seen them all, and has set no
     /// others first. A mark takes 64 granules at once, and shares that overlap do no harm (Filardo et al. 2020,
     /// Cornucopia: the shadow bitmap is painted by several threads).
@@ -35,8 +35,8 @@ impl Heap {
         requires board { IsOf board.now seat.old }
         requires granules { 16 * board.now.bits ≡ self.now.size }
         requires order { first ≤ last }
-        requires blocks { last ≤ length self.now.held }
-        ensures { IsPainted (is_in_held self.now first last) board.now seat.old seat.new }
+        requires blocks { last ≤ length (due self.now) }
+        ensures { IsPainted (is_in_due self.now first last) board.now seat.old seat.new }
     {
         let from = self.table.held_start(first);
         let to = self.table.held_start(last);

@@ -1,25 +1,27 @@
 //! Blocks that are given up, and wait until their bytes may be used again.
 
-ghost use Rattle.std.specs.Prelude.{◌≡◌, ◌↔◌, ◌+◌, ℕ, IfErr, IfOk, IfSome, IsOk, None, true};
+ghost use Rattle.std.specs.Prelude.{◌≡◌, ◌↔◌, ◌+◌, ℕ, IfErr, IfOk, IfSome, IsOk, None, [], false, true};
 ghost use Rattle.cap_codec.specs.Rounding.{IsExact};
 ghost use Rattle.heap_core.specs.Blocks.{bytes_in};
-ghost use Rattle.heap_core.specs.Heap.{IsSound};
+ghost use Rattle.heap_core.specs.Heap.{IsSound, due};
 ghost use Rattle.heap_core.specs.Place.{IsFree, IsPlace, block_length, with_live};
-ghost use Rattle.heap_core.specs.Quarantine.{IsShadow, freed_of, with_held, without_held};
+ghost use Rattle.heap_core.specs.Quarantine.{IsShadow, freed_of, with_epoch, with_waiting, without_due, without_epoch, without_waiting};
 
 use crate::block::{Block, Freed};
 use crate::fault::HeapFault;
 use crate::heap::Heap;
 use crate::shadow::Shadow;
+use granule_rows::{row_bit, set_run};
 use std::alloc::Global;
+use tag_memory::GRANULE;
 
 impl Heap {
-    /// Gives up the live block with exactly these bounds: it becomes held, and its bytes stay in use
+    /// Gives up the live block with exactly these bounds: it waits from then on, and its bytes stay in use
     /// until they are given back. It never errs.
     pub fn release(&mut self, base: u64, top: u128) -> Result<Freed, HeapFault>
         // Bits are turned, which needs no memory.
         ensures answer { result ≡ Ok (freed_of self.old base top) }
-        ensures held { result ≡ Ok Freed.Held → self.new ≡ with_held self.old base top }
+        ensures held { result ≡ Ok Freed.Held → self.new ≡ with_waiting self.old base top }
         ensures unchanged { ¬ (result ≡ Ok Freed.Held) → self.new ≡ self.old }
         ensures sound { IsSound self.new }
     {
@@ -29,14 +31,41 @@ impl Heap {
         if self.table.is_held_at(start) {
             return Ok(Freed::AlreadyHeld);
         }
+        if row_bit(&self.late, start) {
+            return Ok(Freed::AlreadyHeld);
+        }
         let granules = self.table.length_at(start);
-        self.table.hold(start);
         self.live_granules -= granules;
-        self.held_granules += granules;
+        if self.is_open {
+            set_run(&mut self.late, start, start + 1);
+            self.late_granules += granules;
+        } else {
+            self.table.hold(start);
+            self.held_granules += granules;
+        }
         Ok(Freed::Held)
     }
 
-    /// Which granules lie in held blocks now.
+    /// Whether an epoch of revocation is open.
+    pub fn is_open(&self) -> bool
+        ensures value { result ≡ self.now.is_open }
+        // What holds of every heap.
+        ensures sound { IsSound self.now }
+    {
+        self.is_open
+    }
+
+    /// Begins an epoch (Filardo et al. 2020, Cornucopia): all blocks that wait are painted, and blocks that are given
+    /// up from then on wait for the next one.
+    pub fn begin_epoch(&mut self)
+        requires { self.old.is_open ≡ false }
+        ensures begun { self.new ≡ with_epoch self.old }
+        ensures sound { IsSound self.new }
+    {
+        self.is_open = true;
+    }
+
+    /// Which granules lie in blocks that are due now.
     pub fn shadow(&self, alloc: Global) -> Result<Shadow, HeapFault>
         ensures memory { IfErr result (λ fault. fault ≡ HeapFault.Memory) }
         ensures shadow { IfOk result (λ shadow. IsShadow self.now shadow) }
@@ -62,35 +91,62 @@ impl Heap {
         true
     }
 
-    /// Makes the held blocks free, and answers their bytes.
+    /// Makes the blocks that are due free, and answers their bytes. An open epoch has ended then.
     pub fn give_back(&mut self) -> u64
-        ensures bytes { result ≡ bytes_in self.old.held }
-        ensures free { self.new ≡ without_held self.old }
+        ensures bytes { result ≡ bytes_in (due self.old) }
+        ensures free { self.new ≡ without_due self.old }
         ensures sound { IsSound self.new }
     {
-        let bytes = self.held_bytes();
-        self.table.drop_held();
-        self.held_granules = 0;
+        let bytes = GRANULE * u64::from(self.held_granules);
+        if self.is_open {
+            self.end_epoch();
+        } else {
+            self.drop_waiting();
+        }
         bytes
     }
 
-    /// Makes the held blocks free, and then a block of `size` bytes live, at the least place for it. It
+    // Makes the painted blocks free and ends the epoch: the late blocks are due then.
+    fn end_epoch(&mut self)
+        requires { self.old.is_open ≡ true }
+        ensures { self.new ≡ without_epoch self.old }
+    {
+        self.table.drop_held();
+        self.table.hold_starts(&self.late);
+        self.late.fill(0);
+        self.held_granules = self.late_granules;
+        self.late_granules = 0;
+        self.is_open = false;
+    }
+
+    // Makes the blocks that wait free.
+    fn drop_waiting(&mut self)
+        requires { self.old.is_open ≡ false }
+        ensures { self.new ≡ without_waiting self.old }
+    {
+        self.table.drop_held();
+        self.held_granules = 0;
+    }
+
+    /// Makes the blocks that wait free, and then a block of `size` bytes live, at the least place for it. It
     /// answers the block, or `None` where it has no place, and the bytes given back. It never errs.
     pub fn give_back_and_reserve(&mut self, size: u64) -> Result<(Option<Block>, u64), HeapFault>
+        requires { self.old.is_open ≡ false }
         // As `reserve`, it needs no memory.
         ensures ok { IsOk result }
-        ensures bytes { IfOk result (λ done. done.1 ≡ bytes_in self.old.held) }
+        ensures bytes { IfOk result (λ done. done.1 ≡ bytes_in self.old.waiting) }
 
-        ensures none { IfOk result (λ done. (done.0 ≡ None) ↔ ((a : ℕ) → ¬ IsFree (without_held self.old) size a)) }
-        ensures free { IfOk result (λ done. done.0 ≡ None → self.new ≡ without_held self.old) }
+        ensures none { IfOk result (λ done. (done.0 ≡ None) ↔ ((a : ℕ) → ¬ IsFree (without_waiting self.old) size a)) }
+        ensures free { IfOk result (λ done. done.0 ≡ None → self.new ≡ without_waiting self.old) }
 
-        ensures place { IfOk result (λ done. IfSome done.0 (λ block. IsPlace (without_held self.old) size block.base)) }
+        ensures place { IfOk result (λ done. IfSome done.0 (λ block. IsPlace (without_waiting self.old) size block.base)) }
         ensures top { IfOk result (λ done. IfSome done.0 (λ block. block.top ≡ block.base + block_length size)) }
         ensures exact { IfOk result (λ done. IfSome done.0 (λ block. IsExact block.base block.top)) }
-        ensures live { IfOk result (λ done. IfSome done.0 (λ block. self.new ≡ with_live (without_held self.old) size block.base)) }
+        ensures live { IfOk result (λ done. IfSome done.0 (λ block. self.new ≡ with_live (without_waiting self.old) size block.base)) }
         ensures sound { IsSound self.new }
     {
-        let bytes = self.give_back();
+        let bytes = GRANULE * u64::from(self.held_granules);
+        self.drop_waiting();
         let found = self.reserve(size)?;
         Ok((found, bytes))
     }

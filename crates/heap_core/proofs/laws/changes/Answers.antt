@@ -2,17 +2,23 @@ use Rattle.std.proofs.Common.{◌≤◌, ◌<◌, ◌+◌, ◌^◌, arith}
 use Rattle.heap_core.specs.Place.{block_length, granule_size}
 use Rattle.heap_core.proofs.SizeLaws.{le-length_for}
 use Rattle.heap_core.proofs.SpanLaws.{LiesWithin-span}
-use Rattle.heap_core.proofs.StateLaws.{IsSound-free, IsSound-held, IsSound-live}
+use Rattle.heap_core.proofs.StateLaws.{IsSound-begun, IsSound-ended, IsSound-free, IsSound-live, IsSound-waiting}
 use Rattle.heap_core.proofs.laws.changes.Goals as goal
 
 pub returns-clause-live : goal.returns-clause-live
 returns-clause-live c = λ s size a sound free. IsSound-live s size a sound free
 
-pub returns-clause-held : goal.returns-clause-held
-returns-clause-held c = λ s base top sound there. IsSound-held s base top sound there
+pub returns-clause-waiting : goal.returns-clause-waiting
+returns-clause-waiting c = λ s base top sound there. IsSound-waiting s base top sound there
 
 pub returns-clause-free : goal.returns-clause-free
 returns-clause-free c = λ s sound. IsSound-free s sound
+
+pub returns-clause-begun : goal.returns-clause-begun
+returns-clause-begun c = λ s sound. IsSound-begun s sound
+
+pub returns-clause-ended : goal.returns-clause-ended
+returns-clause-ended c = λ s sound. IsSound-ended s sound
 
 pub returns-clause-exact : goal.returns-clause-exact
 returns-clause-exact c = λ s size a sound free.

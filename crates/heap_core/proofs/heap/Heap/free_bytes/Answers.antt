@@ -1,18 +1,27 @@
 use Rattle.std.proofs.Common.{arith}
 use Rattle.heap_core.proofs.SoundLaws.{IsSound-from_table}
-use Rattle.heap_core.proofs.SumLaws.{granules_fit}
+use Rattle.heap_core.specs.Shadow.{bits_of}
+use Rattle.heap_core.proofs.HeapLaws.{granules_of_all, held_bytes-state}
 use Rattle.heap_core.proofs.heap.Heap.free_bytes.Goals as goal
 
 pub overflow_sub-result : goal.overflow_sub-result
-overflow_sub-result c = let h = c.self.invariant in omega (arith, granules_fit _ _ _ _ _ h.table h.live h.held)
+overflow_sub-result c = let h = c.self.invariant in omega (arith, granules_of_all _ _ _ _ _ _ _ _ h.table h.lates h.live h.held h.late)
 
 pub overflow_sub-result-2 : goal.overflow_sub-result-2
-overflow_sub-result-2 c = let h = c.self.invariant in omega (arith, granules_fit _ _ _ _ _ h.table h.live h.held)
+overflow_sub-result-2 c = let h = c.self.invariant in omega (arith, granules_of_all _ _ _ _ _ _ _ _ h.table h.lates h.live h.held h.late)
 
 pub returns-clause-rest : goal.returns-clause-rest
 returns-clause-rest c =
     let h = c.self.invariant in
-    rw (← c.self.view_is) (omega (arith, granules_fit _ _ _ _ _ h.table h.live h.held, h.live, h.held))
+    let inside = c.self.inside in
+    rw (← c.self.view_is) (omega (
+      arith,
+      granules_of_all _ _ _ _ _ _ _ _ h.table h.lates h.live h.held h.late,
+      h.live,
+      h.held,
+      h.late,
+      held_bytes-state inside.base inside.table.lengths inside.table.marks (bits_of inside.late.items) inside.is_open h.lates,
+    ))
 
 pub returns-clause-sound : goal.returns-clause-sound
-returns-clause-sound c = rw (← c.self.view_is) (IsSound-from_table _ _ _ c.self.invariant.table)
+returns-clause-sound c = rw (← c.self.view_is) (IsSound-from_table _ _ _ _ _ c.self.invariant.table c.self.invariant.lates)

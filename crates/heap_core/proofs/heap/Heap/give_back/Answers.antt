@@ -1,24 +1,38 @@
-use Rattle.std.proofs.Common.{refl}
-use Rattle.heap_core.proofs.KeptLaws.{IsTable-kept, held_blocks-kept, live_blocks-kept, table_state-kept}
+use Rattle.std.proofs.Common.{◌≡◌, ◌∙◌, ap, false, sym, true, arith}
+use Rattle.heap_core.specs.Blocks.{Span, bytes_in}
+use Rattle.heap_core.specs.Heap.{HeapState, IsSound, due}
+use Rattle.heap_core.specs.Laws.{without_due-closed, without_due-open}
+use Rattle.heap_core.specs.Shadow.{bits_of}
+use Rattle.heap_core.proofs.ShadowLaws.{due-heap_state}
 use Rattle.heap_core.proofs.SoundLaws.{IsSound-from_table}
+use Rattle.heap_core.proofs.StateLaws.{IsSound-ended, IsSound-free}
 use Rattle.heap_core.proofs.heap.Heap.give_back.Goals as goal
 
-pub invariant_of-self : goal.invariant_of-self
-invariant_of-self c =
-    let h = c.self.invariant in
-    let dropped = c.drop_held.ensures in
-    record {
-      table = rw (dropped.lengths, dropped.marks) (IsTable-kept _ _ _ h.table);
-      live = rw (dropped.lengths, dropped.marks, live_blocks-kept c.self.inside.base 0 c.self.inside.table.lengths c.self.inside.table.marks h.table.same) h.live;
-      held = rw (dropped.lengths, dropped.marks, held_blocks-kept c.self.inside.base 0 c.self.inside.table.lengths c.self.inside.table.marks h.table.same) refl;
-    }
+pub returns-then-self-clause-bytes : goal.returns-then-self-clause-bytes
+returns-then-self-clause-bytes c =
+    let inside = c.self.inside in
+    rw (← c.self.view_is, due-heap_state) (omega (arith, c.self.invariant.held, c.from-bytes.ensures))
 
-pub returns-clause-free : goal.returns-clause-free
-returns-clause-free c =
-    let dropped = c.drop_held.ensures in
-    rw (← c.self.view_is, dropped.lengths, dropped.marks) (table_state-kept _ _ _ c.self.invariant.table.same)
+pub returns-then-self-clause-free : goal.returns-then-self-clause-free
+returns-then-self-clause-free c =
+    let opened : c.args.self.now.is_open ≡ true = ap (λ (s : HeapState). s.is_open) (sym c.self.view_is) ∙ c.if-self.true in
+    c.end_epoch.ensures ∙ sym (without_due-open c.args.self.now opened)
 
-pub returns-clause-sound : goal.returns-clause-sound
-returns-clause-sound c =
-    let dropped = c.drop_held.ensures in
-    rw (dropped.lengths, dropped.marks) (IsSound-from_table _ _ _ (IsTable-kept _ _ _ c.self.invariant.table))
+pub returns-then-self-clause-sound : goal.returns-then-self-clause-sound
+returns-then-self-clause-sound c =
+    let sound : IsSound c.args.self.now = rw (← c.self.view_is) (IsSound-from_table _ _ _ _ _ c.self.invariant.table c.self.invariant.lates) in
+    rw c.end_epoch.ensures (IsSound-ended c.args.self.now sound)
+
+pub returns-else-self-clause-bytes : goal.returns-else-self-clause-bytes
+returns-else-self-clause-bytes c =
+    rw (← c.self.view_is, due-heap_state) (omega (arith, c.self.invariant.held, c.from-bytes.ensures))
+
+pub returns-else-self-clause-free : goal.returns-else-self-clause-free
+returns-else-self-clause-free c =
+    let closed : c.args.self.now.is_open ≡ false = ap (λ (s : HeapState). s.is_open) (sym c.self.view_is) ∙ c.if-self.false in
+    c.drop_waiting.ensures ∙ sym (without_due-closed c.args.self.now closed)
+
+pub returns-else-self-clause-sound : goal.returns-else-self-clause-sound
+returns-else-self-clause-sound c =
+    let sound : IsSound c.args.self.now = rw (← c.self.view_is) (IsSound-from_table _ _ _ _ _ c.self.invariant.table c.self.invariant.lates) in
+    rw c.drop_waiting.ensures (IsSound-free c.args.self.now sound)

@@ -1,13 +1,14 @@
-use Rattle.std.proofs.Common.{◌∙◌, arith, sym}
+use Rattle.std.proofs.Common.{◌∙◌, ap, arith, length, sym}
 use Rattle.std.proofs.lemmas.List.Sums.{count_by-le-length}
 use Rattle.heap_core.specs.Table.{is_held}
 use Rattle.heap_core.proofs.NthLaws.{length-blocks}
+use Rattle.heap_core.proofs.ShadowLaws.{due-heap_state}
 use Rattle.heap_core.proofs.SpanLaws.{LiesWithin-table}
 use Rattle.heap_core.proofs.heap.Heap.held_blocks.Goals as goal
 
 pub returns-clause-count : goal.returns-clause-count
 returns-clause-count c =
-    rw (← c.self.view_is) (c.held_blocks.ensures.count ∙ sym (length-blocks _ 0 _ _ c.self.invariant.table.same c.held_blocks.ensures.some))
+    rw (← c.self.view_is) (c.held_blocks.ensures.count ∙ sym (ap length (due-heap_state _ _ _ _ _) ∙ length-blocks _ 0 _ _ c.self.invariant.table.same c.held_blocks.ensures.some))
 
 pub returns-clause-limit : goal.returns-clause-limit
 returns-clause-limit c =

@@ -1,7 +1,8 @@
 use Rattle.std.proofs.Common.{◌≤◌, arith}
 use Rattle.heap_core.specs.Table.{held_count}
-use Rattle.heap_core.proofs.NthLaws.{in_held, length-blocks}
+use Rattle.heap_core.proofs.NthLaws.{in_due, length-blocks}
 use Rattle.heap_core.proofs.PaintLaws.{painted-by}
+use Rattle.heap_core.proofs.ShadowLaws.{due-heap_state}
 use Rattle.heap_core.proofs.heap.Heap.paint.Goals as goal
 
 pub paint_held-requires-clause-within : goal.paint_held-requires-clause-within
@@ -9,7 +10,7 @@ paint_held-requires-clause-within c =
     let h = c.self.inside in
     let table = c.self.invariant.table in
     let blocks = c.requires.blocks in
-    let last : c.args.last ≤ held_count h.table.marks = omega (arith, rw (← c.self.view_is) at blocks, length-blocks h.base 0 h.table.lengths h.table.marks table.same c.held_start-to.ensures.some) in
+    let last : c.args.last ≤ held_count h.table.marks = omega (arith, rw (← c.self.view_is, due-heap_state) at blocks, length-blocks h.base 0 h.table.lengths h.table.marks table.same c.held_start-to.ensures.some) in
     let to = c.held_start-to.ensures.start last in
     to.within
 
@@ -19,8 +20,8 @@ returns c =
     let table = c.self.invariant.table in
     let blocks = c.requires.blocks in
     let some = c.held_start-from.ensures.some in
-    let last : c.args.last ≤ held_count h.table.marks = omega (arith, rw (← c.self.view_is) at blocks, length-blocks h.base 0 h.table.lengths h.table.marks table.same some) in
+    let last : c.args.last ≤ held_count h.table.marks = omega (arith, rw (← c.self.view_is, due-heap_state) at blocks, length-blocks h.base 0 h.table.lengths h.table.marks table.same some) in
     let from = c.held_start-from.ensures.start (omega (arith, last, c.requires.order)) in
     let to = c.held_start-to.ensures.start last in
     rw (← c.self.view_is) (painted-by _ _ c.args.board.now c.args.seat.now c.paint_held.new.seat
-    (in_held h.base h.table.lengths h.table.marks c.args.first c.args.last c.held_start-from.result c.held_start-to.result table some c.requires.order from to) c.paint_held.ensures)
+    (in_due h.base h.table.lengths h.table.marks _ _ c.args.first c.args.last c.held_start-from.result c.held_start-to.result table some c.requires.order from to) c.paint_held.ensures)

@@ -1,23 +1,27 @@
 use Rattle.std.proofs.Common.{◌≡◌, ◌≤◌, ◌+◌, ◌*◌, ◌%◌, ◌^◌, refl, subst, arith}
 use Rattle.cap_codec.specs.Rounding.{IsExact, length_for, unit_for}
 use Rattle.heap_core.specs.Blocks.{Span}
+use Rattle.heap_core.specs.Consistent.{either_mark}
 use Rattle.heap_core.specs.Heap.{IsSound}
+use Rattle.heap_core.specs.Shadow.{bits_of}
 use Rattle.heap_core.specs.Table.{blocks_of, is_live}
+use Rattle.heap_core.proofs.HeapLaws.{granules_of_all, heap_state-set, late_blocks-set, live_blocks-put}
+use Rattle.heap_core.proofs.LateLaws.{AreLate-put}
 use Rattle.heap_core.proofs.PlaceLaws.{IsPlace-from_run, IsGap-from_free, multiple-from_free, too_long}
-use Rattle.heap_core.proofs.RunLaws.{IsTable-set, held_blocks-set, live_blocks-set, table_state-set}
+use Rattle.heap_core.proofs.RunLaws.{IsTable-set, held_blocks-set}
 use Rattle.heap_core.proofs.SizeLaws.{HasShape-shape}
 use Rattle.heap_core.proofs.SoundLaws.{IsSound-from_table}
 use Rattle.heap_core.proofs.SpanLaws.{LiesWithin-span, LiesWithin-table}
-use Rattle.heap_core.proofs.SumLaws.{bytes_in-blocks_with, granules_fit}
+use Rattle.heap_core.proofs.SumLaws.{bytes_in-blocks_with}
 use Rattle.heap_core.proofs.heap.Heap.reserve.Goals as goal
 
 pub returns-then-asked-granules-clause-none : goal.returns-then-asked-granules-clause-none
 returns-then-asked-granules-clause-none c =
     let long = c.if-asked-granules.true in
-    (λ _ a free. too_long _ _ _ _ _ a c.granules_for-asked.ensures (omega arith) (rw (← c.self.view_is) at free), λ _. refl)
+    (λ _ a free. too_long _ _ _ _ _ _ _ a c.granules_for-asked.ensures (omega arith) (rw (← c.self.view_is) at free), λ _. refl)
 
 pub returns-then-asked-granules-clause-sound : goal.returns-then-asked-granules-clause-sound
-returns-then-asked-granules-clause-sound c = rw (← c.self.view_is) (IsSound-from_table _ _ _ c.self.invariant.table)
+returns-then-asked-granules-clause-sound c = rw (← c.self.view_is) (IsSound-from_table _ _ _ _ _ c.self.invariant.table c.self.invariant.lates)
 
 pub returns-in_default-clause-none : goal.returns-in_default-clause-none
 returns-in_default-clause-none c =
@@ -26,18 +30,18 @@ returns-in_default-clause-none c =
     let has = HasShape-shape c.args.size _ _ _ c.granules_for-asked.ensures shape.ensures.some shape.ensures.granules shape.ensures.unit in (
       λ _ a given.
           let free = rw (← c.self.view_is) at given in
-          c.put.ensures.none c.in_default.is _ (IsGap-from_free _ _ _ _ a _ _ h.table has free) (multiple-from_free _ _ _ _ a _ _ h.table has free),
+          c.put.ensures.none c.in_default.is _ (IsGap-from_free _ _ _ _ _ _ a _ _ h.table h.lates has free) (multiple-from_free _ _ _ _ _ _ a _ _ h.table has free),
       λ _. refl,
     )
 
 pub returns-in_default-clause-sound : goal.returns-in_default-clause-sound
-returns-in_default-clause-sound c = rw (c.put.ensures.unchanged c.in_default.is) (IsSound-from_table _ _ _ c.self.invariant.table)
+returns-in_default-clause-sound c = rw (c.put.ensures.unchanged c.in_default.is) (IsSound-from_table _ _ _ _ _ c.self.invariant.table c.self.invariant.lates)
 
 pub overflow_add-self : goal.overflow_add-self
 overflow_add-self c =
     let h = c.self.invariant in
     let run = c.in-Some.ensures.first.run in
-    omega (arith, granules_fit _ _ _ _ _ h.table h.live h.held, run.end, h.table.count, (LiesWithin-table _ _ _ h.table).limit)
+    omega (arith, granules_of_all _ _ _ _ _ _ _ _ h.table h.lates h.live h.held h.late, run.end, h.table.count, (LiesWithin-table _ _ _ h.table).limit)
 
 pub invariant_of-self-2 : goal.invariant_of-self-2
 invariant_of-self-2 c =
@@ -46,18 +50,20 @@ invariant_of-self-2 c =
     let n = c.shape_for-shape.result.granules in
     let run = put.first.run in
     let block : Span = (c.self.inside.base + 16 * c.in-Some.start, 16 * n) in
-    let live = blocks_of is_live c.self.inside.base 0 c.self.inside.table.lengths c.self.inside.table.marks in
+    let live = blocks_of is_live c.self.inside.base 0 c.self.inside.table.lengths (either_mark c.self.inside.table.marks (bits_of c.self.inside.late.items)) in
     record {
       table = rw (put.lengths, put.marks) (IsTable-set _ _ _ c.in-Some.start n h.table run);
-      live = rw (put.lengths, put.marks, live_blocks-set _ _ _ c.in-Some.start n h.table.same run) (omega (arith, bytes_in-blocks_with block live, h.live));
+      lates = rw (put.lengths, put.marks) (AreLate-put _ _ _ _ c.in-Some.start n h.lates run);
+      live = rw (put.lengths, put.marks, live_blocks-put _ _ _ _ _ c.in-Some.start n h.table.same h.lates run) (omega (arith, bytes_in-blocks_with block live, h.live));
       held = rw (put.lengths, put.marks, held_blocks-set _ _ _ c.in-Some.start n run) h.held;
+      late = rw (put.lengths, late_blocks-set _ _ _ _ _ c.in-Some.start n h.lates run) h.late;
     }
 
 pub returns-clause-place : goal.returns-clause-place
 returns-clause-place c =
     let shape = c.shape_for-shape in
     let has = HasShape-shape c.args.size _ _ _ c.granules_for-asked.ensures shape.ensures.some shape.ensures.granules shape.ensures.unit in
-    rw (← c.self.view_is) (IsPlace-from_run _ _ _ _ _ _ _ c.self.invariant.table has c.in-Some.ensures.first)
+    rw (← c.self.view_is) (IsPlace-from_run _ _ _ _ _ _ _ _ _ c.self.invariant.table c.self.invariant.lates has c.in-Some.ensures.first)
 
 pub returns-clause-none : goal.returns-clause-none
 returns-clause-none c = (λ e. cc, λ none. absurd (none _ (returns-clause-place c).free))
@@ -68,18 +74,18 @@ returns-clause-live c =
     let shape = c.shape_for-shape in
     let has = HasShape-shape c.args.size _ _ _ c.granules_for-asked.ensures shape.ensures.some shape.ensures.granules shape.ensures.unit in
     rw (← c.self.view_is, has.length, put.lengths, put.marks)
-    (table_state-set _ _ _ c.in-Some.start _ c.self.invariant.table.same put.first.run)
+    (heap_state-set _ _ _ _ _ c.in-Some.start _ c.self.invariant.table.same c.self.invariant.lates put.first.run)
 
 pub returns-clause-sound : goal.returns-clause-sound
 returns-clause-sound c =
     let put = c.in-Some.ensures in
-    rw (put.lengths, put.marks) (IsSound-from_table _ _ _ (IsTable-set _ _ _ c.in-Some.start _ c.self.invariant.table put.first.run))
+    rw (put.lengths, put.marks) (IsSound-from_table _ _ _ _ _ (IsTable-set _ _ _ c.in-Some.start _ c.self.invariant.table put.first.run) (AreLate-put _ _ _ _ c.in-Some.start _ c.self.invariant.lates put.first.run))
 
 pub returns-clause-exact : goal.returns-clause-exact
 returns-clause-exact c =
     let free = (returns-clause-place c).free in
     let shape = c.shape_for-shape.ensures in
-    let sound : IsSound c.args.self.now = rw (← c.self.view_is) (IsSound-from_table _ _ _ c.self.invariant.table) in
+    let sound : IsSound c.args.self.now = rw (← c.self.view_is) (IsSound-from_table _ _ _ _ _ c.self.invariant.table c.self.invariant.lates) in
     let within = LiesWithin-span c.args.self.now.base sound.pages sound.size sound.place in
     let base = c.self.inside.base + 16 * c.in-Some.start in
     let length = length_for (16 * c.granules_for-asked.result) in
