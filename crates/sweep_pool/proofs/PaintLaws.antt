@@ -9,28 +9,28 @@ use Rattle.std.proofs.Math.Nat.{div-le_of_le-mul, div-mul-le_self}
 use Rattle.std.proofs.lemmas.Nat.{le-div, mul-le}
 use Rattle.std.proofs.lemmas.Nat.Bits.{bit_at-lt}
 use Rattle.heap_core.specs.Blocks.{Span, end_of, has_address, lies_in, start_of}
-use Rattle.heap_core.specs.Heap.{HeapState, IsInside, IsSound}
-use Rattle.heap_core.specs.Laws.{has_address-after, has_address-before, has_address-within}
-use Rattle.heap_core.specs.Painting.{IsPainted, is_in_held}
+use Rattle.heap_core.specs.Heap.{HeapState, IsInside, IsSound, due}
+use Rattle.heap_core.specs.Laws.{due-inside, has_address-after, has_address-before, has_address-within}
+use Rattle.heap_core.specs.Painting.{IsPainted, is_in_due}
 use Rattle.heap_core.specs.Quarantine.{IsShadow}
 use Rattle.mark_board.specs.Bits.{has, united}
 use Rattle.mark_board.specs.Board.{BoardState, IsOf, IsSeat, SeatState, no_bits, word_count}
 use Rattle.mark_board.specs.Laws.{bit-none, bit-united}
-use Rattle.sweep_pool.specs.Painting.{EachAt, HasGranules, HasPainted, is_held_at, share_start}
+use Rattle.sweep_pool.specs.Painting.{EachAt, HasGranules, HasPainted, is_due_at, share_start}
 use Rattle.tag_memory.specs.Tags.{is_set_for}
 
 -- ---- blocks by their numbers
 
 -- A granule in blocks a to c is in a to b, or in b to c.
-pub in_held-split : (s : HeapState) (a b c k : ℕ) → a ≤ b → b ≤ c → is_in_held s a c k ≡ (is_in_held s a b k || is_in_held s b c k)
-in_held-split s a b c k low high =
-    let from_a : List Span = drop a s.held in
+pub in_due-split : (s : HeapState) (a b c k : ℕ) → a ≤ b → b ≤ c → is_in_due s a c k ≡ (is_in_due s a b k || is_in_due s b c k)
+in_due-split s a b c k low high =
+    let from_a : List Span = drop a (due s) in
     let test : Span → Bool = has_address (s.base + 16 * k) in
     let whole : (b - a) + (c - b) ≡ c - a = omega (arith, low, high) in
     let at : a + (b - a) ≡ b = omega (arith, low) in
     let first : take (b - a) (take (c - a) from_a) ≡ take (b - a) from_a = take-take (b - a) (c - a) from_a (omega (arith, high)) in
-    let second : drop (b - a) (take (c - a) from_a) ≡ take (c - b) (drop b s.held) =
-    ap (λ (n : ℕ). drop (b - a) (take n from_a)) (sym whole) ∙ (drop-take (b - a) (c - b) from_a ∙ ap (take (c - b)) (drop-drop (b - a) a s.held ∙ ap (λ (n : ℕ). drop n s.held) at)) in
+    let second : drop (b - a) (take (c - a) from_a) ≡ take (c - b) (drop b (due s)) =
+    ap (λ (n : ℕ). drop (b - a) (take n from_a)) (sym whole) ∙ (drop-take (b - a) (c - b) from_a ∙ ap (take (c - b)) (drop-drop (b - a) a (due s) ∙ ap (λ (n : ℕ). drop n (due s)) at)) in
     let both = list_any-append test (take (b - a) (take (c - a) from_a)) (drop (b - a) (take (c - a) from_a)) in
     ap (list_any test) (sym (take-append-drop (b - a) (take (c - a) from_a))) ∙ (both ∙ (λ i. list_any test (first i) || list_any test (second i)))
 
@@ -56,18 +56,18 @@ painted-join s board a b c whole one both low high all more of sound mine seen =
       let limit = bit_at-lt (get_or both.seen (k / 64) 0) (k % 64) in
       let set = bit-united whole.seen one.seen (k / 64) (k % 64) in
       let at = ap (λ (set : List ℕ). has set k) seen in
-      elim (or_cases (is_in_held s a b k) (is_in_held s b c k) (sym (in_held-split s a b c k low high) ∙ is)) [
+      elim (or_cases (is_in_due s a b k) (is_in_due s b c k) (sym (in_due-split s a b c k low high) ∙ is)) [
         | inl here ↦ omega (arith, at, set, more.seen k here, limit)
         | inr there ↦ omega (arith, at, set, all.seen k there, limit)
       ];
 }
 
 -- A granule in some held blocks lies in a held block.
-pub in_held-any : (s : HeapState) (a b k : ℕ) → is_held_at s k ≡ false → is_in_held s a b k ≡ false
-in_held-any s a b k free =
+pub in_due-any : (s : HeapState) (a b k : ℕ) → is_due_at s k ≡ false → is_in_due s a b k ≡ false
+in_due-any s a b k free =
     let test : Span → Bool = has_address (s.base + 16 * k) in
-    let rest : list_any test (drop a s.held) ≡ false = later test (take a s.held) (drop a s.held) (ap (list_any test) (take-append-drop a s.held) ∙ free) in
-    earlier test (take (b - a) (drop a s.held)) (drop (b - a) (drop a s.held)) (ap (list_any test) (take-append-drop (b - a) (drop a s.held)) ∙ rest)
+    let rest : list_any test (drop a (due s)) ≡ false = later test (take a (due s)) (drop a (due s)) (ap (list_any test) (take-append-drop a (due s)) ∙ free) in
+    earlier test (take (b - a) (drop a (due s))) (drop (b - a) (drop a (due s))) (ap (list_any test) (take-append-drop (b - a) (drop a (due s))) ∙ rest)
 
 -- More blocks painted are painted too.
 pub painted-narrower : (s : HeapState) (board : BoardState) (a b c d : ℕ) (seat : SeatState) → a ≤ b → b ≤ c → c ≤ d → HasPainted s board a d seat → HasPainted s board b c seat
@@ -76,16 +76,16 @@ painted-narrower s board a b c d seat low order high all = record {
   sound = all.sound;
   mine = all.mine;
   seen = λ k is.
-      let from_b : is_in_held s b d k ≡ true = in_held-split s b c d k order high ∙ or_left (is_in_held s b c k) (is_in_held s c d k) is in
-      all.seen k (in_held-split s a b d k low (omega (arith, order, high)) ∙ or_right (is_in_held s a b k) (is_in_held s b d k) from_b);
+      let from_b : is_in_due s b d k ≡ true = in_due-split s b c d k order high ∙ or_left (is_in_due s b c k) (is_in_due s c d k) is in
+      all.seen k (in_due-split s a b d k low (omega (arith, order, high)) ∙ or_right (is_in_due s a b k) (is_in_due s b d k) from_b);
 }
 
 -- What a worker leaves.
-pub painted-share : (s : HeapState) (board : BoardState) (a b : ℕ) (old new : SeatState) → old.mine ≡ no_bits board → IsSeat old → IsPainted (is_in_held s a b) board old new → HasPainted s board a b new
+pub painted-share : (s : HeapState) (board : BoardState) (a b : ℕ) (old new : SeatState) → old.mine ≡ no_bits board → IsSeat old → IsPainted (is_in_due s a b) board old new → HasPainted s board a b new
 painted-share s board a b old new none sound p = record {
   of = p.of;
   sound = p.sound sound;
-  mine = λ k free. p.mine k (in_held-any s a b k free) ∙ (ap (λ (set : List ℕ). has set k) none ∙ bit-none _ (k / 64) (k % 64));
+  mine = λ k free. p.mine k (in_due-any s a b k free) ∙ (ap (λ (set : List ℕ). has set k) none ∙ bit-none _ (k / 64) (k % 64));
   seen = p.seen;
 }
 
@@ -116,28 +116,28 @@ same_granules s a k (block ∷ blocks) base inside low high =
     λ i. here i || rest i
 
 -- Words of which each bit says whether its granule lies in a held block are the shadow.
-pub shadow-from_words : (s : HeapState) (shadow : List Bool) → IsSound s → 16 * length shadow ≡ s.size → ((k : ℕ) → k < length shadow → get_or shadow k false ≡ is_held_at s k) → IsShadow s shadow
+pub shadow-from_words : (s : HeapState) (shadow : List Bool) → IsSound s → 16 * length shadow ≡ s.size → ((k : ℕ) → k < length shadow → get_or shadow k false ≡ is_due_at s k) → IsShadow s shadow
 shadow-from_words s shadow sound long each =
     let base : s.base % 16 ≡ 0 = base_whole s sound in
     record {
       granules = long;
       painted = λ a from before.
           let k : ℕ = (a - s.base) / 16 in
-          each ((a - s.base) / 16) (omega (arith, from, before, long)) ∙ sym (same_granules s a ((a - s.base) / 16) s.held base sound.held_inside (omega (arith, from)) (omega (arith, from)));
+          each ((a - s.base) / 16) (omega (arith, from, before, long)) ∙ sym (same_granules s a ((a - s.base) / 16) (due s) base (due-inside s sound) (omega (arith, from)) (omega (arith, from)));
     }
 
 -- What one seat has painted in the end says it of each granule.
-pub words-held : (s : HeapState) (board : BoardState) (seat : SeatState) (words : List ℕ) → HasPainted s board 0 (length s.held) seat → words ≡ seat.mine → words ≡ seat.seen → (k : ℕ) → is_set_for words k ≡ is_held_at s k
-words-held s board seat words p mine seen k = elim (cases_Bool (is_held_at s k)) [
+pub words-held : (s : HeapState) (board : BoardState) (seat : SeatState) (words : List ℕ) → HasPainted s board 0 (length (due s)) seat → words ≡ seat.mine → words ≡ seat.seen → (k : ℕ) → is_set_for words k ≡ is_due_at s k
+words-held s board seat words p mine seen k = elim (cases_Bool (is_due_at s k)) [
   | inl is ↦
-      let none : length s.held - 0 ≡ length s.held = omega arith in
-      let all : is_in_held s 0 (length s.held) k ≡ true = ap (λ (n : ℕ). lies_in_at s k (take n s.held)) none ∙ (ap (lies_in_at s k) (take_all (length s.held) s.held (omega arith)) ∙ is) in
+      let none : length (due s) - 0 ≡ length (due s) = omega arith in
+      let all : is_in_due s 0 (length (due s)) k ≡ true = ap (λ (n : ℕ). lies_in_at s k (take n (due s))) none ∙ (ap (lies_in_at s k) (take_all (length (due s)) (due s) (omega arith)) ∙ is) in
       ap (λ (bit : ℕ). bit == 1) (ap (λ (set : List ℕ). has set k) seen ∙ p.seen k all) ∙ sym is
   | inr free ↦ ap (λ (bit : ℕ). bit == 1) (ap (λ (set : List ℕ). has set k) mine ∙ p.mine k free) ∙ sym free
 ]
 
 -- There is a word for 64 granules.
-pub words-long : (s : HeapState) (board : BoardState) (seat : SeatState) (words : List ℕ) (granules : ℕ) → IsSound s → HasGranules s board → HasPainted s board 0 (length s.held) seat → words ≡ seat.mine → 16 * granules ≡ s.size → 64 * length words ≡ granules
+pub words-long : (s : HeapState) (board : BoardState) (seat : SeatState) (words : List ℕ) (granules : ℕ) → IsSound s → HasGranules s board → HasPainted s board 0 (length (due s)) seat → words ≡ seat.mine → 16 * granules ≡ s.size → 64 * length words ≡ granules
 words-long s board seat words granules sound bits p mine size =
     let width : length words ≡ word_count board = ap length mine ∙ (p.sound.mine_width ∙ ap word_count p.of) in
     omega (arith, width, bits, size, sound.bytes)

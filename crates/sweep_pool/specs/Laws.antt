@@ -1,5 +1,5 @@
 -- What callers of this crate need of tasks, and of masks by a heap's shadow.
-use Rattle.std.proofs.Common.{◌≡◌, ◌∙◌, ◌<◌, ◌≤◌, ◌+◌, ◌-◌, ◌*◌, ◌/◌, ◌^◌, ◌==◌, ◌&&◌, ℕ, Bool, false, inl, inr, List, length, get_or, refl, sym, ap, arith}
+use Rattle.std.proofs.Common.{◌≡◌, ◌∙◌, ◌<◌, ◌≤◌, ◌+◌, ◌-◌, ◌*◌, ◌/◌, ◌^◌, ◌==◌, ◌&&◌, ℕ, Bool, false, true, inl, inr, List, length, get_or, refl, sym, ap, arith}
 use Rattle.std.specs.Prelude.{◌⊎◌}
 use Rattle.std.proofs.Math.Decide.{dec_lt}
 use Rattle.std.proofs.lemmas.Bool.{cases_lt, le-leb, lt-leb}
@@ -14,13 +14,13 @@ use Rattle.tag_memory.specs.Laws.{is_set_for-at}
 use mathlib.Core.Logic.{dite}
 use Rattle.cap_codec.specs.Words.{base_of}
 use Rattle.heap_core.specs.Blocks.{Span, has_address, lies_in}
-use Rattle.heap_core.specs.Laws.{has_address-after, has_address-before}
-use Rattle.heap_core.specs.Heap.{HeapState, IsInside, IsSound}
+use Rattle.heap_core.specs.Laws.{due-inside, has_address-after, has_address-before}
+use Rattle.heap_core.specs.Heap.{HeapState, IsInside, IsSound, due}
 use Rattle.heap_core.specs.Quarantine.{IsShadow}
-use Rattle.sweep_pool.specs.Sweep.{AreBits, AreMasks, ArePageMasks, IsShadowOf, TakePageTags, TakeTags, is_hit, is_painted, takes_tag}
+use Rattle.sweep_pool.specs.Sweep.{AreBits, AreDirtyMasks, AreInDirtyPages, AreMasks, ArePageMasks, IsShadowOf, TakePageTags, TakeTags, is_hit, is_hit_at, is_painted, takes_tag}
 use Rattle.sweep_pool.specs.Tasks.{Cut, IsTask, IsTaskCount}
-use Rattle.tag_memory.specs.Cells.{Cell, MemoryState, cell_of}
-use Rattle.tag_memory.specs.Span.{page_words}
+use Rattle.tag_memory.specs.Cells.{Cell, MemoryState, cell_of, is_dirty_at}
+use Rattle.tag_memory.specs.Span.{page_granules, page_words}
 
 -- ---- tasks
 
@@ -42,13 +42,13 @@ has_address-outside heap a block inside (inl below) = has_address-before a block
 has_address-outside heap a block inside (inr above) = has_address-after a block (omega (arith, above, inside.end))
 
 -- No address outside the heap lies in a held block.
-lies_in-outside : (heap : HeapState) (a : ℕ) → IsSound heap → (a < heap.base) ⊎ (heap.base + heap.size ≤ a) → lies_in heap.held a ≡ false
+lies_in-outside : (heap : HeapState) (a : ℕ) → IsSound heap → (a < heap.base) ⊎ (heap.base + heap.size ≤ a) → lies_in (due heap) a ≡ false
 lies_in-outside heap a sound outside =
-    list_any_none (has_address a) heap.held
-    (All-weaker (IsInside heap) (λ block. has_address a block ≡ false) (λ block inside. has_address-outside heap a block inside outside) heap.held sound.held_inside)
+    list_any_none (has_address a) (due heap)
+    (All-weaker (IsInside heap) (λ block. has_address a block ≡ false) (λ block inside. has_address-outside heap a block inside outside) (due heap) (due-inside heap sound))
 
 -- So an address lies in a held block exactly where the shadow of the heap is painted there.
-pub is_painted-held : (heap : HeapState) (shadow : List Bool) (a : ℕ) → IsSound heap → IsShadow heap shadow → is_painted shadow heap.base a ≡ lies_in heap.held a
+pub is_painted-held : (heap : HeapState) (shadow : List Bool) (a : ℕ) → IsSound heap → IsShadow heap shadow → is_painted shadow heap.base a ≡ lies_in (due heap) a
 is_painted-held heap shadow a sound is =
     elim (cases_lt a heap.base) [
       | inl below ↦ rw (lt-leb heap.base a below, lies_in-outside heap a sound (inl below)) refl
@@ -61,7 +61,7 @@ is_painted-held heap shadow a sound is =
     ]
 
 -- What is hit is what the sweep takes.
-pub is_hit-takes_tag : (heap : HeapState) (base : ℕ) (shadow : List Bool) (c : Cell) → IsShadowOf heap base shadow → is_hit shadow base c ≡ takes_tag heap.held c
+pub is_hit-takes_tag : (heap : HeapState) (base : ℕ) (shadow : List Bool) (c : Cell) → IsShadowOf heap base shadow → is_hit shadow base c ≡ takes_tag (due heap) c
 is_hit-takes_tag heap base shadow c of =
     ap (λ (b : ℕ). is_hit shadow b c) (sym of.start) ∙ ap (λ (b : Bool). c.1 && b) (is_painted-held heap shadow (base_of c.0) of.sound of.painted)
 
@@ -89,10 +89,21 @@ pub AreBits-words : (test : ℕ → Bool) (pages : ℕ) (masks : List ℕ) → A
 AreBits-words test pages masks are = let n = are.count in omega arith
 
 -- So masks by the shadow are those of the tags that the sweep takes.
-pub TakeTags-masks : (heap : HeapState) (m : MemoryState) (shadow : List Bool) (masks : List ℕ) → IsShadowOf heap m.base shadow → AreMasks m shadow masks → TakeTags m heap.held masks
+pub TakeTags-masks : (heap : HeapState) (m : MemoryState) (shadow : List Bool) (masks : List ℕ) → IsShadowOf heap m.base shadow → AreMasks m shadow masks → TakeTags m (due heap) masks
 TakeTags-masks heap m shadow masks of =
     AreBits-same _ _ _ masks (λ i. is_hit-takes_tag heap m.base shadow (cell_of (get_or m.cells i (0, false))) of)
 
-pub TakePageTags-masks : (heap : HeapState) (m : MemoryState) (shadow : List Bool) (from end : ℕ) (masks : List ℕ) → IsShadowOf heap m.base shadow → ArePageMasks m shadow from end masks → TakePageTags m heap.held from end masks
+-- And masks of dirty pages alone, where every granule whose tag the sweep takes stands in one.
+pub TakeTags-dirty : (heap : HeapState) (m : MemoryState) (shadow : List Bool) (masks : List ℕ) → IsShadowOf heap m.base shadow → AreInDirtyPages m.cells m.dirty (due heap)
+    → AreDirtyMasks m shadow masks → TakeTags m (due heap) masks
+TakeTags-dirty heap m shadow masks of stand =
+    AreBits-same _ _ _ masks (λ i.
+    let taken = is_hit-takes_tag heap m.base shadow (cell_of (get_or m.cells i (0, false))) of in
+    all_where (is_hit_at m shadow i) (is_dirty_at m.dirty (i / page_granules)) (λ hit. stand i (sym taken ∙ hit)) ∙ taken) where
+      all_where : (hit dirty : Bool) → (hit ≡ true → dirty ≡ true) → (hit && dirty) ≡ hit
+      all_where true dirty is = is refl
+      all_where false dirty is = refl
+
+pub TakePageTags-masks : (heap : HeapState) (m : MemoryState) (shadow : List Bool) (from end : ℕ) (masks : List ℕ) → IsShadowOf heap m.base shadow → ArePageMasks m shadow from end masks → TakePageTags m (due heap) from end masks
 TakePageTags-masks heap m shadow from end masks of =
     AreBits-same _ _ _ masks (λ i. is_hit-takes_tag heap m.base shadow (cell_of (get_or m.cells (256 * from + i) (0, false))) of)

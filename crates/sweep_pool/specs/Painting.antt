@@ -1,8 +1,8 @@
 -- A shadow that several workers paint: the held blocks are cut into shares, one a worker.
 use Rattle.std.specs.Prelude.{◌≡◌, ◌<◌, ◌+◌, ◌*◌, ◌/◌, ℕ, Bool, List, true, false, length, slice_index_or}
 use Rattle.heap_core.specs.Blocks.{lies_in}
-use Rattle.heap_core.specs.Heap.{HeapState}
-use Rattle.heap_core.specs.Painting.{is_in_held}
+use Rattle.heap_core.specs.Heap.{HeapState, due}
+use Rattle.heap_core.specs.Painting.{is_in_due}
 use Rattle.mark_board.specs.Bits.{has}
 use Rattle.mark_board.specs.Board.{BoardState, IsOf, IsSeat, SeatState, no_bits}
 use Rattle.sweep_pool.specs.declared.painting.Share.{Share}
@@ -16,8 +16,8 @@ abbrev pub HasGranules : HeapState → BoardState → Type 0
 HasGranules s board = 16 * board.bits ≡ s.size
 
 -- Granule k lies in a held block.
-abbrev pub is_held_at : HeapState → ℕ → Bool
-is_held_at s k = lies_in s.held (s.base + 16 * k)
+abbrev pub is_due_at : HeapState → ℕ → Bool
+is_due_at s k = lies_in (due s) (s.base + 16 * k)
 
 -- Share i, not yet painted: a seat with one part that has set nothing.
 pub record IsBlank (board : BoardState) (workers i : ℕ) (share : Share) : Type 0 where
@@ -33,8 +33,8 @@ pub record IsBlank (board : BoardState) (workers i : ℕ) (share : Share) : Type
 pub record HasPainted (s : HeapState) (board : BoardState) (first last : ℕ) (seat : SeatState) : Type 0 where
   pub of : IsOf board seat
   pub sound : IsSeat seat
-  pub mine : (k : ℕ) → is_held_at s k ≡ false → has seat.mine k ≡ 0
-  pub seen : (k : ℕ) → is_in_held s first last k ≡ true → has seat.seen k ≡ 1
+  pub mine : (k : ℕ) → is_due_at s k ≡ false → has seat.mine k ≡ 0
+  pub seen : (k : ℕ) → is_in_due s first last k ≡ true → has seat.seen k ≡ 1
 
 -- Each element has its number's property.
 abbrev pub EachAt : {X : Type 0} → (ℕ → X → Type 0) → List X → Type 0
@@ -42,5 +42,5 @@ EachAt {X = X} P xs = (i : ℕ) (d : X) → i < length xs → P i (slice_index_o
 
 -- Share i is painted.
 pub record IsPaintedShare (s : HeapState) (board : BoardState) (workers i : ℕ) (seat : SeatState) : Type 0 where
-  pub painted : HasPainted s board (share_start (length s.held) workers i) (share_start (length s.held) workers (i + 1)) seat
+  pub painted : HasPainted s board (share_start (length (due s)) workers i) (share_start (length (due s)) workers (i + 1)) seat
   pub part : seat.parts ≡ 1

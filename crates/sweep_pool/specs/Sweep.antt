@@ -1,12 +1,13 @@
 -- The sweep (Filardo et al. 2020, Cornucopia: revocation by the shadow bitmap): each capability whose base
--- lies in a held block loses its tag. Its address and its permissions don't matter, and its bits stay.
-use Rattle.std.specs.Prelude.{◌≡◌, ◌<◌, ◌+◌, ◌-◌, ◌*◌, ◌/◌, ◌&&◌, ℕ, Bool, false, not, List, count_by, drop, length, map, nat_le, slice_index_or}
+-- lies in one of some held blocks loses its tag. Its address and its permissions don't matter, and its bits stay.
+use Rattle.std.specs.Prelude.{◌≡◌, ◌<◌, ◌+◌, ◌-◌, ◌*◌, ◌/◌, ◌&&◌, ℕ, Bool, false, true, not, List, count_by, drop, length, map, nat_le, slice_index_or}
 use Rattle.cap_codec.specs.Words.{base_of}
 use Rattle.cap_codec.specs.declared.word.Word.{Word}
 use Rattle.heap_core.specs.Blocks.{Span, lies_in}
 use Rattle.heap_core.specs.Heap.{HeapState, IsSound}
 use Rattle.heap_core.specs.Quarantine.{IsShadow}
-use Rattle.tag_memory.specs.Cells.{Cell, Granule, MemoryState, cell_of}
+use Rattle.tag_memory.specs.Cells.{Cell, Granule, MemoryState, cell_of, is_dirty_at}
+use Rattle.tag_memory.specs.Span.{page_granules}
 use Rattle.tag_memory.specs.Tags.{is_set_for}
 
 -- ---- what a sweep does
@@ -66,6 +67,14 @@ AreMasks m shadow masks = AreBits (is_hit_at m shadow) (length m.cells) masks
 abbrev pub ArePageMasks : MemoryState → List Bool → ℕ → ℕ → List ℕ → Type 0
 ArePageMasks m shadow from end masks = AreBits (λ i. is_hit_at m shadow (256 * from + i)) (256 * (end - from)) masks
 
+-- So is granule i, in a dirty page.
+abbrev pub is_dirty_hit_at : MemoryState → List Bool → ℕ → Bool
+is_dirty_hit_at m shadow i = is_hit_at m shadow i && is_dirty_at m.dirty (i / page_granules)
+
+-- The masks of the dirty pages of a memory: a 1 for each granule that is hit there, and 0 in all other pages.
+abbrev pub AreDirtyMasks : MemoryState → List Bool → List ℕ → Type 0
+AreDirtyMasks m shadow masks = AreBits (is_dirty_hit_at m shadow) (length m.cells) masks
+
 -- ---- what that comes to, where the shadow is a heap's
 
 -- A heap, and its shadow, that lie where a memory begins.
@@ -85,3 +94,11 @@ TakeTags m held masks = AreBits (takes_tag_at m held) (length m.cells) masks
 -- The masks of the pages `from` to `end - 1`: a 1 for each granule whose tag the sweep takes.
 abbrev pub TakePageTags : MemoryState → List Span → ℕ → ℕ → List ℕ → Type 0
 TakePageTags m held from end masks = AreBits (λ i. takes_tag_at m held (256 * from + i)) (256 * (end - from)) masks
+
+-- ---- dirty pages
+
+-- Each tagged granule whose base lies in one of these blocks stands in a dirty page (Filardo et al. 2020, Cornucopia: what
+-- the last pass of an epoch rests on).
+abbrev pub AreInDirtyPages : List Granule → List Bool → List Span → Type 0
+AreInDirtyPages cells dirty held =
+    (i : ℕ) → takes_tag held (cell_of (slice_index_or cells i (0, false))) ≡ true → is_dirty_at dirty (i / page_granules) ≡ true

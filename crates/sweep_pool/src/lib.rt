@@ -4,6 +4,7 @@
 mod alone;
 mod claims;
 mod cutting;
+mod dirty;
 mod gate;
 mod gathering;
 mod painting;
@@ -16,6 +17,7 @@ mod workers;
 
 pub use crate::claims::sweep_next;
 pub use crate::cutting::{CutFault, Cutting};
+pub use crate::dirty::sweep_dirty;
 pub use crate::gate::{Gate, Open};
 pub use crate::gathering::{GatherFault, gather};
 pub use crate::painting::paint_shadow;

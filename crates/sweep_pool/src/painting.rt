@@ -1,6 +1,7 @@
 //! A shadow that several workers paint.
 
-ghost use Rattle.heap_core.specs.Painting.{is_in_held};
+ghost use Rattle.heap_core.specs.Heap.{due};
+ghost use Rattle.heap_core.specs.Painting.{is_in_due};
 ghost use Rattle.heap_core.specs.Quarantine.{IsShadow};
 ghost use Rattle.mark_board.specs.Board.{IsOf, IsSeat, first_seat, no_bits};
 ghost use Rattle.std.specs.Prelude.{◌≡◌, ◌<◌, ◌≤◌, ◌+◌, ◌*◌, ◌/◌, IfErr, IfOk, length, vec_len};
@@ -197,7 +198,7 @@ fn joined<G>(painting: &Painting<'_, G>, seats: Vec<MarkSeat>) -> MarkSeat
     requires count { vec_len seats ≡ painting.now.workers }
     requires some { 0 < painting.now.workers }
     requires painted { EachAt (IsPaintedShare painting.now.heap.now painting.now.board.now painting.now.workers) seats.items }
-    ensures painted { HasPainted painting.now.heap.now painting.now.board.now 0 (length painting.now.heap.now.held) result }
+    ensures painted { HasPainted painting.now.heap.now painting.now.board.now 0 (length (due painting.now.heap.now)) result }
     ensures parts { result.parts ≡ painting.now.workers }
 {
     let mut seats = seats;
@@ -212,7 +213,7 @@ fn joined<G>(painting: &Painting<'_, G>, seats: Vec<MarkSeat>) -> MarkSeat
 
 // The shadow, once all held blocks are painted.
 fn finished(alloc: Global, heap: &Heap, board: Board, seat: MarkSeat) -> Result<Shadow, SweepFault>
-    requires painted { HasPainted heap.now board 0 (length heap.now.held) seat }
+    requires painted { HasPainted heap.now board 0 (length (due heap.now)) seat }
     requires parts { seat.parts ≡ board.parts }
     requires granules { HasGranules heap.now board }
     ensures shadow { IfOk result (IsShadow heap.now) }

@@ -1,6 +1,6 @@
 //! A sweep of a whole memory, by several threads.
 
-ghost use Rattle.heap_core.specs.Heap.{HeapState};
+ghost use Rattle.heap_core.specs.Heap.{HeapState, due};
 ghost use Rattle.mark_board.specs.Board.{IsOf, IsSeat, first_seat};
 ghost use Rattle.std.specs.Prelude.{◌≡◌, ◌<◌, ◌≤◌, IfErr, IfOk};
 ghost use Rattle.sweep_pool.specs.Claims.{AreAllSwept, HasTasks, IsDone};
@@ -36,7 +36,7 @@ pub fn sweep_masks<R: Threads + Sync, G: Gate + Sync>(
 ) -> Result<Vec<u64>, SweepFault>
     ensures ok { IfOk result (λ masks. AreMasks memory.now shadow.now masks.items) }
     ensures held { (heap : HeapState) → IsShadowOf heap memory.now.base shadow.now
-        → IfOk result (λ masks. TakeTags memory.now heap.held masks.items) }
+        → IfOk result (λ masks. TakeTags memory.now (due heap) masks.items) }
     ensures err { IfErr result (λ fault. fault ≡ SweepFault.Memory) }
 {
     if workers_for(memory, cutting) == 1 {

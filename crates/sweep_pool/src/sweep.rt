@@ -1,6 +1,6 @@
 //! Which tags a sweep takes.
 
-ghost use Rattle.heap_core.specs.Heap.{HeapState};
+ghost use Rattle.heap_core.specs.Heap.{HeapState, due};
 ghost use Rattle.std.specs.Prelude.{◌≡◌, ◌<◌, ◌≤◌, ◌*◌, ◌+◌, ◌^◌, ℕ, false, length};
 ghost use Rattle.sweep_pool.specs.Sweep.{IsShadowOf, is_hit, is_hit_at, takes_tag};
 ghost use Rattle.sweep_pool.specs.Sweep as sweep;
@@ -105,7 +105,7 @@ fn is_register_hit(registers: &Registers, shadow: &Shadow, base: u64, r: u8) -> 
 /// of the heap that starts at `base`, which for that heap's shadow is in a held block.
 pub fn swept_registers(registers: &Registers, shadow: &Shadow, base: u64) -> u32
     ensures held { (heap : HeapState) → IsShadowOf heap base shadow.now
-        → (r : ℕ) → r < register_count → is_set result r ≡ takes_tag heap.held (register_at registers.now r) }
+        → (r : ℕ) → r < register_count → is_set result r ≡ takes_tag (due heap) (register_at registers.now r) }
     ensures painted { (r : ℕ) → r < register_count → is_set result r ≡ is_hit shadow.now base (register_at registers.now r) }
 {
     let mut mask = 0;

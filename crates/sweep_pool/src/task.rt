@@ -1,6 +1,6 @@
 //! One task of a sweep.
 
-ghost use Rattle.heap_core.specs.Heap.{HeapState};
+ghost use Rattle.heap_core.specs.Heap.{HeapState, due};
 ghost use Rattle.std.specs.Prelude.{◌≡◌, ◌<◌, ◌≤◌, ◌+◌, ◌-◌, ◌*◌, ◌/◌, ℕ, IfErr, IfOk, length};
 ghost use Rattle.sweep_pool.specs.Gather.{IsSwept};
 ghost use Rattle.sweep_pool.specs.Sweep.{IsShadowOf, TakePageTags, is_hit_at};
@@ -117,7 +117,7 @@ pub fn sweep_task(
     requires { IsTask cutting.now (page_count memory.now) task }
     ensures ok { IfOk result (λ swept. (swept.task ≡ task) × IsSwept memory.now shadow.now cutting.now swept) }
     ensures held { (heap : HeapState) → IsShadowOf heap memory.now.base shadow.now
-        → IfOk result (λ swept. TakePageTags memory.now heap.held (first_page cutting.now task)
+        → IfOk result (λ swept. TakePageTags memory.now (due heap) (first_page cutting.now task)
         (end_page cutting.now (page_count memory.now) task) swept.masks.items) }
     ensures err { IfErr result (λ fault. fault ≡ SweepFault.Memory) }
 {

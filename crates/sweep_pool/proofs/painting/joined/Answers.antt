@@ -1,4 +1,5 @@
 use Rattle.std.proofs.Common.{rules, ◌≡◌, ◌≤◌, ◌+◌, ◌++◌, ◌∷◌, [], ℕ, ap, arith, length, subst, sym, ◌∙◌}
+use Rattle.heap_core.specs.Heap.{due}
 use Rattle.sweep_pool.specs.Painting.{HasPainted, IsPaintedShare, share_start}
 use Rattle.sweep_pool.proofs.PaintLaws.{each_prefix, one_longer, painted-join, share_last, share_limit, share_order}
 use Rattle.sweep_pool.proofs.painting.joined.Goals as goal
@@ -12,11 +13,11 @@ loop-seat-init g c =
     let each = each_prefix (IsPaintedShare s board workers) c.args.seats.items c.pop.new.self.items c.in-Some.whole items c.requires.painted in
     let long = one_longer c.args.seats.items c.pop.new.self.items c.in-Some.whole items in
     let all : length c.pop.new.self.items + 1 ≡ workers = omega (arith, long, c.requires.count) in
-    let last : share_start (length s.held) workers (length c.pop.new.self.items + 1) ≡ length s.held = ap (share_start (length s.held) workers) all ∙ share_last (length s.held) workers c.requires.some in
+    let last : share_start (length (due s)) workers (length c.pop.new.self.items + 1) ≡ length (due s) = ap (share_start (length (due s)) workers) all ∙ share_last (length (due s)) workers c.requires.some in
     record {
       few = omega (arith, all);
       left = each.0;
-      painted = subst (λ (n : ℕ). HasPainted s board (share_start (length s.held) workers (length c.pop.new.self.items)) n c.in-Some.whole) last each.1.painted;
+      painted = subst (λ (n : ℕ). HasPainted s board (share_start (length (due s)) workers (length c.pop.new.self.items)) n c.in-Some.whole) last each.1.painted;
       parts = omega (arith, all, each.1.part);
     }
 
@@ -36,13 +37,13 @@ loop-seat-preserved g c =
     let each = each_prefix (IsPaintedShare s board workers) c.loop-seat.seats.items c.pop-in-loop-seat.new.self.items c.in-Some-pop.seat items l.left in
     let long = one_longer c.loop-seat.seats.items c.pop-in-loop-seat.new.self.items c.in-Some-pop.seat items in
     let n : ℕ = length c.pop-in-loop-seat.new.self.items in
-    let next : share_start (length s.held) workers (length c.pop-in-loop-seat.new.self.items + 1) ≡ share_start (length s.held) workers (length c.loop-seat.seats.items) = ap (share_start (length s.held) workers) (sym long) in
-    let order = subst (λ (b : ℕ). share_start (length s.held) workers (length c.pop-in-loop-seat.new.self.items) ≤ b) next (share_order (length s.held) workers (length c.pop-in-loop-seat.new.self.items) c.requires.some) in
-    let one = subst (λ (b : ℕ). HasPainted s board (share_start (length s.held) workers (length c.pop-in-loop-seat.new.self.items)) b c.in-Some-pop.seat) next each.1.painted in
-    let limit = share_limit (length s.held) workers (length c.loop-seat.seats.items) l.few in
+    let next : share_start (length (due s)) workers (length c.pop-in-loop-seat.new.self.items + 1) ≡ share_start (length (due s)) workers (length c.loop-seat.seats.items) = ap (share_start (length (due s)) workers) (sym long) in
+    let order = subst (λ (b : ℕ). share_start (length (due s)) workers (length c.pop-in-loop-seat.new.self.items) ≤ b) next (share_order (length (due s)) workers (length c.pop-in-loop-seat.new.self.items) c.requires.some) in
+    let one = subst (λ (b : ℕ). HasPainted s board (share_start (length (due s)) workers (length c.pop-in-loop-seat.new.self.items)) b c.in-Some-pop.seat) next each.1.painted in
+    let limit = share_limit (length (due s)) workers (length c.loop-seat.seats.items) l.few in
     record {
       few = omega (arith, long, l.few);
       left = each.0;
-      painted = painted-join s board _ _ (length s.held) c.loop-seat.whole c.in-Some-pop.seat c.join-whole.result order limit l.painted one c.join-whole.ensures.board c.join-whole.ensures.sound c.join-whole.ensures.mine c.join-whole.ensures.seen;
+      painted = painted-join s board _ _ (length (due s)) c.loop-seat.whole c.in-Some-pop.seat c.join-whole.result order limit l.painted one c.join-whole.ensures.board c.join-whole.ensures.sound c.join-whole.ensures.mine c.join-whole.ensures.seen;
       parts = omega (arith, long, l.parts, each.1.part, c.join-whole.ensures.parts);
     }
