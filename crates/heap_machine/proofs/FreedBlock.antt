@@ -7,7 +7,7 @@ use Rattle.std.proofs.lemmas.List.Elements.{All-contains}
 use Rattle.heap_core.specs.Blocks.{IsApart, Span, blocks_with, has_bounds, is_block}
 use Rattle.heap_core.specs.Heap.{HeapState, IsInside, IsSound as IsSoundHeap}
 use Rattle.heap_core.specs.Laws.{Contains-block, the_block}
-use Rattle.heap_core.specs.Quarantine.{freed_of, with_held}
+use Rattle.heap_core.specs.Quarantine.{freed_of, is_held_block, with_waiting}
 use Rattle.heap_core.specs.declared.block.Freed.TheVariants as TheFreed
 use Rattle.trace_text.specs.declared.trace.Command.TheVariants.{Free}
 use Rattle.heap_machine.specs.Safety.{IsLiveOrHeld, IsSafe}
@@ -20,19 +20,25 @@ use Rattle.heap_machine.proofs.SoundLaws.{IsSafe-in}
 
 -- ---- bounds
 
--- No block is live and held.
-pub one_of_both : (heap : HeapState) (base top : ℕ) → IsSoundHeap heap → is_block heap.live base top ≡ true → is_block heap.held base top ≡ false
-one_of_both heap base top sound live =
-    false_from_ne_true (is_block heap.held base top)
+-- No live block is one of others that share no address with it.
+no_other : (heap : HeapState) (base top : ℕ) (others : List Span) → IsSoundHeap heap → is_block heap.live base top ≡ true → All (λ b. All (IsApart b) others) heap.live
+    → is_block others base top ≡ false
+no_other heap base top others sound live all =
+    false_from_ne_true (is_block others base top)
     (λ held.
     let block : Span = (base, top - base) in
     let in_live = Contains-block base top heap.live live in
     let inside = All-contains (IsInside heap) heap.live block sound.live_inside in_live in
-    let apart = All-contains (λ b. All (IsApart b) heap.held) heap.live block sound.apart in_live in
-    elim (All-contains (IsApart block) heap.held block apart (Contains-block base top heap.held held)) [
+    let apart = All-contains (λ b. All (IsApart b) others) heap.live block all in_live in
+    elim (All-contains (IsApart block) others block apart (Contains-block base top others held)) [
       | inl before ↦ omega (arith, before, inside.some)
       | inr after ↦ omega (arith, after, inside.some)
     ])
+
+-- No block is live and held.
+pub one_of_both : (heap : HeapState) (base top : ℕ) → IsSoundHeap heap → is_block heap.live base top ≡ true → is_held_block heap base top ≡ false
+one_of_both heap base top sound live =
+    rw (no_other heap base top heap.waiting sound live sound.apart_waiting, no_other heap base top heap.painted sound live sound.apart_painted) refl
 
 -- ---- the blocks
 
@@ -50,26 +56,27 @@ Contains-filter test (b ∷ blocks) block passes h =
     ]
 
 -- Each block is one still.
-still_there : (heap : HeapState) (base top : ℕ) (block : Span) → IsLiveOrHeld heap block → IsLiveOrHeld (with_held heap base top) block
-still_there heap base top block (inr held) = inr (Contains-still (base, top - base) heap.held block held)
+still_there : (heap : HeapState) (base top : ℕ) (block : Span) → IsLiveOrHeld heap block → IsLiveOrHeld (with_waiting heap base top) block
+still_there heap base top block (inr (inl waits)) = inr (inl (Contains-still (base, top - base) heap.waiting block waits))
+still_there heap base top block (inr (inr painted)) = inr (inr painted)
 still_there heap base top block (inl live) =
     elim (cases_Bool (has_bounds base top block)) [
       | inl is ↦
           let same = the_block base top block is in
-          inr (subst (Contains (blocks_with (base, top - base) heap.held)) (sym same) (Contains-new (base, top - base) heap.held))
+          inr (inl (subst (Contains (blocks_with (base, top - base) heap.waiting)) (sym same) (Contains-new (base, top - base) heap.waiting)))
       | inr other ↦ inl (Contains-filter (λ b. not (has_bounds base top b)) heap.live block (ap not other) live)
     ]
 
 -- ---- the state
 
-pub IsSafe-held : (s : State) (base top : ℕ) → IsSafe s → IsSoundHeap (with_held s.heap base top) → IsSafe (record s { heap = with_held s.heap base top })
-IsSafe-held s base top safe sound = IsSafe-in s (with_held s.heap base top) sound (still_there s.heap base top) safe
+pub IsSafe-waiting : (s : State) (base top : ℕ) → IsSafe s → IsSoundHeap (with_waiting s.heap base top) → IsSafe (record s { heap = with_waiting s.heap base top })
+IsSafe-waiting s base top safe sound = IsSafe-in s (with_waiting s.heap base top) sound (still_there s.heap base top) safe
 
 -- ---- the step
 
 -- What is held was a live block.
 was_live : (heap : HeapState) (base top : ℕ) → freed_of heap base top ≡ TheFreed.Held → is_block heap.live base top ≡ true
-was_live heap base top held = go (is_block heap.live base top) (is_block heap.held base top) held where
+was_live heap base top held = go (is_block heap.live base top) (is_held_block heap base top) held where
   go : (live other : Bool) → (cond live TheFreed.Held (cond other TheFreed.AlreadyHeld TheFreed.NotBlock)) ≡ TheFreed.Held → live ≡ true
   go true other e = refl
   go false true e = absurd cc
@@ -77,7 +84,7 @@ was_live heap base top held = go (is_block heap.live base top) (is_block heap.he
 
 pub Step-free : (s : State) (rs : ℕ) (heap : HeapState) → IsSoundHeap s.heap → (register s rs).1 ≡ true
     → freed_of s.heap (bounds_in (register s rs).0).base (bounds_in (register s rs).0).top ≡ TheFreed.Held
-    → heap ≡ with_held s.heap (bounds_in (register s rs).0).base (bounds_in (register s rs).0).top
+    → heap ≡ with_waiting s.heap (bounds_in (register s rs).0).base (bounds_in (register s rs).0).top
     → Step s (Free rs) (Held ((bounds_in (register s rs).0).top - (bounds_in (register s rs).0).base)) (record s { heap = heap })
 Step-free s rs heap sound tagged held same =
     let bounds = bounds_in (register s rs).0 in

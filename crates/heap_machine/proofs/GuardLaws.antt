@@ -36,7 +36,8 @@ IsGuarded-in old new c still guarded = record { within = λ e. let x = guarded.w
 -- A block of a heap lies inside it.
 pub IsInside-block : (heap : HeapState) (block : Span) → IsSoundHeap heap → IsLiveOrHeld heap block → IsInside heap block
 IsInside-block heap block sound (inl live) = All-contains (IsInside heap) heap.live block sound.live_inside live
-IsInside-block heap block sound (inr held) = All-contains (IsInside heap) heap.held block sound.held_inside held
+IsInside-block heap block sound (inr (inl waits)) = All-contains (IsInside heap) heap.waiting block sound.waiting_inside waits
+IsInside-block heap block sound (inr (inr painted)) = All-contains (IsInside heap) heap.painted block sound.painted_inside painted
 
 -- Where it is tagged, its bounds lie inside the `size` addresses from `base` on.
 pub record LiesInside (base size : ℕ) (c : Cell) : Type 0 where

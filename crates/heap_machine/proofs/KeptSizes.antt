@@ -1,6 +1,6 @@
 -- The sizes of a state's parts, which no step changes.
 use Rattle.std.proofs.Common.{◌≡◌, ◌∙◌, ◌*◌, ℕ, Bool, true, false, Option, Some, None, length, set, get_or, cond, eqb, refl, sym, ap, subst, arith}
-use Rattle.std.specs.Prelude.{Result, Ok, Err, IfOk, OnErr}
+use Rattle.std.specs.Prelude.{List, Result, Ok, Err, IfOk, OnErr, OnOk}
 use Rattle.std.proofs.lemmas.Bool.{eq-eqb, true≢false}
 use Rattle.std.proofs.lemmas.List.{get_or-map, get_or-set_other, length-map, length-set}
 use Rattle.cap_codec.specs.declared.word.Word.{Word}
@@ -8,17 +8,18 @@ use Rattle.heap_core.specs.Place.{with_live}
 use Rattle.sweep_pool.specs.Sweep.{swept_cell, swept_granule}
 use Rattle.tag_memory.specs.Cells.{Cell, Granule, null_cell}
 use Rattle.trace_text.specs.declared.trace.Command.{Command}
-use Rattle.trace_text.specs.declared.trace.Command.TheVariants.{Malloc, Free, Copy, SetAddr, Narrow, AndPerm, StoreCap, LoadCap, Write, Show, Sweep}
+use Rattle.trace_text.specs.declared.trace.Command.TheVariants.{Malloc, Free, Copy, SetAddr, Narrow, AndPerm, StoreCap, LoadCap, Write, Show, Sweep, Begin, End}
 use Rattle.heap_machine.specs.declared.parts.Parts.{Parts}
 use Rattle.heap_machine.specs.declared.fault.MachineFault.{MachineFault}
 use Rattle.heap_reply.specs.declared.reply.Reply.{Reply}
-use Rattle.heap_reply.specs.declared.reply.Reply.TheVariants.{Block, BlockAfter, NoSpace, NoSpaceAfter, Held, Done, Cleared, Swept, Shown, Trap}
+use Rattle.heap_reply.specs.declared.reply.Reply.TheVariants.{Block, BlockAfter, NoSpace, NoSpaceAfter, Held, Done, Cleared, Swept, Begun, Shown, Trap}
 use Rattle.heap_reply.specs.declared.reply.Trap.{Trap as TheTrap}
+use Rattle.heap_machine.specs.Dirty.{HasPages, IsDirtied, dirty_after}
 use Rattle.heap_machine.specs.Parts.{AreParts, state_of}
 use Rattle.heap_machine.specs.Safety.{FitsTypes, IsSafe}
 use Rattle.heap_machine.specs.Sound.{IsMachine}
 use Rattle.heap_machine.specs.State.{State, with_cell}
-use Rattle.heap_machine.specs.Step.{Effect, HandsOut, HandsOutNone, Step, StepAfter, checks, first_failed, index_in, swept, with_granule}
+use Rattle.heap_machine.specs.Step.{Effect, HandsOut, HandsOutNone, Step, StepAfter, checks, first_failed, begun, ended, index_in, swept, with_granule}
 
 record HasSizes (s : State) : Type 0 where
   pub granules : 16 * length s.cells ≡ s.heap.size
@@ -44,9 +45,23 @@ HasSizes-put s w granule sizes = record {
 
 HasSizes-swept : (s : State) → HasSizes s → HasSizes (swept s)
 HasSizes-swept s sizes = record {
-  granules = ap (λ n. 16 * n) (length-map s.cells (swept_granule s.heap.held)) ∙ sizes.granules;
-  count = length-map s.registers (swept_cell s.heap.held) ∙ sizes.count;
-  zero = get_or-map (swept_cell s.heap.held) s.registers 0 null_cell null_cell (omega (arith, sizes.count)) ∙ ap (swept_cell s.heap.held) sizes.zero;
+  granules = ap (λ n. 16 * n) (length-map s.cells (swept_granule s.heap.waiting)) ∙ sizes.granules;
+  count = length-map s.registers (swept_cell s.heap.waiting) ∙ sizes.count;
+  zero = get_or-map (swept_cell s.heap.waiting) s.registers 0 null_cell null_cell (omega (arith, sizes.count)) ∙ ap (swept_cell s.heap.waiting) sizes.zero;
+}
+
+HasSizes-begun : (s : State) → HasSizes s → HasSizes (begun s)
+HasSizes-begun s sizes = record {
+  granules = ap (λ n. 16 * n) (length-map s.cells (swept_granule s.heap.waiting)) ∙ sizes.granules;
+  count = sizes.count;
+  zero = sizes.zero;
+}
+
+HasSizes-ended : (s : State) → HasSizes s → HasSizes (ended s)
+HasSizes-ended s sizes = record {
+  granules = ap (λ n. 16 * n) (length-map s.cells (swept_granule s.heap.painted)) ∙ sizes.granules;
+  count = length-map s.registers (swept_cell s.heap.painted) ∙ sizes.count;
+  zero = get_or-map (swept_cell s.heap.painted) s.registers 0 null_cell null_cell (omega (arith, sizes.count)) ∙ ap (swept_cell s.heap.painted) sizes.zero;
 }
 
 HasSizes-live : (s : State) (size a : ℕ) → HasSizes s → HasSizes (record s { heap = with_live s.heap size a })
@@ -68,6 +83,7 @@ Malloc-sizes old rd size (Held bytes) new sizes effect = absurd effect
 Malloc-sizes old rd size Done new sizes effect = absurd effect
 Malloc-sizes old rd size Cleared new sizes effect = absurd effect
 Malloc-sizes old rd size (Swept cleared released) new sizes effect = absurd effect
+Malloc-sizes old rd size (Begun cleared) new sizes effect = absurd effect
 Malloc-sizes old rd size (Shown shown) new sizes effect = absurd effect
 Malloc-sizes old rd size (Trap trap) new sizes effect = absurd effect
 
@@ -83,6 +99,8 @@ Effect-sizes old (LoadCap rd ra) r new sizes effect = subst HasSizes (sym effect
 Effect-sizes old (Write ra bytes) r new sizes effect = subst HasSizes (sym effect.1) (HasSizes-put old _ _ sizes)
 Effect-sizes old (Show rs) r new sizes effect = subst HasSizes (sym effect.1) sizes
 Effect-sizes old Sweep r new sizes effect = subst HasSizes (sym effect.1) (HasSizes-swept old sizes)
+Effect-sizes old Begin r new sizes effect = subst HasSizes (sym effect.1) (HasSizes-begun old sizes)
+Effect-sizes old End r new sizes effect = subst HasSizes (sym effect.1) (HasSizes-ended old sizes)
 
 StepAfter-sizes : (t : Option TheTrap) (old : State) (c : Command) (r : Reply) (new : State) → HasSizes old → StepAfter t old c r new → HasSizes new
 StepAfter-sizes None old c r new sizes step = Effect-sizes old c r new sizes step
@@ -97,9 +115,15 @@ Step-sound old c r new sound safe step =
 
 -- The parts of a machine after a command, or after want of memory.
 pub AreParts-after : ((s : State) (c : Command) (r : Reply) (t : State) → IsSafe s → FitsTypes c → Step s c r t → IsSafe t)
-    → (old new : Parts) (c : Command) (result : Result Reply MachineFault) → AreParts old → FitsTypes c
-    → IfOk result (λ r. Step (state_of old) c r (state_of new)) → OnErr result (new ≡ old) → new.memory.base ≡ new.heap.base → AreParts new
-AreParts-after law old new c (Ok r) parts fits step err base =
-    let safe = law (state_of old) c r (state_of new) parts.sound.safe fits step in
-    record { base = base; sound = Step-sound (state_of old) c r (state_of new) parts.sound safe step }
-AreParts-after law old new c (Err fault) parts fits step err base = subst AreParts (sym err) parts
+    → ((s : State) (c : Command) (r : Reply) (t : State) (dirty : List Bool) → HasPages s dirty → IsDirtied s dirty → Step s c r t → IsDirtied t (dirty_after s c dirty))
+    → (old new : Parts) (c : Command) (result : Result Reply MachineFault) → AreParts old → HasPages (state_of old) old.memory.dirty → FitsTypes c
+    → IfOk result (λ r. Step (state_of old) c r (state_of new)) → OnOk result (new.memory.dirty ≡ dirty_after (state_of old) c old.memory.dirty)
+    → OnErr result (new ≡ old) → new.memory.base ≡ new.heap.base → AreParts new
+AreParts-after safely dirtied old new c (Ok r) parts pages fits step marks err base =
+    let safe = safely (state_of old) c r (state_of new) parts.sound.safe fits step in
+    record {
+      base = base;
+      sound = Step-sound (state_of old) c r (state_of new) parts.sound safe step;
+      dirtied = subst (IsDirtied (state_of new)) (sym marks) (dirtied (state_of old) c r (state_of new) old.memory.dirty pages parts.dirtied step);
+    }
+AreParts-after safely dirtied old new c (Err fault) parts pages fits step marks err base = subst AreParts (sym err) parts

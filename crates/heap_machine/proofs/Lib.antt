@@ -1,10 +1,12 @@
 mod BlockLists
 mod ClearedRegisters
 mod CountLaws
+mod DirtyLaws
 mod FreedBlock
 mod GuardLaws
 mod KeptSizes
 mod NewBlock
+mod PassedChecks
 mod OnePlace
 pub mod OneStep
 mod RevokedLaws

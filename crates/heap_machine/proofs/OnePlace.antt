@@ -37,10 +37,11 @@ Dec-IsFree s size a =
     let block : Span = (a, block_length size) in
     let aligned = Dec-both (ℕ_discrete (a % 16) 0) (ℕ_discrete (a % block_unit size) 0) in
     let inside = Dec-both (dec_le s.base a) (dec_le (a + block_length size) (s.base + s.size)) in
-    let apart = Dec-both (Dec-All (IsApart block) (Dec-IsApart block) s.live) (Dec-All (IsApart block) (Dec-IsApart block) s.held) in
+    let held = Dec-both (Dec-All (IsApart block) (Dec-IsApart block) s.waiting) (Dec-All (IsApart block) (Dec-IsApart block) s.painted) in
+    let apart = Dec-both (Dec-All (IsApart block) (Dec-IsApart block) s.live) held in
     Dec-same
-    (λ all. record { granule = all.0.0; unit = all.0.1; from = all.1.0.0; end = all.1.0.1; live = all.1.1.0; held = all.1.1.1 })
-    (λ free. ((free.granule, free.unit), ((free.from, free.end), (free.live, free.held))))
+    (λ all. record { granule = all.0.0; unit = all.0.1; from = all.1.0.0; end = all.1.0.1; live = all.1.1.0; waiting = all.1.1.1.0; painted = all.1.1.1.1 })
+    (λ free. ((free.granule, free.unit), ((free.from, free.end), (free.live, (free.waiting, free.painted)))))
     (Dec-both aligned (Dec-both inside apart))
 
 -- ---- the least place

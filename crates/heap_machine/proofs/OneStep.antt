@@ -1,18 +1,19 @@
 -- In each state a command has one answer and leaves one state.
-use Rattle.std.proofs.Common.{◌≡◌, ◌+◌, ◌∙◌, ℕ, Option, Some, None, List, [], ◌∷◌, inl, inr, true, refl, sym, ap}
+use Rattle.std.proofs.Common.{◌≡◌, ◌+◌, ◌∙◌, ℕ, Bool, false, Option, Some, None, List, [], ◌∷◌, inl, inr, true, refl, sym, ap}
 use Rattle.std.specs.Prelude.{◌⊎◌}
+use Rattle.std.proofs.lemmas.Bool.{true≢false}
 use Rattle.heap_core.specs.Blocks.{Span}
 use Rattle.heap_core.specs.Place.{block_length, with_live}
 use Rattle.tag_memory.specs.Cells.{null_cell}
 use Rattle.trace_text.specs.declared.trace.Command.{Command}
-use Rattle.trace_text.specs.declared.trace.Command.TheVariants.{Malloc, Free, Copy, SetAddr, Narrow, AndPerm, StoreCap, LoadCap, Write, Show, Sweep}
+use Rattle.trace_text.specs.declared.trace.Command.TheVariants.{Malloc, Free, Copy, SetAddr, Narrow, AndPerm, StoreCap, LoadCap, Write, Show, Sweep, Begin, End}
 use Rattle.heap_reply.specs.declared.reply.Reply.{Reply}
 use Rattle.heap_reply.specs.declared.reply.Reply.TheVariants.{Block, BlockAfter, NoSpace, NoSpaceAfter}
 use Rattle.heap_reply.specs.declared.reply.Reply.TheVariants as reply
 use Rattle.heap_reply.specs.declared.reply.Trap.{Trap}
 use Rattle.heap_machine.specs.State.{State, with_cell}
 use Rattle.cap_codec.specs.Words.{capability_of}
-use Rattle.heap_machine.specs.Step.{Effect, HandsOut, SweepsFirst, Step, StepAfter, checks, first_failed, swept, taken}
+use Rattle.heap_machine.specs.Step.{Effect, HandsOut, MaySweep, SweepsFirst, Step, StepAfter, checks, first_failed, swept, taken}
 use Rattle.heap_machine.proofs.OnePlace.{IsPlace-only, IsPlace-some}
 
 -- The state after a block.
@@ -56,15 +57,15 @@ Malloc-only old rd size (BlockAfter b t k) (BlockAfter c u l) m n p q =
     let count : k ≡ l = p.0.cleared_is ∙ sym q.0.cleared_is in
     let r : BlockAfter b t k ≡ BlockAfter c u l = cc in
     (r, one.state)
-Malloc-only old rd size (BlockAfter b t k) NoSpace m n p q = absurd (p.0.held q.0)
+Malloc-only old rd size (BlockAfter b t k) NoSpace m n p q = absurd (q.0 p.0.may)
 Malloc-only old rd size (BlockAfter b t k) (NoSpaceAfter l) m n p q = absurd (q.1.none b p.1.place.free)
 Malloc-only old rd size NoSpace (Block c u) m n p q = absurd (p.1.none c q.place.free)
-Malloc-only old rd size NoSpace (BlockAfter c u k) m n p q = absurd (q.0.held p.0)
+Malloc-only old rd size NoSpace (BlockAfter c u k) m n p q = absurd (p.0 q.0.may)
 Malloc-only old rd size NoSpace NoSpace m n p q = (refl, p.1.state ∙ sym q.1.state)
-Malloc-only old rd size NoSpace (NoSpaceAfter k) m n p q = absurd (q.0.held p.0)
+Malloc-only old rd size NoSpace (NoSpaceAfter k) m n p q = absurd (p.0 q.0.may)
 Malloc-only old rd size (NoSpaceAfter k) (Block c u) m n p q = absurd (p.0.none c q.place.free)
 Malloc-only old rd size (NoSpaceAfter k) (BlockAfter c u l) m n p q = absurd (p.1.none c q.1.place.free)
-Malloc-only old rd size (NoSpaceAfter k) NoSpace m n p q = absurd (p.0.held q.0)
+Malloc-only old rd size (NoSpaceAfter k) NoSpace m n p q = absurd (q.0 p.0.may)
 Malloc-only old rd size (NoSpaceAfter k) (NoSpaceAfter l) m n p q =
     let count : k ≡ l = p.0.cleared_is ∙ sym q.0.cleared_is in (ap NoSpaceAfter count, p.1.state ∙ sym q.1.state)
 Malloc-only old rd size (Block b t) other m n p q = absurd q
@@ -85,6 +86,8 @@ Effect-only old (LoadCap rd ra) r s m n p q = same_as p q
 Effect-only old (Write ra bytes) r s m n p q = same_as p q
 Effect-only old (Show rs) r s m n p q = same_as p q
 Effect-only old Sweep r s m n p q = same_as p q
+Effect-only old Begin r s m n p q = same_as p q
+Effect-only old End r s m n p q = same_as p q
 
 StepAfter-only : (t : Option Trap) (old : State) (c : Command) (r s : Reply) (m n : State)
     → StepAfter t old c r m → StepAfter t old c s n → (r ≡ s) × (m ≡ n)
@@ -96,9 +99,13 @@ Step-only old c r s m n p q = StepAfter-only (first_failed (checks old c)) old c
 
 -- ---- some
 
-none_or_some : (blocks : List Span) → (blocks ≡ []) ⊎ (blocks ≡ [] → ⊥)
-none_or_some [] = inl refl
-none_or_some (b ∷ blocks) = inr (λ e. absurd cc)
+-- Whether a malloc may sweep can be told.
+may_or_not : (s : State) → MaySweep s ⊎ (MaySweep s → ⊥)
+may_or_not s = go s.heap.is_open s.heap.waiting refl refl where
+  go : (is_open : Bool) (waiting : List Span) → s.heap.is_open ≡ is_open → s.heap.waiting ≡ waiting → MaySweep s ⊎ (MaySweep s → ⊥)
+  go true waiting opened are = inr (λ may. absurd (true≢false (sym opened ∙ may.closed)))
+  go false [] closed are = inr (λ may. absurd (may.waiting are))
+  go false (b ∷ blocks) closed are = inl (record { closed = closed; waiting = λ none. (let e : b ∷ blocks ≡ [] = sym are ∙ none in absurd cc) })
 
 -- Where a block has no place, and others are held.
 Sweep-some : (old : State) (rd size cleared : ℕ) → SweepsFirst old size cleared → (r : Reply) × (m : State) × Effect old (Malloc rd size) r m
@@ -119,9 +126,9 @@ Malloc-some old rd size =
           let top = base + block_length size in
           (Block base top, with_block old rd size base top, record { place = found.1; end = refl; state = refl })
       | inr none ↦
-          elim (none_or_some old.heap.held) [
-            | inl free ↦ (NoSpace, with_cell old rd null_cell, (free, record { none = none; state = refl }))
-            | inr held ↦ Sweep-some old rd size (taken old) (record { none = none; held = held; cleared_is = refl })
+          elim (may_or_not old) [
+            | inl may ↦ Sweep-some old rd size (taken old) (record { none = none; may = may; cleared_is = refl })
+            | inr not ↦ (NoSpace, with_cell old rd null_cell, (not, record { none = none; state = refl }))
           ]
     ]
 
@@ -137,6 +144,8 @@ Effect-some old (LoadCap rd ra) = (_, _, (refl, refl))
 Effect-some old (Write ra bytes) = (_, _, (refl, refl))
 Effect-some old (Show rs) = (_, _, (refl, refl))
 Effect-some old Sweep = (_, _, (refl, refl))
+Effect-some old Begin = (_, _, (refl, refl))
+Effect-some old End = (_, _, (refl, refl))
 
 StepAfter-some : (t : Option Trap) (old : State) (c : Command) → (r : Reply) × (m : State) × StepAfter t old c r m
 StepAfter-some None old c = Effect-some old c

@@ -1,5 +1,5 @@
 -- From a safe state each step leads to a safe one.
-use Rattle.std.proofs.Common.{◌≡◌, ◌∙◌, ◌<◌, ◌≤◌, ◌+◌, ◌&&◌, ◌^◌, ℕ, Bool, true, false, Option, Some, None, inl, cond, refl, sym, subst, arith}
+use Rattle.std.proofs.Common.{◌≡◌, ◌∙◌, ◌<◌, ◌≤◌, ◌+◌, ◌&&◌, ◌^◌, ℕ, Bool, true, false, Option, Some, None, [], inl, cond, refl, sym, subst, arith}
 use Rattle.std.specs.Prelude.{◌↔◌, IsTrue, nat_le, not}
 use Rattle.std.proofs.lemmas.Bool.{and_parts, leb-true}
 use Rattle.cap_codec.specs.declared.word.Word.{Word}
@@ -7,29 +7,32 @@ use Rattle.cap_codec.specs.Rounding.{IsExact, outward}
 use Rattle.heap_core.specs.Blocks.{is_block}
 use Rattle.heap_core.specs.Heap.{HeapState, IsSound as IsSoundHeap}
 use Rattle.heap_core.specs.Place.{IsFree, block_length, with_live}
-use Rattle.heap_core.specs.Quarantine.{with_held, without_held}
+use Rattle.heap_core.specs.Quarantine.{is_held_block, with_epoch, with_waiting, without_epoch, without_waiting}
 use Rattle.tag_memory.specs.Cells.{null_cell}
 use Rattle.trace_text.specs.declared.trace.Command.{Command}
-use Rattle.trace_text.specs.declared.trace.Command.TheVariants.{Malloc, Free, Copy, SetAddr, Narrow, AndPerm, StoreCap, LoadCap, Write, Show, Sweep}
+use Rattle.trace_text.specs.declared.trace.Command.TheVariants.{Malloc, Free, Copy, SetAddr, Narrow, AndPerm, StoreCap, LoadCap, Write, Show, Sweep, Begin, End}
 use Rattle.heap_reply.specs.declared.reply.Reply.{Reply}
-use Rattle.heap_reply.specs.declared.reply.Reply.TheVariants.{Block, BlockAfter, NoSpace, NoSpaceAfter, Held, Done, Cleared, Swept, Shown, Trap}
+use Rattle.heap_reply.specs.declared.reply.Reply.TheVariants.{Block, BlockAfter, NoSpace, NoSpaceAfter, Held, Done, Cleared, Swept, Begun, Shown, Trap}
 use Rattle.heap_reply.specs.declared.reply.Trap.{Trap as TheTrap}
+use Rattle.heap_reply.specs.declared.reply.Trap.TheVariants.{Open}
 use Rattle.heap_machine.specs.Safety.{FitsTypes, IsSafe}
 use Rattle.heap_machine.specs.State.{State, register}
 use Rattle.cap_codec.specs.Words.{address_in, allows, bounds_in, capability_of, is_exact, keeps_bounds, lie_within, load_capability, narrowed, with_address, with_perms}
 use Rattle.heap_machine.specs.Step.{Effect, HandsOut, HandsOutNone, Step, StepAfter, checks, first_failed, granule_at, swept}
 use Rattle.heap_machine.proofs.BlockLists.{Contains-new}
-use Rattle.heap_machine.proofs.FreedBlock.{IsSafe-held}
+use Rattle.heap_machine.proofs.FreedBlock.{IsSafe-waiting}
 use Rattle.heap_machine.proofs.GuardLaws.{IsGuarded-kept, IsGuarded-narrowed, IsGuarded-untagged, IsInside-block}
 use Rattle.heap_machine.proofs.NewBlock.{IsSafe-new}
 use Rattle.heap_machine.proofs.SoundLaws.{FitsAddresses-state, HoldsGuarded-at, IsGuarded-register, IsSafe-put, IsSafe-with, LiesInside-register}
-use Rattle.heap_machine.proofs.SweptState.{IsSafe-swept}
+use Rattle.heap_machine.proofs.SweptState.{IsSafe-begun, IsSafe-ended, IsSafe-swept}
 
 -- What the crates below say of words and of heaps.
 pub record Laws : Type 0 where
   pub live : (s : HeapState) (size a : ℕ) → IsSoundHeap s → IsFree s size a → IsSoundHeap (with_live s size a)
-  pub held : (s : HeapState) (base top : ℕ) → IsSoundHeap s → is_block s.live base top ≡ true → IsSoundHeap (with_held s base top)
-  pub free : (s : HeapState) → IsSoundHeap s → IsSoundHeap (without_held s)
+  pub waiting : (s : HeapState) (base top : ℕ) → IsSoundHeap s → is_block s.live base top ≡ true → IsSoundHeap (with_waiting s base top)
+  pub free : (s : HeapState) → IsSoundHeap s → IsSoundHeap (without_waiting s)
+  pub begun : (s : HeapState) → IsSoundHeap s → IsSoundHeap (with_epoch s)
+  pub ended : (s : HeapState) → IsSoundHeap s → IsSoundHeap (without_epoch s)
   pub exact : (s : HeapState) (size a : ℕ) → IsSoundHeap s → IsFree s size a → IsExact a (a + block_length size)
   pub narrowed : (w : Word) (base top : ℕ) → base < 2 ^ 64 → base ≤ top → top ≤ 2 ^ 64 → bounds_in (narrowed w base top) ≡ outward base top
   pub capability : (base top : ℕ) → base < 2 ^ 64 → base ≤ top → top ≤ 2 ^ 64 → bounds_in (capability_of base top) ≡ outward base top
@@ -86,8 +89,16 @@ Malloc-safe laws old rd size (Held bytes) new safe effect = absurd effect
 Malloc-safe laws old rd size Done new safe effect = absurd effect
 Malloc-safe laws old rd size Cleared new safe effect = absurd effect
 Malloc-safe laws old rd size (Swept cleared released) new safe effect = absurd effect
+Malloc-safe laws old rd size (Begun cleared) new safe effect = absurd effect
 Malloc-safe laws old rd size (Shown shown) new safe effect = absurd effect
 Malloc-safe laws old rd size (Trap trap) new safe effect = absurd effect
+
+-- Where an epoch may begin no block is painted.
+painted_none : (s : State) → IsSafe s → first_failed (checks s Begin) ≡ None → s.heap.painted ≡ []
+painted_none s safe passed = safe.heap.closed (go s.heap.is_open passed) where
+  go : (is_open : Bool) → cond (not is_open) None (Some Open) ≡ None → is_open ≡ false
+  go true e = absurd cc
+  go false e = refl
 
 Narrow-safe : Laws → (old : State) (rd rs n : ℕ) (r : Reply) (new : State) → IsSafe old → first_failed (checks old (Narrow rd rs n)) ≡ None
     → Effect old (Narrow rd rs n) r new → IsSafe new
@@ -112,8 +123,8 @@ Effect-safe laws old (Malloc rd size) r new safe fits passed effect = Malloc-saf
 Effect-safe laws old (Free rs) r new safe fits passed effect =
     let c = register old rs in
     let b = bounds_in c.0 in
-    let all = all_three c.1 (not (is_block old.heap.held b.base b.top)) (is_block old.heap.live b.base b.top) _ _ _ passed in
-    subst IsSafe (sym effect.1) (IsSafe-held old b.base b.top safe (laws.held old.heap b.base b.top safe.heap all.2))
+    let all = all_three c.1 (not (is_held_block old.heap b.base b.top)) (is_block old.heap.live b.base b.top) _ _ _ passed in
+    subst IsSafe (sym effect.1) (IsSafe-waiting old b.base b.top safe (laws.waiting old.heap b.base b.top safe.heap all.2))
 Effect-safe laws old (Copy rd rs) r new safe fits passed effect = subst IsSafe (sym effect.1) (IsSafe-with old rd (register old rs) safe (IsGuarded-register old rs safe))
 Effect-safe laws old (SetAddr rd rs a) r new safe fits passed effect =
     let c = register old rs in
@@ -139,6 +150,8 @@ Effect-safe laws old (LoadCap rd ra) r new safe fits passed effect =
 Effect-safe laws old (Write ra bytes) r new safe fits passed effect = subst IsSafe (sym effect.1) (IsSafe-put old (register old ra).0 _ safe (IsGuarded-untagged old.heap _))
 Effect-safe laws old (Show rs) r new safe fits passed effect = subst IsSafe (sym effect.1) safe
 Effect-safe laws old Sweep r new safe fits passed effect = subst IsSafe (sym effect.1) (swept-safe laws old safe)
+Effect-safe laws old Begin r new safe fits passed effect = subst IsSafe (sym effect.1) (IsSafe-begun old safe (laws.begun old.heap safe.heap) (painted_none old safe passed))
+Effect-safe laws old End r new safe fits passed effect = subst IsSafe (sym effect.1) (IsSafe-ended old safe (laws.ended old.heap safe.heap))
 
 StepAfter-safe : Laws → (t : Option TheTrap) (old : State) (c : Command) (r : Reply) (new : State) → IsSafe old → FitsTypes c → first_failed (checks old c) ≡ t
     → StepAfter t old c r new → IsSafe new

@@ -108,10 +108,15 @@ IsMachine-empty base pages size place = record {
   size = size;
   place = place;
   live_inside = All-nil (IsInside (empty_heap base pages));
-  held_inside = All-nil (IsInside (empty_heap base pages));
+  waiting_inside = All-nil (IsInside (empty_heap base pages));
+  painted_inside = All-nil (IsInside (empty_heap base pages));
   live_order = λ j k d less within. absurd (omega arith);
-  held_order = λ j k d less within. absurd (omega arith);
-  apart = All-nil (λ block. All (IsApart block) []);
+  waiting_order = λ j k d less within. absurd (omega arith);
+  painted_order = λ j k d less within. absurd (omega arith);
+  apart_waiting = All-nil (λ block. All (IsApart block) []);
+  apart_painted = All-nil (λ block. All (IsApart block) []);
+  apart_held = All-nil (λ block. All (IsApart block) []);
+  closed = λ _. refl;
 }
 
 pub IsSafe-first : (base pages : ℕ) → is_size pages ≡ true → is_base base pages ≡ true → IsSafe (first_state base pages)

@@ -15,17 +15,18 @@ use Rattle.heap_machine.proofs.CountLaws.{ones-masks, ones-registers}
 use Rattle.heap_machine.proofs.SweptState.{without_tags-swept}
 
 pub AreTaken-masks : (held : List Span) (old new : MemoryState) (registers left : List Cell) (tags : RevokedTags) (cleared : ℕ)
-    → AreRevoked held old registers tags → new.base ≡ old.base → new.cells ≡ without_tags tags.masks.items old.cells
+    → AreRevoked held old registers tags → new.base ≡ old.base → new.dirty ≡ old.dirty → new.cells ≡ without_tags tags.masks.items old.cells
     → length left ≡ 32 → get_or left 0 null_cell ≡ null_cell
     → ((r : ℕ) → r < 32 → get_or left r null_cell ≡ without_tag_if (is_set tags.registers r) (get_or registers r null_cell))
     → ((w : ℕ) → get_or tags.masks.items w 0 < 2 ^ 64) → tags.registers < 2 ^ 32
     → cleared ≡ sum_by count_ones tags.masks.items + count_ones tags.registers
     → AreTaken held old registers new left cleared
-AreTaken-masks held old new registers left tags cleared revoked same cells_are long zero each fits below told =
+AreTaken-masks held old new registers left tags cleared revoked same still cells_are long zero each fits below told =
     let of_memory = ones-masks (λ (g : Granule). takes_tag held (cell_of g)) tags.masks.items old.cells (0, false) revoked.granules.count fits revoked.granules.bits in
     let of_registers = ones-registers held registers tags.registers revoked.count revoked.zero below revoked.bits in
     record {
       base = same;
+      dirty = still;
       cells = cells_are ∙ without_tags-swept held old tags.masks.items revoked.granules;
       registers_are = registers-swept held registers left tags.registers revoked.count revoked.zero revoked.bits long (zero ∙ sym revoked.zero) (λ r some lt. each r lt);
       cleared_is = told ∙ (λ k. of_memory k + of_registers k);

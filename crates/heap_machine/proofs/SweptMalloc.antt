@@ -1,17 +1,17 @@
 -- What a malloc leaves that sweeps first: the state after the sweep, with a block more or without.
-use Rattle.std.proofs.Common.{◌≡◌, ◌∙◌, ◌+◌, ℕ, List, [], true, ap}
+use Rattle.std.proofs.Common.{◌≡◌, ◌∙◌, ◌+◌, ℕ, List, true, ap}
 use Rattle.cap_codec.specs.Words.{capability_of}
 use Rattle.heap_core.specs.Heap.{HeapState}
 use Rattle.heap_core.specs.Place.{IsPlace, block_length, with_live}
-use Rattle.heap_core.specs.Quarantine.{without_held}
+use Rattle.heap_core.specs.Quarantine.{without_waiting}
 use Rattle.tag_memory.specs.Cells.{Cell, MemoryState, null_cell, with_register}
 use Rattle.heap_machine.specs.Revoked.{AreTaken}
 use Rattle.heap_machine.specs.State.{State}
-use Rattle.heap_machine.specs.Step.{HandsOut, HandsOutNone, HasNoPlace, SweepsFirst, swept}
+use Rattle.heap_machine.specs.Step.{HandsOut, HandsOutNone, HasNoPlace, MaySweep, SweepsFirst, swept}
 
 pub HandsOut-swept : (s : State) (rd size base top : ℕ) (heap : HeapState) (old new : MemoryState) (registers left : List Cell) (cleared : ℕ)
-    → old.cells ≡ s.cells → IsPlace (without_held s.heap) size base → top ≡ base + block_length size → heap ≡ with_live (without_held s.heap) size base
-    → AreTaken s.heap.held old s.registers new registers cleared → left ≡ with_register registers rd (capability_of base top, true)
+    → old.cells ≡ s.cells → IsPlace (without_waiting s.heap) size base → top ≡ base + block_length size → heap ≡ with_live (without_waiting s.heap) size base
+    → AreTaken s.heap.waiting old s.registers new registers cleared → left ≡ with_register registers rd (capability_of base top, true)
     → HandsOut (swept s) rd size base top (record { heap = heap; cells = new.cells; registers = left })
 HandsOut-swept s rd size base top heap old new registers left cleared same place end live taken written =
     let cells = rw same at taken.cells in
@@ -19,8 +19,8 @@ HandsOut-swept s rd size base top heap old new registers left cleared same place
     record { place = place; end = end; state = λ i. record { heap = live i; cells = cells i; registers = set i } }
 
 pub HandsOutNone-swept : (s : State) (rd size : ℕ) (heap : HeapState) (old new : MemoryState) (registers left : List Cell) (cleared : ℕ)
-    → old.cells ≡ s.cells → HasNoPlace (swept s) size → heap ≡ without_held s.heap
-    → AreTaken s.heap.held old s.registers new registers cleared → left ≡ with_register registers rd null_cell
+    → old.cells ≡ s.cells → HasNoPlace (swept s) size → heap ≡ without_waiting s.heap
+    → AreTaken s.heap.waiting old s.registers new registers cleared → left ≡ with_register registers rd null_cell
     → HandsOutNone (swept s) rd size (record { heap = heap; cells = new.cells; registers = left })
 HandsOutNone-swept s rd size heap old new registers left cleared same none free taken written =
     let cells = rw same at taken.cells in
@@ -28,6 +28,6 @@ HandsOutNone-swept s rd size heap old new registers left cleared same none free 
     record { none = none; state = λ i. record { heap = free i; cells = cells i; registers = set i } }
 
 pub SweepsFirst-taken : (s : State) (size : ℕ) (old new : MemoryState) (registers : List Cell) (cleared : ℕ)
-    → old.cells ≡ s.cells → HasNoPlace s size → (s.heap.held ≡ [] → ⊥) → AreTaken s.heap.held old s.registers new registers cleared → SweepsFirst s size cleared
-SweepsFirst-taken s size old new registers cleared same none held taken =
-    record { none = none; held = held; cleared_is = rw same at taken.cleared_is }
+    → old.cells ≡ s.cells → HasNoPlace s size → MaySweep s → AreTaken s.heap.waiting old s.registers new registers cleared → SweepsFirst s size cleared
+SweepsFirst-taken s size old new registers cleared same none may taken =
+    record { none = none; may = may; cleared_is = rw same at taken.cleared_is }

@@ -12,15 +12,16 @@ use Rattle.std.proofs.lemmas.List.Sums.{sum_by-cons}
 use Rattle.cap_codec.specs.declared.word.Word.{Word}
 use Rattle.heap_core.specs.Blocks.{Span, bytes_in, has_address, length_of}
 use Rattle.heap_core.specs.Laws.{has_address-within}
-use Rattle.heap_core.specs.Heap.{HeapState, IsInside, IsSound as IsSoundHeap}
-use Rattle.heap_core.specs.Quarantine.{without_held}
+use Rattle.heap_core.specs.Heap.{HeapState, IsInside, IsSound as IsSoundHeap, held_bytes}
+use Rattle.heap_core.specs.Quarantine.{with_epoch, without_epoch, without_waiting}
 use Rattle.sweep_pool.specs.Sweep.{TakeTags, is_revoked, swept_cell, swept_cells, swept_granule, swept_granules, tags_taken}
 use Rattle.tag_memory.specs.Cells.{Cell, Granule, MemoryState, cell_of}
 use Rattle.tag_memory.specs.Tags.{is_set_for, without_tags}
-use Rattle.heap_machine.specs.Safety.{HoldsGuarded, IsGuarded, IsSafe, LieIn}
+use Rattle.heap_machine.specs.Safety.{HoldsGuarded, IsGuarded, IsLiveOrHeld, IsSafe, LieIn}
 use Rattle.heap_machine.specs.State.{State, tags_of}
 use Rattle.cap_codec.specs.Words.{base_of, bounds_in}
-use Rattle.heap_machine.specs.Step.{swept}
+use Rattle.heap_machine.specs.Step.{begun, ended, swept, taken_at_begin}
+use Rattle.heap_machine.proofs.GuardLaws.{IsGuarded-in}
 
 -- ---- memory
 
@@ -98,10 +99,10 @@ count-swept_cells held (c ∷ registers) =
       here,
     )
 
-pub tags_of-swept : (s : State) → tags_of (swept s) + tags_taken s.heap.held s.cells s.registers ≡ tags_of s
+pub tags_of-swept : (s : State) → tags_of (swept s) + tags_taken s.heap.waiting s.cells s.registers ≡ tags_of s
 tags_of-swept s =
-    let held = s.heap.held in
-    let taken = count_by (λ (c : Cell). c.1 && is_revoked s.heap.held c.0) (drop 1 s.registers) in
+    let held = s.heap.waiting in
+    let taken = count_by (λ (c : Cell). c.1 && is_revoked s.heap.waiting c.0) (drop 1 s.registers) in
     let registers = subst (λ (xs : List Cell). count_by (λ (c : Cell). c.1) xs + taken ≡ count_by (λ (c : Cell). c.1) (drop 1 s.registers))
     (sym (drop-map (swept_cell held) 1 s.registers)) (count-swept_cells held (drop 1 s.registers)) in
     omega (arith, count-swept_granules held s.cells, registers)
@@ -114,29 +115,82 @@ revoked_in held w block there lie =
     let here = has_address-within (base_of w) block (omega (arith, lie.start)) (omega (arith, lie.some, lie.end)) in
     list_any-from_Any (has_address (base_of w)) held (there.0, block, there.1, there.2, here)
 
--- What keeps its tag lies in a live block.
-pub IsGuarded-swept : (heap : HeapState) (c : Cell) → IsGuarded heap c → IsGuarded (without_held heap) (swept_cell heap.held c)
+-- What keeps its tag lies in a live or a painted block.
+pub IsGuarded-swept : (heap : HeapState) (c : Cell) → IsGuarded heap c → IsGuarded (without_waiting heap) (swept_cell heap.waiting c)
 IsGuarded-swept heap c guarded = record {
   within = λ e.
-      let both = and_parts c.1 (not (is_revoked heap.held c.0)) e in
+      let both = and_parts c.1 (not (is_revoked heap.waiting c.0)) e in
       let x = guarded.within both.0 in
       elim x.1 [
         | inl live ↦ (x.0, inl live, x.2)
-        | inr held ↦ absurd (true≢false (sym (revoked_in heap.held c.0 x.0 held x.2) ∙ not-true (is_revoked heap.held c.0) both.1))
+        | inr held ↦ elim held [
+          | inl waits ↦ absurd (true≢false (sym (revoked_in heap.waiting c.0 x.0 waits x.2) ∙ not-true (is_revoked heap.waiting c.0) both.1))
+          | inr painted ↦ (x.0, inr (inr painted), x.2)
+        ]
       ];
 }
 
-pub IsSafe-swept : (s : State) → IsSafe s → IsSoundHeap (without_held s.heap) → IsSafe (swept s)
+pub IsSafe-swept : (s : State) → IsSafe s → IsSoundHeap (without_waiting s.heap) → IsSafe (swept s)
 IsSafe-swept s safe sound =
-    let heap = without_held s.heap in
-    let held = s.heap.held in
+    let heap = without_waiting s.heap in
+    let held = s.heap.waiting in
     record {
       heap = sound;
       registers = All-map (IsGuarded heap) (swept_cell held) s.registers (All-weaker (IsGuarded s.heap) (λ c. IsGuarded heap (swept_cell held c)) (IsGuarded-swept s.heap) s.registers safe.registers);
       cells = All-map (HoldsGuarded heap) (swept_granule held) s.cells (All-weaker (HoldsGuarded s.heap) (λ granule. HoldsGuarded heap (swept_granule held granule)) (λ granule. IsGuarded-swept s.heap (cell_of granule)) s.cells safe.cells);
     }
 
--- ---- where nothing is held
+-- ---- epochs
+
+-- Once an epoch has begun each block is one still, ..
+begun_still : (heap : HeapState) → heap.painted ≡ [] → (block : Span) → IsLiveOrHeld heap block → IsLiveOrHeld (with_epoch heap) block
+begun_still heap none block (inl live) = inl live
+begun_still heap none block (inr (inl waits)) = inr (inr waits)
+begun_still heap none block (inr (inr painted)) = (let nowhere : Contains [] block = subst (λ (blocks : List Span). Contains blocks block) none painted in absurd (omega (arith, nowhere.1)))
+
+-- .. and a cell without its tag is guarded as before.
+IsGuarded-fewer : (heap : HeapState) (held : List Span) (c : Cell) → IsGuarded heap c → IsGuarded heap (swept_cell held c)
+IsGuarded-fewer heap held c guarded = record { within = λ e. guarded.within (and_parts c.1 (not (is_revoked held c.0)) e).0 }
+
+pub IsSafe-begun : (s : State) → IsSafe s → IsSoundHeap (with_epoch s.heap) → s.heap.painted ≡ [] → IsSafe (begun s)
+IsSafe-begun s safe sound none =
+    let heap = with_epoch s.heap in
+    let held = s.heap.waiting in
+    let still = begun_still s.heap none in
+    record {
+      heap = sound;
+      registers = All-weaker (IsGuarded s.heap) (IsGuarded heap) (λ c. IsGuarded-in s.heap heap c still) s.registers safe.registers;
+      cells = All-map (HoldsGuarded heap) (swept_granule held) s.cells
+          (All-weaker (HoldsGuarded s.heap) (λ granule. HoldsGuarded heap (swept_granule held granule))
+          (λ granule guarded. IsGuarded-fewer heap held (cell_of granule) (IsGuarded-in s.heap heap (cell_of granule) still guarded)) s.cells safe.cells);
+    }
+
+-- At its end what keeps its tag lies in a live block, or in one that waits.
+IsGuarded-ended : (heap : HeapState) (c : Cell) → IsGuarded heap c → IsGuarded (without_epoch heap) (swept_cell heap.painted c)
+IsGuarded-ended heap c guarded = record {
+  within = λ e.
+      let both = and_parts c.1 (not (is_revoked heap.painted c.0)) e in
+      let x = guarded.within both.0 in
+      elim x.1 [
+        | inl live ↦ (x.0, inl live, x.2)
+        | inr held ↦ elim held [
+          | inl waits ↦ (x.0, inr (inl waits), x.2)
+          | inr painted ↦ absurd (true≢false (sym (revoked_in heap.painted c.0 x.0 painted x.2) ∙ not-true (is_revoked heap.painted c.0) both.1))
+        ]
+      ];
+}
+
+pub IsSafe-ended : (s : State) → IsSafe s → IsSoundHeap (without_epoch s.heap) → IsSafe (ended s)
+IsSafe-ended s safe sound =
+    let heap = without_epoch s.heap in
+    let held = s.heap.painted in
+    record {
+      heap = sound;
+      registers = All-map (IsGuarded heap) (swept_cell held) s.registers (All-weaker (IsGuarded s.heap) (λ c. IsGuarded heap (swept_cell held c)) (IsGuarded-ended s.heap) s.registers safe.registers);
+      cells = All-map (HoldsGuarded heap) (swept_granule held) s.cells (All-weaker (HoldsGuarded s.heap) (λ granule. HoldsGuarded heap (swept_granule held granule)) (λ granule. IsGuarded-ended s.heap (cell_of granule)) s.cells safe.cells);
+    }
+
+-- ---- where no block waits
 
 no_spans : (heap : HeapState) (blocks : List Span) → All (IsInside heap) blocks → bytes_in blocks ≡ 0 → blocks ≡ []
 no_spans heap [] inside none = refl
@@ -145,8 +199,8 @@ no_spans heap (b ∷ blocks) inside none =
     absurd (omega (arith, some, none, sum_by-cons length_of b blocks))
 
 -- Every block has a byte at least, so where held blocks have none there is none.
-pub no_blocks : (heap : HeapState) → IsSoundHeap heap → bytes_in heap.held ≡ 0 → heap.held ≡ []
-no_blocks heap sound none = no_spans heap heap.held sound.held_inside none
+pub no_blocks : (heap : HeapState) → IsSoundHeap heap → held_bytes heap ≡ 0 → heap.waiting ≡ []
+no_blocks heap sound none = no_spans heap heap.waiting sound.waiting_inside (omega (arith, none))
 
 swept_granules-none : (granules : List Granule) → swept_granules [] granules ≡ granules
 swept_granules-none [] = refl
@@ -157,10 +211,24 @@ swept_cells-none [] = refl
 swept_cells-none (c ∷ registers) = λ i. (c.0, and-true c.1 i) ∷ swept_cells-none registers i
 
 -- A sweep then leaves the state as it is, and takes no tag.
-pub swept-none : (s : State) → s.heap.held ≡ [] → swept s ≡ s
+pub swept-none : (s : State) → s.heap.waiting ≡ [] → swept s ≡ s
 swept-none s none =
-    subst (λ (held : List Span). record s { heap = record s.heap { held = [] }; cells = swept_granules held s.cells; registers = swept_cells held s.registers } ≡ s) (sym none)
-    (λ i. record s { heap = record s.heap { held = sym none i }; cells = swept_granules-none s.cells i; registers = swept_cells-none s.registers i })
+    subst (λ (held : List Span). record s { heap = record s.heap { waiting = [] }; cells = swept_granules held s.cells; registers = swept_cells held s.registers } ≡ s) (sym none)
+    (λ i. record s { heap = record s.heap { waiting = sym none i }; cells = swept_granules-none s.cells i; registers = swept_cells-none s.registers i })
 
-pub tags_taken-none : (s : State) → s.heap.held ≡ [] → tags_taken s.heap.held s.cells s.registers ≡ 0
+pub tags_taken-none : (s : State) → s.heap.waiting ≡ [] → tags_taken s.heap.waiting s.cells s.registers ≡ 0
 tags_taken-none s none = omega (arith, tags_of-swept s, ap tags_of (swept-none s none))
+
+-- And what begins an epoch takes none of memory.
+pub begun-none : (s : State) → s.heap.waiting ≡ [] → begun s ≡ record s { heap = with_epoch s.heap }
+begun-none s none =
+    ap (λ (held : List Span). record s { heap = with_epoch s.heap; cells = swept_granules held s.cells }) none
+    ∙ (λ i. record s { heap = with_epoch s.heap; cells = swept_granules-none s.cells i })
+
+pub taken_at_begin-none : (s : State) → s.heap.waiting ≡ [] → taken_at_begin s ≡ 0
+taken_at_begin-none s none =
+    omega (
+      arith,
+      count-swept_granules s.heap.waiting s.cells,
+      ap (λ (held : List Span). count_by (λ (g : Granule). g.1) (swept_granules held s.cells)) none ∙ ap (count_by (λ (g : Granule). g.1)) (swept_granules-none s.cells),
+    )

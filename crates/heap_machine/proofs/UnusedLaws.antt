@@ -7,9 +7,9 @@ use Rattle.heap_core.specs.Heap.{HeapState}
 use Rattle.heap_core.specs.Place.{IsFree, block_length}
 use Rattle.tag_memory.specs.Cells.{Cell, cell_of}
 use Rattle.trace_text.specs.declared.trace.Command.{Command}
-use Rattle.trace_text.specs.declared.trace.Command.TheVariants.{Malloc, Free, Copy, SetAddr, Narrow, AndPerm, StoreCap, LoadCap, Write, Show, Sweep}
+use Rattle.trace_text.specs.declared.trace.Command.TheVariants.{Malloc, Free, Copy, SetAddr, Narrow, AndPerm, StoreCap, LoadCap, Write, Show, Sweep, Begin, End}
 use Rattle.heap_reply.specs.declared.reply.Reply.{Reply}
-use Rattle.heap_reply.specs.declared.reply.Reply.TheVariants.{Block, BlockAfter, NoSpace, NoSpaceAfter, Held, Done, Cleared, Swept, Shown, Trap}
+use Rattle.heap_reply.specs.declared.reply.Reply.TheVariants.{Block, BlockAfter, NoSpace, NoSpaceAfter, Held, Done, Cleared, Swept, Begun, Shown, Trap}
 use Rattle.heap_reply.specs.declared.reply.Trap.{Trap as TheTrap}
 use Rattle.heap_machine.specs.Safety.{HandsOutNothing, HasBaseIn, HasNoBase, HoldsGuarded, IsGuarded, IsLiveOrHeld, IsSafe, IsUnused, IsUnusedBlock, LieIn}
 use Rattle.heap_machine.specs.State.{State}
@@ -21,7 +21,8 @@ use Rattle.heap_machine.specs.Step.{Effect, Step, StepAfter, checks, first_faile
 -- A free place shares no address with a block.
 IsApart-block : (heap : HeapState) (size a : ℕ) (block : Span) → IsFree heap size a → IsLiveOrHeld heap block → IsApart (a, block_length size) block
 IsApart-block heap size a block free (inl live) = All-contains (IsApart (a, block_length size)) heap.live block free.live live
-IsApart-block heap size a block free (inr held) = All-contains (IsApart (a, block_length size)) heap.held block free.held held
+IsApart-block heap size a block free (inr (inl waits)) = All-contains (IsApart (a, block_length size)) heap.waiting block free.waiting waits
+IsApart-block heap size a block free (inr (inr painted)) = All-contains (IsApart (a, block_length size)) heap.painted block free.painted painted
 
 no_base : (a n : ℕ) (bounds : Bounds) (block : Span) → IsApart (a, n) block → LieIn bounds block → a ≤ bounds.base → bounds.base < a + n → ⊥
 no_base a n bounds block (inl before) lie from end = absurd (omega (arith, lie.start))
@@ -60,6 +61,7 @@ Malloc-unused old rd size (Held bytes) new safe after effect = effect
 Malloc-unused old rd size Done new safe after effect = effect
 Malloc-unused old rd size Cleared new safe after effect = effect
 Malloc-unused old rd size (Swept cleared released) new safe after effect = effect
+Malloc-unused old rd size (Begun cleared) new safe after effect = effect
 Malloc-unused old rd size (Shown shown) new safe after effect = effect
 Malloc-unused old rd size (Trap trap) new safe after effect = absurd effect
 
@@ -80,4 +82,6 @@ Step-unused old (StoreCap ra rs) r new safe after step = After-nothing (first_fa
 Step-unused old (LoadCap rd ra) r new safe after step = After-nothing (first_failed (checks old (LoadCap rd ra))) old (LoadCap rd ra) r new (λ e. nothing r Done tt e.0) step
 Step-unused old (Write ra bytes) r new safe after step = After-nothing (first_failed (checks old (Write ra bytes))) old (Write ra bytes) r new (λ e. nothing r Done tt e.0) step
 Step-unused old (Show rs) r new safe after step = nothing r _ tt step.0
-Step-unused old Sweep r new safe after step = nothing r _ tt step.0
+Step-unused old Sweep r new safe after step = After-nothing (first_failed (checks old Sweep)) old Sweep r new (λ e. nothing r _ tt e.0) step
+Step-unused old Begin r new safe after step = After-nothing (first_failed (checks old Begin)) old Begin r new (λ e. nothing r _ tt e.0) step
+Step-unused old End r new safe after step = After-nothing (first_failed (checks old End)) old End r new (λ e. nothing r _ tt e.0) step

@@ -1,3 +1,4 @@
+pub mod Dirty
 pub mod Parts
 pub mod Revoked
 pub mod Safety

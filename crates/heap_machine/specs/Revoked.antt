@@ -13,9 +13,10 @@ pub record AreRevoked (held : List Span) (memory : MemoryState) (registers : Lis
   pub count : length registers ≡ register_count
   pub zero : slice_index_or registers 0 null_cell ≡ null_cell
 
--- They are taken, and so many they were.
+-- They are taken, and so many they were. The pages that are dirty stay so.
 pub record AreTaken (held : List Span) (memory : MemoryState) (registers : List Cell) (new : MemoryState) (left : List Cell) (cleared : ℕ) : Type 0 where
   pub base : new.base ≡ memory.base
   pub cells : new.cells ≡ swept_granules held memory.cells
+  pub dirty : new.dirty ≡ memory.dirty
   pub registers_are : left ≡ swept_cells held registers
   pub cleared_is : cleared ≡ tags_taken held memory.cells registers

@@ -8,9 +8,9 @@ use Rattle.heap_core.specs.Blocks.{Span, end_of, start_of}
 use Rattle.heap_core.specs.Heap.{HeapState, IsSound as IsSoundHeap}
 use Rattle.tag_memory.specs.Cells.{Cell, Granule, cell_of}
 use Rattle.trace_text.specs.declared.trace.Command.{Command}
-use Rattle.trace_text.specs.declared.trace.Command.TheVariants.{Malloc, Free, Copy, SetAddr, Narrow, AndPerm, StoreCap, LoadCap, Write, Show, Sweep}
+use Rattle.trace_text.specs.declared.trace.Command.TheVariants.{Malloc, Free, Copy, SetAddr, Narrow, AndPerm, StoreCap, LoadCap, Write, Show, Sweep, Begin, End}
 use Rattle.heap_reply.specs.declared.reply.Reply.{Reply}
-use Rattle.heap_reply.specs.declared.reply.Reply.TheVariants.{Block, BlockAfter, NoSpace, NoSpaceAfter, Held, Done, Cleared, Swept, Shown, Trap}
+use Rattle.heap_reply.specs.declared.reply.Reply.TheVariants.{Block, BlockAfter, NoSpace, NoSpaceAfter, Held, Done, Cleared, Swept, Begun, Shown, Trap}
 use Rattle.heap_machine.specs.State.{State}
 use Rattle.heap_machine.specs.Step.{swept}
 use Rattle.cap_codec.specs.Words.{bounds_in}
@@ -21,9 +21,13 @@ pub record LieIn (bounds : Bounds) (block : Span) : Type 0 where
   pub some : bounds.base < bounds.top
   pub end : bounds.top ≤ end_of block
 
--- A block in use is live; one that was given up is held, in quarantine.
+-- A block that was given up is held, in quarantine: it waits, or is painted.
+abbrev pub IsHeld : HeapState → Span → Type 0
+IsHeld heap block = Contains heap.waiting block ⊎ Contains heap.painted block
+
+-- A block in use is live.
 abbrev pub IsLiveOrHeld : HeapState → Span → Type 0
-IsLiveOrHeld heap block = Contains heap.live block ⊎ Contains heap.held block
+IsLiveOrHeld heap block = Contains heap.live block ⊎ IsHeld heap block
 
 -- The cell is guarded: where it is tagged, its bounds lie in one live or held block.
 pub record IsGuarded (heap : HeapState) (c : Cell) : Type 0 where
@@ -61,6 +65,7 @@ IsUnusedBlock s (Held bytes) = ⊥
 IsUnusedBlock s Done = ⊥
 IsUnusedBlock s Cleared = ⊥
 IsUnusedBlock s (Swept cleared released) = ⊥
+IsUnusedBlock s (Begun cleared) = ⊥
 IsUnusedBlock s (Shown shown) = ⊥
 IsUnusedBlock s (Trap trap) = ⊥
 
@@ -74,6 +79,7 @@ HandsOutNothing (Held bytes) = Unit {0}
 HandsOutNothing Done = Unit {0}
 HandsOutNothing Cleared = Unit {0}
 HandsOutNothing (Swept cleared released) = Unit {0}
+HandsOutNothing (Begun cleared) = Unit {0}
 HandsOutNothing (Shown shown) = Unit {0}
 HandsOutNothing (Trap trap) = Unit {0}
 
@@ -90,6 +96,8 @@ IsUnused s (LoadCap rd ra) r = HandsOutNothing r
 IsUnused s (Write ra bytes) r = HandsOutNothing r
 IsUnused s (Show rs) r = HandsOutNothing r
 IsUnused s Sweep r = HandsOutNothing r
+IsUnused s Begin r = HandsOutNothing r
+IsUnused s End r = HandsOutNothing r
 
 -- The cell is in use: where it is tagged, its bounds lie in one live block.
 pub record IsInUse (heap : HeapState) (c : Cell) : Type 0 where
@@ -98,6 +106,14 @@ pub record IsInUse (heap : HeapState) (c : Cell) : Type 0 where
 -- Each tagged word of the state is in use.
 abbrev pub AreInUse : State → Type 0
 AreInUse s = All (IsInUse s.heap) s.registers × All (λ granule. IsInUse s.heap (cell_of granule)) s.cells
+
+-- The cell is in use, or its block waits: where it is tagged, its bounds lie in one live or waiting block.
+pub record IsInUseOrWaiting (heap : HeapState) (c : Cell) : Type 0 where
+  pub within : IsTrue c.1 → (block : Span) × (Contains heap.live block ⊎ Contains heap.waiting block) × LieIn (bounds_in c.0) block
+
+-- Each tagged word of the state is in use, or its block waits.
+abbrev pub AreInUseOrWaiting : State → Type 0
+AreInUseOrWaiting s = All (IsInUseOrWaiting s.heap) s.registers × All (λ granule. IsInUseOrWaiting s.heap (cell_of granule)) s.cells
 
 -- The reply tells of no sweep.
 abbrev pub TellsNoSweep : Reply → Type 0
@@ -109,6 +125,7 @@ TellsNoSweep (Held bytes) = Unit {0}
 TellsNoSweep Done = Unit {0}
 TellsNoSweep Cleared = Unit {0}
 TellsNoSweep (Swept cleared released) = ⊥
+TellsNoSweep (Begun cleared) = Unit {0}
 TellsNoSweep (Shown shown) = Unit {0}
 TellsNoSweep (Trap trap) = Unit {0}
 
@@ -122,11 +139,26 @@ LeavesBlocksInUse (Held bytes) s = ⊥
 LeavesBlocksInUse Done s = ⊥
 LeavesBlocksInUse Cleared s = ⊥
 LeavesBlocksInUse (Swept cleared released) s = ⊥
+LeavesBlocksInUse (Begun cleared) s = ⊥
 LeavesBlocksInUse (Shown shown) s = ⊥
 LeavesBlocksInUse (Trap trap) s = ⊥
 
--- After a sweep no tagged word is left that points into a block that was given up: each is in use. No other
--- command tells of a sweep.
+-- A sweep that is done leaves what P says; else it is trapped.
+abbrev pub LeavesSwept : (State → Type 0) → Reply → State → Type 0
+LeavesSwept P (Block base top) s = ⊥
+LeavesSwept P (BlockAfter base top cleared) s = ⊥
+LeavesSwept P NoSpace s = ⊥
+LeavesSwept P (NoSpaceAfter cleared) s = ⊥
+LeavesSwept P (Held bytes) s = ⊥
+LeavesSwept P Done s = ⊥
+LeavesSwept P Cleared s = ⊥
+LeavesSwept P (Swept cleared released) s = P s
+LeavesSwept P (Begun cleared) s = ⊥
+LeavesSwept P (Shown shown) s = ⊥
+LeavesSwept P (Trap trap) s = Unit {0}
+
+-- After a sweep no tagged word is left that points into a block that was given up: each is in use. After the end of an
+-- epoch each is in use, or its block waits, which was given up since the epoch began. No other command tells of a sweep.
 abbrev pub LeavesInUse : Command → Reply → State → Type 0
 LeavesInUse (Malloc rd size) r s = LeavesBlocksInUse r s
 LeavesInUse (Free rs) r s = TellsNoSweep r
@@ -138,7 +170,9 @@ LeavesInUse (StoreCap ra rs) r s = TellsNoSweep r
 LeavesInUse (LoadCap rd ra) r s = TellsNoSweep r
 LeavesInUse (Write ra bytes) r s = TellsNoSweep r
 LeavesInUse (Show rs) r s = TellsNoSweep r
-LeavesInUse Sweep r s = AreInUse s
+LeavesInUse Sweep r s = LeavesSwept AreInUse r s
+LeavesInUse Begin r s = TellsNoSweep r
+LeavesInUse End r s = LeavesSwept AreInUseOrWaiting r s
 
 -- A command so answered hands out bytes safely: what it hands out is unused before, and what a sweep leaves is in use.
 pub record IsReuseSafe (old : State) (c : Command) (r : Reply) (new : State) : Type 0 where
@@ -158,3 +192,5 @@ FitsTypes (LoadCap rd ra) = Unit {0}
 FitsTypes (Write ra bytes) = Unit {0}
 FitsTypes (Show rs) = Unit {0}
 FitsTypes Sweep = Unit {0}
+FitsTypes Begin = Unit {0}
+FitsTypes End = Unit {0}

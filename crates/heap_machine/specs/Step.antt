@@ -1,19 +1,19 @@
 -- What each command answers, and what state it leaves: the table of the commands (this project's own
 -- profile). First come the checks of a command in their order; the first that fails is the trap, and a trap
 -- changes nothing. Where none fails, the effect is the command's.
-use Rattle.std.specs.Prelude.{◌≡◌, ◌⊎◌, ℕ, ◌+◌, ◌-◌, ◌/◌, ◌%◌, Bool, true, false, not, ◌||◌, slice_index_or, slice_set, List, [], ◌∷◌, Option, Some, None, ◌&&◌, ◌==◌, nat_le, if◌then◌else◌}
+use Rattle.std.specs.Prelude.{◌≡◌, ◌⊎◌, ℕ, ◌+◌, ◌-◌, ◌/◌, ◌%◌, Bool, true, false, not, ◌||◌, slice_index_or, slice_set, List, [], ◌∷◌, Option, Some, None, ◌&&◌, ◌==◌, count_by, nat_le, if◌then◌else◌}
 use Rattle.cap_codec.specs.declared.word.Word.{Word}
 use Rattle.cap_codec.specs.Bytes.{bits_of_bytes}
 use Rattle.cap_codec.specs.Words.{address_in, allows, bounds_in, capability_of, is_exact, keeps_bounds, lie_within, load, load_capability, narrowed, store, store_capability, with_address, with_perms}
 use Rattle.heap_core.specs.Blocks.{bytes_in, is_block}
 use Rattle.heap_core.specs.Place.{IsFree, IsPlace, block_length, with_live}
-use Rattle.heap_core.specs.Quarantine.{with_held, without_held}
-use Rattle.sweep_pool.specs.Sweep.{swept_cells, swept_granules, tags_taken}
-use Rattle.tag_memory.specs.Cells.{Cell, Granule, null_cell}
+use Rattle.heap_core.specs.Quarantine.{is_held_block, with_epoch, with_waiting, without_epoch, without_waiting}
+use Rattle.sweep_pool.specs.Sweep.{swept_cells, swept_granules, tags_taken, takes_tag}
+use Rattle.tag_memory.specs.Cells.{Cell, Granule, cell_of, null_cell}
 use Rattle.trace_text.specs.declared.trace.Command.{Command}
-use Rattle.trace_text.specs.declared.trace.Command.TheVariants.{Malloc, Free, Copy, SetAddr, Narrow, AndPerm, StoreCap, LoadCap, Write, Show, Sweep}
+use Rattle.trace_text.specs.declared.trace.Command.TheVariants.{Malloc, Free, Copy, SetAddr, Narrow, AndPerm, StoreCap, LoadCap, Write, Show, Sweep, Begin, End}
 use Rattle.heap_reply.specs.declared.reply.Reply.{Reply}
-use Rattle.heap_reply.specs.declared.reply.Reply.TheVariants.{Block, BlockAfter, NoSpace, NoSpaceAfter, Held, Done, Cleared, Swept}
+use Rattle.heap_reply.specs.declared.reply.Reply.TheVariants.{Block, BlockAfter, NoSpace, NoSpaceAfter, Held, Done, Cleared, Swept, Begun}
 use Rattle.heap_reply.specs.declared.reply.Reply.TheVariants as reply
 use Rattle.heap_reply.specs.declared.reply.Trap.{Trap}
 use Rattle.heap_reply.specs.declared.reply.Trap.TheVariants as trap
@@ -42,24 +42,46 @@ granule_at s w = slice_index_or s.cells (index_in s w) (0, false)
 abbrev pub with_granule : State → Word → Granule → State
 with_granule s w granule = record s { cells = slice_set s.cells (index_in s w) granule }
 
--- ---- freeing and sweeping
+-- ---- freeing, sweeping and epochs
 
--- The state once the live block with a word's bounds is held.
+-- The state once the live block with a word's bounds waits.
 abbrev pub freed : State → Word → State
-freed s w = record s { heap = with_held s.heap (bounds_in w).base (bounds_in w).top }
+freed s w = record s { heap = with_waiting s.heap (bounds_in w).base (bounds_in w).top }
 
--- The state after a sweep: each tagged word whose base lies in a held block has lost its tag, in memory and
--- in the registers, and the held blocks are free.
+-- The state after a sweep: each tagged word whose base lies in a block that waits has lost its tag, in memory and
+-- in the registers, and these blocks are free.
 abbrev pub swept : State → State
 swept s = record s {
-  heap = without_held s.heap;
-  cells = swept_granules s.heap.held s.cells;
-  registers = swept_cells s.heap.held s.registers;
+  heap = without_waiting s.heap;
+  cells = swept_granules s.heap.waiting s.cells;
+  registers = swept_cells s.heap.waiting s.registers;
 }
 
 -- How many tags a sweep takes.
 abbrev pub taken : State → ℕ
-taken s = tags_taken s.heap.held s.cells s.registers
+taken s = tags_taken s.heap.waiting s.cells s.registers
+
+-- The state once an epoch has begun: the blocks that waited are painted, and each tagged word in memory whose base lies
+-- in one of them has lost its tag. The registers stay.
+abbrev pub begun : State → State
+begun s = record s { heap = with_epoch s.heap; cells = swept_granules s.heap.waiting s.cells }
+
+-- How many tags that takes.
+abbrev pub taken_at_begin : State → ℕ
+taken_at_begin s = count_by (λ g. takes_tag s.heap.waiting (cell_of g)) s.cells
+
+-- The state once the epoch has ended: each tagged word whose base lies in a painted block has lost its tag, in memory
+-- and in the registers, and these blocks are free. The blocks that wait stay so.
+abbrev pub ended : State → State
+ended s = record s {
+  heap = without_epoch s.heap;
+  cells = swept_granules s.heap.painted s.cells;
+  registers = swept_cells s.heap.painted s.registers;
+}
+
+-- How many tags that takes.
+abbrev pub taken_at_end : State → ℕ
+taken_at_end s = tags_taken s.heap.painted s.cells s.registers
 
 -- ---- handing out
 
@@ -78,10 +100,15 @@ pub record HandsOutNone (old : State) (rd size : ℕ) (new : State) : Type 0 whe
   pub none : HasNoPlace old size
   pub state : new ≡ with_cell old rd null_cell
 
--- A malloc of this size sweeps first, and takes so many tags: it has no place, and some block is held.
+-- A malloc may sweep: no epoch is open, and some block waits.
+pub record MaySweep (s : State) : Type 0 where
+  pub closed : s.heap.is_open ≡ false
+  pub waiting : s.heap.waiting ≡ [] → ⊥
+
+-- A malloc of this size sweeps first, and takes so many tags: it has no place, and may sweep.
 pub record SweepsFirst (old : State) (size cleared : ℕ) : Type 0 where
   pub none : HasNoPlace old size
-  pub held : old.heap.held ≡ [] → ⊥
+  pub may : MaySweep old
   pub cleared_is : cleared ≡ taken old
 
 -- ---- steps
@@ -93,12 +120,14 @@ checks s (Copy rd rs) = []
 checks s (SetAddr rd rs address) = []
 checks s (AndPerm rd rs mask) = []
 checks s (Show rs) = []
-checks s Sweep = []
+checks s Sweep = (not s.heap.is_open, trap.Open) ∷ []
+checks s Begin = (not s.heap.is_open, trap.Open) ∷ []
+checks s End = (s.heap.is_open, trap.NotOpen) ∷ []
 checks s (Free rs) =
     let c = register s rs in
     let b = bounds_in c.0 in
     (c.1, trap.Tag)
-    ∷ (not (is_block s.heap.held b.base b.top), trap.Freed)
+    ∷ (not (is_held_block s.heap b.base b.top), trap.Freed)
     ∷ (is_block s.heap.live b.base b.top, trap.NotBlock) ∷ []
 checks s (Narrow rd rs n) =
     let c = register s rs in
@@ -122,12 +151,13 @@ first_failed (c ∷ cs) = if c.0 then first_failed cs else Some c.1
 abbrev pub Effect : State → Command → Reply → State → Type 0
 Effect old (Malloc rd size) (Block base top) new = HandsOut old rd size base top new
 Effect old (Malloc rd size) (BlockAfter base top cleared) new = SweepsFirst old size cleared × HandsOut (swept old) rd size base top new
-Effect old (Malloc rd size) NoSpace new = (old.heap.held ≡ []) × HandsOutNone old rd size new
+Effect old (Malloc rd size) NoSpace new = (MaySweep old → ⊥) × HandsOutNone old rd size new
 Effect old (Malloc rd size) (NoSpaceAfter cleared) new = SweepsFirst old size cleared × HandsOutNone (swept old) rd size new
 Effect old (Malloc rd size) (Held bytes) new = ⊥
 Effect old (Malloc rd size) Done new = ⊥
 Effect old (Malloc rd size) Cleared new = ⊥
 Effect old (Malloc rd size) (Swept cleared released) new = ⊥
+Effect old (Malloc rd size) (Begun cleared) new = ⊥
 Effect old (Malloc rd size) (reply.Shown shown) new = ⊥
 Effect old (Malloc rd size) (reply.Trap trap) new = ⊥
 Effect old (Free rs) answer new =
@@ -154,7 +184,10 @@ Effect old (LoadCap rd ra) answer new =
 Effect old (Write ra bytes) answer new = (answer ≡ Done) × (new ≡ with_granule old (register old ra).0 (bits_of_bytes bytes, false))
 Effect old (Show rs) answer new = (answer ≡ reply.Shown (shown_of (register old rs))) × (new ≡ old)
 Effect old Sweep answer new =
-    (answer ≡ Swept (taken old) (bytes_in old.heap.held)) × (new ≡ swept old)
+    (answer ≡ Swept (taken old) (bytes_in old.heap.waiting)) × (new ≡ swept old)
+Effect old Begin answer new = (answer ≡ Begun (taken_at_begin old)) × (new ≡ begun old)
+Effect old End answer new =
+    (answer ≡ Swept (taken_at_end old) (bytes_in old.heap.painted)) × (new ≡ ended old)
 
 -- The step where a check fails, and where none does.
 abbrev pub StepAfter : Option Trap → State → Command → Reply → State → Type 0
@@ -165,9 +198,10 @@ StepAfter (Some trap) old command answer new = (answer ≡ reply.Trap trap) × (
 abbrev pub Step : State → Command → Reply → State → Type 0
 Step old command answer new = StepAfter (first_failed (checks old command)) old command answer new
 
--- The command needs no memory: it sweeps nothing, since no block is held, or since the block that it asks for has a place.
+-- The command needs no memory: it makes no pass, since no block waits, since an epoch is open or isn't, or since the block
+-- that it asks for has a place.
 abbrev pub TakesNoMemory : State → Command → Type 0
-TakesNoMemory s (Malloc rd size) = ((a : ℕ) × IsFree s.heap size a) ⊎ (s.heap.held ≡ [])
+TakesNoMemory s (Malloc rd size) = ((a : ℕ) × IsFree s.heap size a) ⊎ (MaySweep s → ⊥)
 TakesNoMemory s (Free rs) = Unit {0}
 TakesNoMemory s (Copy rd rs) = Unit {0}
 TakesNoMemory s (SetAddr rd rs address) = Unit {0}
@@ -177,4 +211,6 @@ TakesNoMemory s (StoreCap ra rs) = Unit {0}
 TakesNoMemory s (LoadCap rd ra) = Unit {0}
 TakesNoMemory s (Write ra bytes) = Unit {0}
 TakesNoMemory s (Show rs) = Unit {0}
-TakesNoMemory s Sweep = s.heap.held ≡ []
+TakesNoMemory s Sweep = (s.heap.is_open ≡ true) ⊎ (s.heap.waiting ≡ [])
+TakesNoMemory s Begin = (s.heap.is_open ≡ true) ⊎ (s.heap.waiting ≡ [])
+TakesNoMemory s End = s.heap.is_open ≡ false

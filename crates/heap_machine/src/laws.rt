@@ -1,9 +1,10 @@
 //! The laws of commands: each has one reply and leaves one state, and from a safe state a safe one.
 
-ghost use Rattle.std.specs.Prelude.{◌≡◌, ℕ, true};
+ghost use Rattle.std.specs.Prelude.{◌≡◌, ℕ, Bool, List, true};
 ghost use Rattle.tag_memory.specs.Span.{is_base, is_size};
 ghost use Rattle.trace_text.specs.declared.trace.Command.{Command as TheCommand};
 ghost use Rattle.heap_reply.specs.declared.reply.Reply.{Reply as TheReply};
+ghost use Rattle.heap_machine.specs.Dirty.{HasPages, IsDirtied, dirty_after};
 ghost use Rattle.heap_machine.specs.Safety.{FitsTypes, IsSafe, IsUnused, LeavesInUse};
 ghost use Rattle.heap_machine.specs.State.{State, first_state};
 ghost use Rattle.heap_machine.specs.Step.{Step};
@@ -13,7 +14,8 @@ use heap_core::changes;
 
 /// In each state a command has exactly one reply and leaves exactly one state. The first state is safe, and
 /// from a safe state a command leaves a safe state, hands out only what is unused, and leaves after a sweep
-/// only words in use (Filardo et al. 2020, Cornucopia: heap temporal safety).
+/// only words in use (Filardo et al. 2020, Cornucopia: heap temporal safety). And where each tagged word of memory
+/// whose base lies in a painted block stands in a dirty page, it is so after each command.
 pub fn steps()
     ensures one { (old : State) (command : TheCommand) →
         (reply : TheReply) × (new : State) × Step old command reply new }
@@ -27,6 +29,8 @@ pub fn steps()
         IsSafe old → Step old command reply new → IsUnused old command reply }
     ensures revoked { (old : State) (command : TheCommand) (reply : TheReply) (new : State) →
         IsSafe old → FitsTypes command → Step old command reply new → LeavesInUse command reply new }
+    ensures dirtied { (old : State) (command : TheCommand) (reply : TheReply) (new : State) (dirty : List Bool) →
+        HasPages old dirty → IsDirtied old dirty → Step old command reply new → IsDirtied new (dirty_after old command dirty) }
 {
     derivations();
     changes();

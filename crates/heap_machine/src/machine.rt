@@ -1,9 +1,11 @@
 //! The machine that runs the commands of a trace.
 
-ghost use Rattle.std.specs.Prelude.{◌≡◌, ◌↔◌, ◌+◌, IfErr, IfOk, IsOk, OnErr, false, true};
+ghost use Rattle.std.specs.Prelude.{◌≡◌, ◌↔◌, ◌+◌, IfErr, IfOk, IsOk, OnErr, OnOk, false, replicate, true};
 ghost use Rattle.heap_core.specs.Blocks.{bytes_in};
+ghost use Rattle.heap_core.specs.Heap as heap;
 ghost use Rattle.tag_memory.specs.Span as span;
 ghost use Rattle.trace_text.specs.Command.{IsValid};
+ghost use Rattle.heap_machine.specs.Dirty.{IsDirtied, dirty_after};
 ghost use Rattle.heap_machine.specs.Safety.{IsSafe, IsUnused, LeavesInUse};
 ghost use Rattle.heap_machine.specs.State.{first_state};
 ghost use Rattle.heap_machine.specs.Step.{Step, TakesNoMemory};
@@ -20,19 +22,19 @@ use sweep_pool::{Cutting, Gate};
 use tag_memory::{Memory, MemoryFault, Registers};
 use trace_text::Command;
 
-/// One heap with its memory, and 32 registers. Its state is sound, so it is safe.
+/// One heap with its memory, and 32 registers. Its state is sound, so it is safe, and in an open epoch what the
+/// painted blocks have in memory stands in dirty pages.
 #[derive(Drop)]
 pub struct Machine {
     parts: Parts,
 }
 
 impl Model for Machine {
-    ghost use Rattle.heap_machine.specs.Parts.{AreParts, state_of};
-    ghost use Rattle.heap_machine.specs.State.{State};
+    ghost use Rattle.heap_machine.specs.Parts.{AreParts, MachineState, machine_of};
 
-    ghost Value = { State };
+    ghost Value = { MachineState };
 
-    ghost view = { λ m. state_of m.parts };
+    ghost view = { λ m. machine_of m.parts };
 
     ghost invariant = { λ m. AreParts m.parts };
 }
@@ -49,8 +51,9 @@ impl Machine {
         ensures bad_size { (result ≡ Err MachineFault.BadSize) ↔ (span.is_size pages ≡ false) }
         ensures bad_base { (result ≡ Err MachineFault.BadBase)
             ↔ ((span.is_size pages ≡ true) × (span.is_base base pages ≡ false)) }
-        ensures first { IfOk result (λ machine. machine ≡ first_state base pages) }
-        ensures safe { IfOk result IsSafe }
+        ensures first { IfOk result (λ machine. machine.state ≡ first_state base pages) }
+        ensures clean { IfOk result (λ machine. machine.dirty ≡ replicate pages false) }
+        ensures safe { IfOk result (λ machine. IsSafe machine.state) }
     {
         let memory = match Memory::new(alloc, base, pages) {
             Ok(memory) => memory,
@@ -70,7 +73,8 @@ impl Machine {
         Ok(Machine { parts })
     }
 
-    /// Does one command. `gate` is told of each task of a sweep, which has none where nothing is held.
+    /// Does one command. `gate` is told of each task of a pass: of a sweep and of what begins an epoch, which make none
+    /// where nothing waits, and of what ends it, each task that has a dirty page.
     pub fn step<R: Threads + Sync, G: Gate + Sync>(
         &mut self,
         rt: &R,
@@ -79,61 +83,67 @@ impl Machine {
         gate: &G,
     ) -> Result<Reply, MachineFault>
         requires { IsValid command }
-        ensures step { IfOk result (λ reply. Step self.old command reply self.new) }
+        ensures step { IfOk result (λ reply. Step self.old.state command reply self.new.state) }
         ensures err { OnErr result (self.new ≡ self.old) }
         ensures memory { IfErr result (λ fault. fault ≡ MachineFault.Memory) }
-        ensures ok { TakesNoMemory self.old command → IsOk result }
-        ensures safe { IsSafe self.new }
-        ensures unused { IfOk result (λ reply. IsUnused self.old command reply) }
-        ensures revoked { IfOk result (λ reply. LeavesInUse command reply self.new) }
+        ensures ok { TakesNoMemory self.old.state command → IsOk result }
+        ensures safe { IsSafe self.new.state }
+        ensures unused { IfOk result (λ reply. IsUnused self.old.state command reply) }
+        ensures revoked { IfOk result (λ reply. LeavesInUse command reply self.new.state) }
+        // A page is dirty where a tagged word was stored into it since an epoch began, and so stands each tagged word
+        // of memory whose base lies in a painted block.
+        ensures dirty { OnOk result (self.new.dirty ≡ dirty_after self.old.state command self.old.dirty) }
+        ensures dirtied { IsDirtied self.new.state self.new.dirty }
     {
         // From a sound state each step leads to one.
         steps();
+        self.parts.memory.whole();
         self.parts.serve(rt, alloc, command, gate)
     }
 
     /// The registers now.
     pub fn registers(&self) -> &Registers
-        ensures { result.now ≡ self.now.registers }
+        ensures { result.now ≡ self.now.state.registers }
     {
         &self.parts.registers
     }
 
     /// The memory now.
     pub fn memory(&self) -> &Memory
-        ensures base { result.now.base ≡ self.now.heap.base }
-        ensures cells { result.now.cells ≡ self.now.cells }
+        ensures base { result.now.base ≡ self.now.state.heap.base }
+        ensures cells { result.now.cells ≡ self.now.state.cells }
+        ensures dirty { result.now.dirty ≡ self.now.dirty }
     {
         &self.parts.memory
     }
 
     /// The bytes in live blocks.
     pub fn live_bytes(&self) -> u64
-        ensures { result ≡ bytes_in self.now.heap.live }
+        ensures { result ≡ bytes_in self.now.state.heap.live }
     {
         self.parts.heap.live_bytes()
     }
 
-    /// The bytes in held blocks.
+    /// The bytes in held blocks, in those that wait and the painted ones.
     pub fn held_bytes(&self) -> u64
-        ensures { result ≡ bytes_in self.now.heap.held }
+        ensures { result ≡ heap.held_bytes self.now.state.heap }
     {
         self.parts.heap.held_bytes()
     }
 
     /// The bytes in no block.
     pub fn free_bytes(&self) -> u64
-        ensures { bytes_in self.now.heap.live + bytes_in self.now.heap.held + result
-            ≡ self.now.heap.size }
+        ensures { bytes_in self.now.state.heap.live + heap.held_bytes self.now.state.heap + result
+            ≡ self.now.state.heap.size }
     {
         self.parts.heap.free_bytes()
     }
 
     /// The memory and the registers, which are left when a run is over.
     pub fn finish(self) -> (Memory, Registers)
-        ensures base { result.0.base ≡ self.heap.base }
-        ensures cells { result.0.cells ≡ self.cells }
-        ensures registers { result.1 ≡ self.registers }
+        ensures base { result.0.base ≡ self.state.heap.base }
+        ensures cells { result.0.cells ≡ self.state.cells }
+        ensures registers { result.1 ≡ self.state.registers }
     {
         let Parts {
             memory,

@@ -3,11 +3,13 @@
 ghost use Rattle.std.specs.Prelude.{◌≡◌, ◌<◌, IfErr, IfOk, IsOk, None, OnErr, OnOk, Some, length};
 ghost use Rattle.tag_memory.specs.Cells.{register_at, register_count};
 ghost use Rattle.trace_text.specs.Command.{IsValid};
+ghost use Rattle.heap_machine.specs.Dirty.{dirty_after};
 ghost use Rattle.heap_machine.specs.Parts.{AreParts, state_of};
 ghost use Rattle.heap_machine.specs.Safety.{FitsTypes};
 ghost use Rattle.heap_machine.specs.Step.{Step, TakesNoMemory, access, first_failed, index_in};
 
 mod allocation;
+mod epochs;
 mod retry;
 mod revocation;
 
@@ -47,6 +49,7 @@ impl Parts {
         requires valid { IsValid command }
         ensures step { IfOk result (λ reply. Step (state_of self.old) command reply (state_of self.new)) }
         ensures base { self.new.memory.base ≡ self.new.heap.base }
+        ensures dirty { OnOk result (self.new.memory.dirty ≡ dirty_after (state_of self.old) command self.old.memory.dirty) }
         ensures err { OnErr result (self.new ≡ self.old) }
         ensures memory { IfErr result (λ fault. fault ≡ MachineFault.Memory) }
         ensures ok { TakesNoMemory (state_of self.old) command → IsOk result }
@@ -65,6 +68,8 @@ impl Parts {
             Command::Write { ra, bytes } => Ok(self.write(ra, bytes)),
             Command::Show { rs } => Ok(self.show(rs)),
             Command::Sweep => self.sweep(rt, alloc, gate),
+            Command::Begin => self.begin(rt, alloc, gate),
+            Command::End => self.end(rt, alloc, gate),
         }
     }
 
@@ -73,6 +78,7 @@ impl Parts {
         requires valid { IsValid (Command.Copy rd rs) }
         ensures step { Step (state_of self.old) (Command.Copy rd rs) result (state_of self.new) }
         ensures base { self.new.memory.base ≡ self.new.heap.base }
+        ensures dirty { self.new.memory.dirty ≡ dirty_after (state_of self.old) (Command.Copy rd rs) self.old.memory.dirty }
     {
         let (word, tag) = self.registers.get(rs);
         self.registers.set(rd, word, tag);
@@ -84,6 +90,7 @@ impl Parts {
         requires valid { IsValid (Command.SetAddr rd rs address) }
         ensures step { Step (state_of self.old) (Command.SetAddr rd rs address) result (state_of self.new) }
         ensures base { self.new.memory.base ≡ self.new.heap.base }
+        ensures dirty { self.new.memory.dirty ≡ dirty_after (state_of self.old) (Command.SetAddr rd rs address) self.old.memory.dirty }
     {
         let (word, tag) = self.registers.get(rs);
         let keeps = representable(word, address);
@@ -100,6 +107,7 @@ impl Parts {
         requires valid { IsValid (Command.Narrow rd rs length) }
         ensures step { Step (state_of self.old) (Command.Narrow rd rs length) result (state_of self.new) }
         ensures base { self.new.memory.base ≡ self.new.heap.base }
+        ensures dirty { self.new.memory.dirty ≡ dirty_after (state_of self.old) (Command.Narrow rd rs length) self.old.memory.dirty }
     {
         let (word, tag) = self.registers.get(rs);
         if !tag {
@@ -125,6 +133,7 @@ impl Parts {
         requires valid { IsValid (Command.AndPerm rd rs mask) }
         ensures step { Step (state_of self.old) (Command.AndPerm rd rs mask) result (state_of self.new) }
         ensures base { self.new.memory.base ≡ self.new.heap.base }
+        ensures dirty { self.new.memory.dirty ≡ dirty_after (state_of self.old) (Command.AndPerm rd rs mask) self.old.memory.dirty }
     {
         let (word, tag) = self.registers.get(rs);
         self.registers.set(rd, and_perms(word, mask), tag);
@@ -152,6 +161,7 @@ impl Parts {
         requires valid { IsValid (Command.StoreCap ra rs) }
         ensures step { Step (state_of self.old) (Command.StoreCap ra rs) result (state_of self.new) }
         ensures base { self.new.memory.base ≡ self.new.heap.base }
+        ensures dirty { self.new.memory.dirty ≡ dirty_after (state_of self.old) (Command.StoreCap ra rs) self.old.memory.dirty }
     {
         let (word, tag) = self.registers.get(rs);
         let (authority, _) = self.registers.get(ra);
@@ -170,6 +180,7 @@ impl Parts {
         requires valid { IsValid (Command.LoadCap rd ra) }
         ensures step { Step (state_of self.old) (Command.LoadCap rd ra) result (state_of self.new) }
         ensures base { self.new.memory.base ≡ self.new.heap.base }
+        ensures dirty { self.new.memory.dirty ≡ dirty_after (state_of self.old) (Command.LoadCap rd ra) self.old.memory.dirty }
     {
         let (authority, _) = self.registers.get(ra);
         let i = match self.granule_index(ra, is_allowed(authority, LOAD)) {
@@ -187,6 +198,7 @@ impl Parts {
         requires valid { IsValid (Command.Write ra bytes) }
         ensures step { Step (state_of self.old) (Command.Write ra bytes) result (state_of self.new) }
         ensures base { self.new.memory.base ≡ self.new.heap.base }
+        ensures dirty { self.new.memory.dirty ≡ dirty_after (state_of self.old) (Command.Write ra bytes) self.old.memory.dirty }
     {
         let (authority, _) = self.registers.get(ra);
         let i = match self.granule_index(ra, is_allowed(authority, STORE)) {

@@ -2,7 +2,7 @@
 use Rattle.std.specs.Prelude.{ℕ, List, [], ◌∷◌, codes}
 use Rattle.std.specs.Fmt.{decimal}
 use Rattle.heap_reply.specs.declared.reply.Reply.{Reply}
-use Rattle.heap_reply.specs.declared.reply.Reply.TheVariants.{Block, BlockAfter, NoSpace, NoSpaceAfter, Held, Done, Cleared, Swept}
+use Rattle.heap_reply.specs.declared.reply.Reply.TheVariants.{Block, BlockAfter, NoSpace, NoSpaceAfter, Held, Done, Cleared, Swept, Begun}
 use Rattle.heap_reply.specs.declared.reply.Reply.TheVariants as reply
 use Rattle.heap_reply.specs.declared.reply.Shown.{Shown as ShownCell}
 use Rattle.heap_reply.specs.declared.reply.Trap.{Trap}
@@ -18,6 +18,8 @@ trap_name trap.Empty = codes "empty"
 trap_name trap.Inexact = codes "inexact"
 trap_name trap.Freed = codes "freed"
 trap_name trap.NotBlock = codes "notblock"
+trap_name trap.Open = codes "open"
+trap_name trap.NotOpen = codes "notopen"
 
 abbrev pub shown_text : ShownCell → List ℕ
 shown_text s =
@@ -40,5 +42,6 @@ answer_text (Held bytes) = joined (codes "held " ∷ decimal bytes ∷ [])
 answer_text Done = codes "ok"
 answer_text Cleared = codes "cleared"
 answer_text (Swept cleared released) = joined (codes "cleared " ∷ decimal cleared ∷ codes " released " ∷ decimal released ∷ [])
+answer_text (Begun cleared) = joined (codes "cleared " ∷ decimal cleared ∷ [])
 answer_text (reply.Shown s) = shown_text s
 answer_text (reply.Trap t) = joined (codes "trap " ∷ trap_name t ∷ [])

@@ -22,6 +22,8 @@ impl Trap {
             Trap::Inexact => "inexact",
             Trap::Freed => "freed",
             Trap::NotBlock => "notblock",
+            Trap::Open => "open",
+            Trap::NotOpen => "notopen",
         }
     }
 }
@@ -68,6 +70,7 @@ impl fmt::Display for Reply {
                 f,
                 "cleared {cleared} released {released}"
             ),
+            Reply::Begun { cleared } => write!(f, "cleared {cleared}"),
             Reply::Shown(shown) => write!(f, "{shown}"),
             Reply::Trap(trap) => {
                 let name = trap.name();

@@ -24,6 +24,10 @@ pub enum Trap {
     Freed,
     /// The bounds are no block's.
     NotBlock,
+    /// An epoch is open.
+    Open,
+    /// No epoch is open.
+    NotOpen,
 }
 
 /// What `show` shows of a register.
@@ -76,6 +80,8 @@ pub enum Reply {
     Cleared,
     /// So many tags were taken, and so many bytes are free again.
     Swept { cleared: u32, released: u64 },
+    /// An epoch has begun, and so many tags of memory were taken.
+    Begun { cleared: u32 },
     /// A register was shown.
     Shown(Shown),
     /// A check failed, and nothing was changed.

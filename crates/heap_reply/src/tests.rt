@@ -32,6 +32,7 @@ fn replies_by_their_texts(rt: HostRuntime) {
         (Reply::Done, "ok"),
         (Reply::Cleared, "cleared"),
         (swept, "cleared 3 released 32"),
+        (Reply::Begun { cleared: 4 }, "cleared 4"),
     ];
     for (reply, text) in texts {
         let printed = format!(in rt.alloc(); "{reply}").expect(&rt, "there is memory");
@@ -50,6 +51,8 @@ fn traps_by_their_names(rt: HostRuntime) {
         (Trap::Inexact, "trap inexact"),
         (Trap::Freed, "trap freed"),
         (Trap::NotBlock, "trap notblock"),
+        (Trap::Open, "trap open"),
+        (Trap::NotOpen, "trap notopen"),
     ];
     for (trap, text) in names {
         let reply = Reply::Trap(trap);

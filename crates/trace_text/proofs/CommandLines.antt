@@ -4,7 +4,7 @@ use Rattle.std.specs.Option.{ok_or}
 use Rattle.hex.specs.declared.error.FromHexError.{FromHexError}
 use Rattle.hex.specs.Hex.{decode_sized}
 use Rattle.trace_text.specs.declared.trace.Command.{Command}
-use Rattle.trace_text.specs.declared.trace.Command.TheVariants.{Malloc, Free, Copy, SetAddr, Narrow, AndPerm, StoreCap, LoadCap, Write, Show, Sweep}
+use Rattle.trace_text.specs.declared.trace.Command.TheVariants.{Malloc, Free, Copy, SetAddr, Narrow, AndPerm, StoreCap, LoadCap, Write, Show, Sweep, Begin, End}
 use Rattle.trace_text.specs.declared.fault.LineFault.{LineFault}
 use Rattle.trace_text.specs.declared.fault.LineFault.TheVariants as line_fault
 use Rattle.trace_text.specs.Grammar.{FirstLacks, Form, Register, Number, Mask, Data, HasFault, HasForm, HaveForms, IsCommand, IsData, IsMask, IsNumber, IsRegister, form_fault, forms_of}
@@ -167,6 +167,8 @@ IsCommand-fits words (LoadCap rd ra) h = subst Fits (sym h.2) (_, refl, ((rd, h.
 IsCommand-fits words (Write ra bytes) h = subst Fits (sym h.2) (_, refl, ((ra, h.3), ((bytes, h.4), tt)))
 IsCommand-fits words (Show rs) h = subst Fits (sym h.1) (_, refl, ((rs, h.2), tt))
 IsCommand-fits words Sweep h = subst Fits (sym h) (_, refl, tt)
+IsCommand-fits words Begin h = subst Fits (sym h) (_, refl, tt)
+IsCommand-fits words End h = subst Fits (sym h) (_, refl, tt)
 
 no_fault : (name : List ℕ) (words : List (List ℕ)) (fault : LineFault) → Fits (name ∷ words) → HasFault (name ∷ words) fault → ⊥
 no_fault name words fault fits h = go (Faults-from name words fault h) where
@@ -270,7 +272,9 @@ command_read name words =
     named (codes "write") name words _ _ (two_read (codes "write") Register Data register_in data_in refl reads_register reads_data Write write words) (λ write.
     named (codes "show") name words _ _ (one_read (codes "show") Register register_in refl reads_register Show show words) (λ show.
     named (codes "sweep") name words _ _ (none_read (codes "sweep") refl Sweep refl words) (λ sweep.
-    rw (malloc, free, copy, setaddr, narrow, andperm, storecap, loadcap, write, show, sweep) refl))))))))))) where
+    named (codes "begin") name words _ _ (none_read (codes "begin") refl Begin refl words) (λ begin.
+    named (codes "end") name words _ _ (none_read (codes "end") refl End refl words) (λ last.
+    rw (malloc, free, copy, setaddr, narrow, andperm, storecap, loadcap, write, show, sweep, begin, last) refl))))))))))))) where
       malloc : (a b : List ℕ) (x y : ℕ) → register_in a ≡ Ok x → number_in b ≡ Ok y → IsCommand (codes "malloc" ∷ a ∷ b ∷ []) (Malloc x y)
       malloc a b x y e f = (a, b, refl, register_in_is a x e, number_in_is b y f)
 
@@ -316,6 +320,8 @@ command_of-IsCommand words (LoadCap rd ra) h = rw (h.2, register_of-IsRegister h
 command_of-IsCommand words (Write ra bytes) h = rw (h.2, register_of-IsRegister h.0 ra h.3, h.4) refl
 command_of-IsCommand words (Show rs) h = rw (h.1, register_of-IsRegister h.0 rs h.2) refl
 command_of-IsCommand words Sweep h = rw h refl
+command_of-IsCommand words Begin h = rw h refl
+command_of-IsCommand words End h = rw h refl
 
 pub IsCommand-read : (words : List (List ℕ)) (command : Command) → command_of words ≡ Ok command → IsCommand words command
 unfolding command_of

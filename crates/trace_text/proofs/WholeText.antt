@@ -3,7 +3,7 @@ use Rattle.std.proofs.Common.{◌≡◌, ◌≢◌, ℕ, ◌+◌, Bool, true, fa
 use Rattle.std.specs.List.{AllByRecursion}
 use Rattle.std.proofs.lemmas.Bool.Decides.{nat_tests}
 use Rattle.trace_text.specs.declared.trace.Command.{Command}
-use Rattle.trace_text.specs.declared.trace.Command.TheVariants.{Malloc, Free, Copy, SetAddr, Narrow, AndPerm, StoreCap, LoadCap, Write, Show, Sweep}
+use Rattle.trace_text.specs.declared.trace.Command.TheVariants.{Malloc, Free, Copy, SetAddr, Narrow, AndPerm, StoreCap, LoadCap, Write, Show, Sweep, Begin, End}
 use Rattle.trace_text.specs.declared.fault.LineFault.{LineFault}
 use Rattle.trace_text.specs.declared.fault.LineFault.TheVariants as line_fault
 use Rattle.trace_text.specs.declared.fault.TraceFault.{TraceFault}
@@ -47,6 +47,8 @@ not_passed words (LoadCap rd ra) h = ap is_passed_over h.2
 not_passed words (Write ra bytes) h = ap is_passed_over h.2
 not_passed words (Show rs) h = ap is_passed_over h.1
 not_passed words Sweep h = ap is_passed_over h
+not_passed words Begin h = ap is_passed_over h
+not_passed words End h = ap is_passed_over h
 
 command_at-IsCommand : (number : ℕ) (words : List (List ℕ)) (command : Command) → IsCommand words command → command_at number words ≡ Ok (Some command)
 unfolding command_at

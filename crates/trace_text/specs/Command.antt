@@ -1,7 +1,7 @@
 -- Commands that can be carried out, in this project's own trace language.
 use Rattle.std.specs.Prelude.{ℕ, ◌<◌, ◌^◌}
 use Rattle.trace_text.specs.declared.trace.Command.{Command}
-use Rattle.trace_text.specs.declared.trace.Command.TheVariants.{Malloc, Free, Copy, SetAddr, Narrow, AndPerm, StoreCap, LoadCap, Write, Show, Sweep}
+use Rattle.trace_text.specs.declared.trace.Command.TheVariants.{Malloc, Free, Copy, SetAddr, Narrow, AndPerm, StoreCap, LoadCap, Write, Show, Sweep, Begin, End}
 use Rattle.tag_memory.specs.Cells.{register_count}
 
 -- each register number is that of a register
@@ -17,6 +17,8 @@ IsValid (LoadCap rd ra) = (rd < register_count) × (ra < register_count)
 IsValid (Write ra bytes) = ra < register_count
 IsValid (Show rs) = rs < register_count
 IsValid Sweep = Unit {0}
+IsValid Begin = Unit {0}
+IsValid End = Unit {0}
 
 -- a valid command with the number of its line, which has 32 bits
 abbrev pub IsListed : ℕ × Command → Type 0

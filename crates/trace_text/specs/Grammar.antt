@@ -10,7 +10,7 @@ use Rattle.trace_text.specs.declared.fault.LineFault.TheVariants as line_fault
 use Rattle.trace_text.specs.declared.fault.TraceFault.{TraceFault}
 use Rattle.trace_text.specs.declared.fault.TraceFault.TheVariants.{Memory, TooLong, NoHeap, BadHeap, BadCommand, BadCount, BadRegister, BadNumber, BadData}
 use Rattle.trace_text.specs.declared.trace.Command.{Command}
-use Rattle.trace_text.specs.declared.trace.Command.TheVariants.{Malloc, Free, Copy, SetAddr, Narrow, AndPerm, StoreCap, LoadCap, Write, Show, Sweep}
+use Rattle.trace_text.specs.declared.trace.Command.TheVariants.{Malloc, Free, Copy, SetAddr, Narrow, AndPerm, StoreCap, LoadCap, Write, Show, Sweep, Begin, End}
 use Rattle.trace_text.specs.Heap.{IsHeap}
 use Rattle.trace_text.specs.Lines.{is_passed_over, lines_of, longest_text, words_of}
 use Rattle.trace_text.specs.Reading.{Script}
@@ -69,6 +69,8 @@ IsCommand words (Write ra bytes) =
 IsCommand words (Show rs) =
     (first : List ℕ) × (words ≡ codes "show" ∷ first ∷ []) × IsRegister first rs
 IsCommand words Sweep = words ≡ codes "sweep" ∷ []
+IsCommand words Begin = words ≡ codes "begin" ∷ []
+IsCommand words End = words ≡ codes "end" ∷ []
 
 -- the forms of the words after a command's name
 pub data Form : Type 0 where
@@ -104,6 +106,8 @@ forms_of name =
     else if bytes_eq name (codes "write") then Some (Register ∷ Data ∷ [])
     else if bytes_eq name (codes "show") then Some (Register ∷ [])
     else if bytes_eq name (codes "sweep") then Some []
+    else if bytes_eq name (codes "begin") then Some []
+    else if bytes_eq name (codes "end") then Some []
     else None
 
 -- as many words as forms, each of its form

@@ -11,7 +11,7 @@ use Rattle.trace_text.specs.declared.fault.LineFault.TheVariants as line_fault
 use Rattle.trace_text.specs.declared.fault.TraceFault.{TraceFault}
 use Rattle.trace_text.specs.declared.fault.TraceFault.TheVariants.{Memory, TooLong, NoHeap, BadHeap, BadCommand, BadCount, BadRegister, BadNumber, BadData}
 use Rattle.trace_text.specs.declared.trace.Command.{Command}
-use Rattle.trace_text.specs.declared.trace.Command.TheVariants.{Malloc, Free, Copy, SetAddr, Narrow, AndPerm, StoreCap, LoadCap, Write, Show, Sweep}
+use Rattle.trace_text.specs.declared.trace.Command.TheVariants.{Malloc, Free, Copy, SetAddr, Narrow, AndPerm, StoreCap, LoadCap, Write, Show, Sweep, Begin, End}
 use Rattle.trace_text.specs.declared.trace.Trace.{Trace}
 use Rattle.trace_text.specs.Lines.{is_passed_over, lines_of, longest_text, words_of}
 use Rattle.tag_memory.specs.Span.{is_base, is_size}
@@ -146,6 +146,8 @@ command_of (name ∷ words) =
     else if bytes_eq name (codes "write") then (two_of register_in data_in words >>= λ read. Ok (Write read.0 read.1))
     else if bytes_eq name (codes "show") then (one_of register_in words >>= λ rs. Ok (Show rs))
     else if bytes_eq name (codes "sweep") then (none_of words >>= λ _. Ok Sweep)
+    else if bytes_eq name (codes "begin") then (none_of words >>= λ _. Ok Begin)
+    else if bytes_eq name (codes "end") then (none_of words >>= λ _. Ok End)
     else Err line_fault.BadCommand
 
 -- the fault of a text whose first faulty line has this number

@@ -159,6 +159,14 @@ fn command(name: &[u8], operands: &[u8]) -> Result<Command, LineFault>
         no_operands(operands)?;
         return Ok(Command::Sweep);
     }
+    if name == b"begin".as_slice() {
+        no_operands(operands)?;
+        return Ok(Command::Begin);
+    }
+    if name == b"end".as_slice() {
+        no_operands(operands)?;
+        return Ok(Command::End);
+    }
     Err(LineFault::BadCommand)
 }
 

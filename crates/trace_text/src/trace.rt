@@ -19,6 +19,8 @@ pub enum Command {
     Write { ra: u8, bytes: [u8; 16] },
     Show { rs: u8 },
     Sweep,
+    Begin,
+    End,
 }
 
 impl Command {
@@ -38,7 +40,7 @@ impl Command {
             Command::LoadCap { rd, ra } => rd < REGISTERS && ra < REGISTERS,
             Command::Write { ra, .. } => ra < REGISTERS,
             Command::Free { rs } | Command::Show { rs } => rs < REGISTERS,
-            Command::Sweep => true,
+            Command::Sweep | Command::Begin | Command::End => true,
         }
     }
 }

@@ -1,6 +1,6 @@
 //! Handing out blocks that have a place.
 
-ghost use Rattle.std.specs.Prelude.{◌≡◌, IfErr, IfOk, IsOk, OnErr};
+ghost use Rattle.std.specs.Prelude.{◌≡◌, IfErr, IfOk, IsOk, OnErr, OnOk};
 ghost use Rattle.trace_text.specs.Command.{IsValid};
 ghost use Rattle.heap_machine.specs.Parts.{AreParts, state_of};
 ghost use Rattle.heap_machine.specs.Step.{Step, TakesNoMemory};
@@ -16,8 +16,8 @@ use sweep_pool::Gate;
 use trace_text::Command;
 
 impl Parts {
-    // A block is handed out where it has a place. Where it has none but some block is held, a sweep comes
-    // first, and then one more try.
+    // A block is handed out where it has a place. Where it has none, but no epoch is open and some block waits, a sweep
+    // comes first, and then one more try.
     pub(super) fn malloc<R: Threads + Sync, G: Gate + Sync>(
         &mut self,
         rt: &R,
@@ -30,6 +30,7 @@ impl Parts {
         requires valid { IsValid (Command.Malloc rd size) }
         ensures step { IfOk result (λ reply. Step (state_of self.old) (Command.Malloc rd size) reply (state_of self.new)) }
         ensures base { self.new.memory.base ≡ self.new.heap.base }
+        ensures dirty { OnOk result (self.new.memory.dirty ≡ self.old.memory.dirty) }
         ensures err { OnErr result (self.new ≡ self.old) }
         ensures memory { IfErr result (λ fault. fault ≡ MachineFault.Memory) }
         ensures ok { TakesNoMemory (state_of self.old) (Command.Malloc rd size) → IsOk result }
@@ -40,6 +41,10 @@ impl Parts {
         if let Some(Block { base, top }) = found {
             self.registers.set(rd, block_capability(base, top), true);
             return Ok(Reply::Block { base, top });
+        }
+        if self.heap.is_open() {
+            self.registers.set(rd, Word::NULL, false);
+            return Ok(Reply::NoSpace);
         }
         if self.heap.held_bytes() == 0 {
             self.registers.set(rd, Word::NULL, false);

@@ -1,6 +1,6 @@
 //! Handing out blocks after a sweep: where a block has no place, and others are held.
 
-ghost use Rattle.std.specs.Prelude.{◌≡◌, [], IfErr, IfOk, OnErr};
+ghost use Rattle.std.specs.Prelude.{◌≡◌, [], IfErr, IfOk, OnErr, OnOk, false};
 ghost use Rattle.trace_text.specs.Command.{IsValid};
 ghost use Rattle.heap_machine.specs.Parts.{AreParts, state_of};
 ghost use Rattle.heap_machine.specs.Step.{HasNoPlace, Step};
@@ -28,9 +28,11 @@ impl Parts {
         requires parts { AreParts self.old }
         requires valid { IsValid (Command.Malloc rd size) }
         requires none { HasNoPlace (state_of self.old) size }
-        requires held { ¬ (self.old.heap.held ≡ []) }
+        requires closed { self.old.heap.is_open ≡ false }
+        requires waiting { ¬ (self.old.heap.waiting ≡ []) }
         ensures step { IfOk result (λ reply. Step (state_of self.old) (Command.Malloc rd size) reply (state_of self.new)) }
         ensures base { self.new.memory.base ≡ self.new.heap.base }
+        ensures dirty { OnOk result (self.new.memory.dirty ≡ self.old.memory.dirty) }
         ensures err { OnErr result (self.new ≡ self.old) }
         ensures memory { IfErr result (λ fault. fault ≡ MachineFault.Memory) }
     {

@@ -1,7 +1,10 @@
-//! Freeing and sweeping: blocks in quarantine, and the tags of the words that point there.
+//! Freeing and sweeping: blocks that wait, and the tags of the words that point there.
 
-ghost use Rattle.std.specs.Prelude.{◌≡◌, ◌<◌, ◌≤◌, ◌*◌, ◌^◌, ℕ, [], IfErr, IfOk, IsOk, List, OnErr, count_ones, length, slice_index, sum_by};
+ghost use Rattle.std.specs.Prelude.{◌≡◌, ◌<◌, ◌≤◌, ◌*◌, ◌^◌, ℕ, [], IfErr, IfOk, IsOk, List, OnErr, OnOk, count_ones, length, slice_index, sum_by};
 ghost use Rattle.heap_core.specs.Blocks.{Span};
+ghost use Rattle.heap_core.specs.Heap.{due};
+ghost use Rattle.heap_core.specs.Quarantine.{IsShadow};
+ghost use Rattle.sweep_pool.specs.Sweep.{TakeTags};
 ghost use Rattle.trace_text.specs.Command.{IsValid};
 ghost use Rattle.heap_machine.specs.Parts.{AreParts, state_of};
 ghost use Rattle.heap_machine.specs.Revoked.{AreRevoked, AreTaken};
@@ -10,7 +13,7 @@ ghost use Rattle.heap_machine.specs.Step.{Step, TakesNoMemory};
 use crate::fault::MachineFault;
 use crate::parts::Parts;
 use cap_codec::{Bounds, bounds};
-use heap_core::Freed;
+use heap_core::{Freed, Shadow};
 use heap_reply::{Reply, Trap};
 use std::alloc::Global;
 use std::thread::Threads;
@@ -33,7 +36,7 @@ fn cutting_for(cutting: Cutting, tagged: usize) -> Cutting
 }
 
 // How many bits of these masks are 1.
-fn ones_in(masks: &[u64]) -> u32
+pub(super) fn ones_in(masks: &[u64]) -> u32
     requires { 64 * length masks.now < 2 ^ 32 }
     ensures count { result ≡ sum_by count_ones masks.now }
     ensures most { result ≤ 64 * length masks.now }
@@ -50,9 +53,9 @@ fn ones_in(masks: &[u64]) -> u32
 #[derive(Drop)]
 pub struct RevokedTags {
     // A bit for each granule.
-    masks: Vec<u64>,
+    pub(super) masks: Vec<u64>,
     // A bit for each register.
-    registers: u32,
+    pub(super) registers: u32,
 }
 
 impl RevokedTags {
@@ -63,6 +66,7 @@ impl RevokedTags {
         ensures taken { (held : List Span) → AreRevoked held memory.old registers.old self.now
             → AreTaken held memory.old registers.old memory.new registers.new result }
         ensures base { memory.new.base ≡ memory.old.base }
+        ensures dirty { memory.new.dirty ≡ memory.old.dirty }
     {
         memory.clear_tags(&self.masks);
         registers.clear_tags(self.registers);
@@ -77,6 +81,7 @@ impl Parts {
         requires valid { IsValid (Command.Free rs) }
         ensures step { IfOk result (λ reply. Step (state_of self.old) (Command.Free rs) reply (state_of self.new)) }
         ensures base { self.new.memory.base ≡ self.new.heap.base }
+        ensures dirty { self.new.memory.dirty ≡ self.old.memory.dirty }
         ensures ok { IsOk result }
     {
         let (word, tag) = self.registers.get(rs);
@@ -96,8 +101,8 @@ impl Parts {
         Ok(Reply::Held(bytes))
     }
 
-    // Every tagged word whose base lies in a held block loses its tag; then the held blocks are free.
-    // Where none is held there is nothing to look for. Whatever takes memory comes first.
+    // Every tagged word whose base lies in a block that waits loses its tag; then these blocks are free. Where none waits
+    // there is nothing to look for. Whatever takes memory comes first.
     pub(super) fn sweep<R: Threads + Sync, G: Gate + Sync>(
         &mut self,
         rt: &R,
@@ -107,10 +112,14 @@ impl Parts {
         requires { AreParts self.old }
         ensures step { IfOk result (λ reply. Step (state_of self.old) Command.Sweep reply (state_of self.new)) }
         ensures base { self.new.memory.base ≡ self.new.heap.base }
+        ensures dirty { OnOk result (self.new.memory.dirty ≡ self.old.memory.dirty) }
         ensures err { OnErr result (self.new ≡ self.old) }
         ensures memory { IfErr result (λ fault. fault ≡ MachineFault.Memory) }
         ensures ok { TakesNoMemory (state_of self.old) Command.Sweep → IsOk result }
     {
+        if self.heap.is_open() {
+            return Ok(Reply::Trap(Trap::Open));
+        }
         if self.heap.held_bytes() == 0 {
             return Ok(Reply::Swept {
                 cleared: 0,
@@ -126,8 +135,7 @@ impl Parts {
         Ok(Reply::Swept { cleared, released })
     }
 
-    // The tags that a sweep takes now. One worker paints the shadow: it copies the row of held granules,
-    // which takes less than the start of a thread.
+    // The tags of memory and registers that a sweep takes now, of words whose base lies in a block that is due.
     pub(super) fn revoked_tags<R: Threads + Sync, G: Gate + Sync>(
         &self,
         rt: &R,
@@ -136,19 +144,50 @@ impl Parts {
     ) -> Result<RevokedTags, MachineFault>
         requires { AreParts self.now }
         ensures memory { IfErr result (λ fault. fault ≡ MachineFault.Memory) }
-        ensures revoked { IfOk result (λ tags. AreRevoked self.now.heap.held self.now.memory self.now.registers tags) }
+        ensures revoked { IfOk result (λ tags. AreRevoked (due self.now.heap) self.now.memory self.now.registers tags) }
         ensures masks { IfOk result (λ tags. 64 * length tags.masks.items ≡ length self.now.memory.cells) }
         ensures few { length self.now.memory.cells < 2 ^ 31 }
+    {
+        let shadow = self.shadow(rt, alloc)?;
+        let masks = self.memory_masks(rt, alloc, &shadow, gate)?;
+        let registers = swept_registers(&self.registers, &shadow, self.memory.base());
+        Ok(RevokedTags { masks, registers })
+    }
+
+    // The shadow of the blocks that are due. One worker paints it: it copies the row of their granules, which takes
+    // less than the start of a thread.
+    pub(super) fn shadow<R: Threads + Sync>(
+        &self,
+        rt: &R,
+        alloc: Global,
+    ) -> Result<Shadow, MachineFault>
+        ensures memory { IfErr result (λ fault. fault ≡ MachineFault.Memory) }
+        ensures shadow { IfOk result (IsShadow self.now.heap) }
     {
         let painters = cutting_for(self.cutting, 0);
         let Ok(shadow) = paint_shadow(rt, alloc, &self.heap, &painters, &Open) else {
             return Err(MachineFault::Memory);
         };
+        Ok(shadow)
+    }
+
+    // The masks of the tags of memory that a pass takes, by the shadow of the blocks that are due.
+    pub(super) fn memory_masks<R: Threads + Sync, G: Gate + Sync>(
+        &self,
+        rt: &R,
+        alloc: Global,
+        shadow: &Shadow,
+        gate: &G,
+    ) -> Result<Vec<u64>, MachineFault>
+        requires parts { AreParts self.now }
+        requires shadow { IsShadow self.now.heap shadow.now }
+        ensures memory { IfErr result (λ fault. fault ≡ MachineFault.Memory) }
+        ensures masks { IfOk result (λ masks. TakeTags self.now.memory (due self.now.heap) masks.items) }
+    {
         let cutting = cutting_for(self.cutting, self.memory.tagged());
-        let Ok(masks) = sweep_masks(rt, alloc, &self.memory, &shadow, &cutting, gate) else {
+        let Ok(masks) = sweep_masks(rt, alloc, &self.memory, shadow, &cutting, gate) else {
             return Err(MachineFault::Memory);
         };
-        let registers = swept_registers(&self.registers, &shadow, self.memory.base());
-        Ok(RevokedTags { masks, registers })
+        Ok(masks)
     }
 }

@@ -64,6 +64,10 @@ fn command_lines_with_a_fault(rt: HostRuntime) {
         ("sweep now", TraceFault::BadCount(2)),
         ("sweep c1", TraceFault::BadCount(2)),
         ("sweep # all", TraceFault::BadCount(2)),
+        ("begin now", TraceFault::BadCount(2)),
+        ("end c1", TraceFault::BadCount(2)),
+        ("Begin", TraceFault::BadCommand(2)),
+        ("ends", TraceFault::BadCommand(2)),
         ("free x", TraceFault::BadRegister(2)),
         ("free 1", TraceFault::BadRegister(2)),
         ("free c32", TraceFault::BadRegister(2)),
@@ -173,6 +177,8 @@ fn words_that_are_fine(rt: HostRuntime) {
         ("free c3", Command::Free { rs: 3 }),
         ("\r free\t\tc31 \r\n", Command::Free { rs: 31 }),
         ("sweep", Command::Sweep),
+        ("begin", Command::Begin),
+        (" end \r", Command::End),
         ("sweep\n# all", Command::Sweep),
         (" \t\rsweep\t \r\n", Command::Sweep),
         ("storecap c5 c6", Command::StoreCap { ra: 5, rs: 6 }),
@@ -353,6 +359,8 @@ fn commands_that_are_valid(rt: HostRuntime) {
         (Command::Free { rs: 31 }, true),
         (Command::Free { rs: 32 }, false),
         (Command::Sweep, true),
+        (Command::Begin, true),
+        (Command::End, true),
     ];
     for (command, valid) in cases {
         assert_eq!(rt; command.is_valid(), valid, "{command:?}");

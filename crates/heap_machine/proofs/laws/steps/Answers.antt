@@ -1,12 +1,9 @@
-use Rattle.std.proofs.Common.{refl}
-use Rattle.heap_core.specs.Blocks.{bytes_in}
-use Rattle.trace_text.specs.declared.trace.Command.TheVariants.{Sweep}
-use Rattle.heap_reply.specs.declared.reply.Reply.TheVariants.{Swept}
-use Rattle.heap_machine.specs.Step.{swept, taken}
+use Rattle.heap_machine.proofs.DirtyLaws.{Step-dirtied}
 use Rattle.heap_machine.proofs.OneStep.{Step-only, Step-some}
 use Rattle.heap_machine.proofs.RevokedLaws.{Step-revoked}
 use Rattle.heap_machine.proofs.SafeSteps.{Laws, Step-safe}
 use Rattle.heap_machine.proofs.SoundLaws.{IsSafe-first}
+use Rattle.heap_machine.proofs.SweptState.{IsSafe-swept}
 use Rattle.heap_machine.proofs.UnusedLaws.{Step-unused}
 use Rattle.heap_machine.proofs.laws.steps.Goals as goal
 
@@ -25,8 +22,10 @@ returns-clause-safe c =
     let heaps = c.changes.ensures in
     let laws : Laws = record {
       live = heaps.live;
-      held = heaps.held;
+      waiting = heaps.waiting;
       free = heaps.free;
+      begun = heaps.begun;
+      ended = heaps.ended;
       exact = heaps.exact;
       narrowed = words.narrowed;
       capability = words.capability;
@@ -39,8 +38,11 @@ returns-clause-safe c =
 pub returns-clause-unused : goal.returns-clause-unused
 returns-clause-unused c =
     λ old command reply new safe step.
-    let after = returns-clause-safe c old Sweep (Swept (taken old) (bytes_in old.heap.held)) (swept old) safe tt (refl, refl) in
+    let after = IsSafe-swept old safe (c.changes.ensures.free old.heap safe.heap) in
     Step-unused old command reply new safe after step
 
 pub returns-clause-revoked : goal.returns-clause-revoked
 returns-clause-revoked c = λ old command reply new safe fits step. Step-revoked old command reply new (returns-clause-safe c old command reply new safe fits step) step
+
+pub returns-clause-dirtied : goal.returns-clause-dirtied
+returns-clause-dirtied c = λ old command reply new dirty pages stand step. Step-dirtied old command reply new dirty pages stand step

@@ -1,9 +1,36 @@
+use Rattle.std.proofs.Common.{◌≡◌, ◌*◌, length, subst, arith}
+use Rattle.std.proofs.lemmas.Result.{IfOk-weaker}
+use Rattle.heap_machine.specs.Parts.{MachineState, state_of}
+use Rattle.heap_machine.specs.Safety.{IsUnused, LeavesInUse}
+use Rattle.heap_machine.specs.Step.{Step}
 use Rattle.heap_machine.proofs.KeptSizes.{AreParts-after}
 use Rattle.heap_machine.proofs.machine.Machine.step.Goals as goal
 
 pub invariant_of-self : goal.invariant_of-self
 invariant_of-self g c =
-    AreParts-after c.steps.ensures.safe c.self.inside.parts c.serve.new.self c.args.command c.serve.result c.self.invariant c.serve.ensures.fits c.serve.ensures.step c.serve.ensures.err c.serve.ensures.base
+    let memory = c.whole.ensures in
+    let pages : length c.self.inside.parts.memory.cells ≡ 256 * length c.self.inside.parts.memory.dirty = omega (arith, memory.count, memory.dirty_marks) in
+    AreParts-after c.steps.ensures.safe c.steps.ensures.dirtied c.self.inside.parts c.serve.new.self c.args.command c.serve.result c.self.invariant pages
+    c.serve.ensures.fits c.serve.ensures.step c.serve.ensures.dirty c.serve.ensures.err c.serve.ensures.base
 
 pub returns-clause-safe : goal.returns-clause-safe
 returns-clause-safe g c = (invariant_of-self g c).sound.safe
+
+pub returns-clause-dirtied : goal.returns-clause-dirtied
+returns-clause-dirtied g c = (invariant_of-self g c).dirtied
+
+pub returns-clause-unused : goal.returns-clause-unused
+returns-clause-unused g c =
+    let old = state_of c.self.inside.parts in
+    let new = state_of c.serve.new.self in
+    let command = c.args.command in
+    IfOk-weaker c.serve.result (λ r. Step old command r new) (λ r. IsUnused c.args.self.now.state command r)
+    (λ r step. subst (λ (m : MachineState). IsUnused m.state command r) c.self.view_is (c.steps.ensures.unused old command r new c.self.invariant.sound.safe step)) c.serve.ensures.step
+
+pub returns-clause-revoked : goal.returns-clause-revoked
+returns-clause-revoked g c =
+    let old = state_of c.self.inside.parts in
+    let new = state_of c.serve.new.self in
+    let command = c.args.command in
+    IfOk-weaker c.serve.result (λ r. Step old command r new) (λ r. LeavesInUse command r new)
+    (λ r step. c.steps.ensures.revoked old command r new c.self.invariant.sound.safe c.serve.ensures.fits step) c.serve.ensures.step

@@ -1,6 +1,7 @@
 use Rattle.std.proofs.Common.{◌≡◌, ◌+◌, refl, arith}
+use Rattle.heap_core.specs.Laws.{due-closed}
 use Rattle.heap_core.specs.Place.{IsPlace, block_length, with_live}
-use Rattle.heap_core.specs.Quarantine.{without_held}
+use Rattle.heap_core.specs.Quarantine.{without_waiting}
 use Rattle.heap_machine.specs.Parts.{state_of}
 use Rattle.heap_machine.specs.Revoked.{AreTaken}
 use Rattle.heap_machine.proofs.SoundLaws.{FitsAddresses-state}
@@ -11,9 +12,9 @@ pub returns-in_default-found-clause-step : goal.returns-in_default-found-clause-
 returns-in_default-found-clause-step g c =
     let m = c.args.self.now in
     let s = state_of m in
-    let taken : AreTaken m.heap.held m.memory m.registers c.take-cleared.new.memory c.take-cleared.new.registers c.take-cleared.result =
-    c.take-cleared.ensures.taken m.heap.held c.in_ok-revoked.ensures.revoked in (
-      SweepsFirst-taken s c.args.size m.memory c.take-cleared.new.memory c.take-cleared.new.registers c.take-cleared.result refl c.requires.none c.requires.held taken,
+    let taken : AreTaken m.heap.waiting m.memory m.registers c.take-cleared.new.memory c.take-cleared.new.registers c.take-cleared.result =
+    c.take-cleared.ensures.taken m.heap.waiting (rw (due-closed m.heap c.requires.closed) at c.in_ok-revoked.ensures.revoked) in (
+      SweepsFirst-taken s c.args.size m.memory c.take-cleared.new.memory c.take-cleared.new.registers c.take-cleared.result refl c.requires.none (record { closed = c.requires.closed; waiting = c.requires.waiting }) taken,
       HandsOutNone-swept s c.args.rd c.args.size c.give_back_and_reserve.new.self m.memory c.take-cleared.new.memory c.take-cleared.new.registers c.set.new.self c.take-cleared.result
           refl (c.in-Ok.ensures.none.0 c.in_default-found.is) (c.in-Ok.ensures.free c.in_default-found.is) taken c.set.ensures,
     )
@@ -22,7 +23,7 @@ pub block_capability-requires-clause-room : goal.block_capability-requires-claus
 block_capability-requires-clause-room g c =
     let m = c.args.self.now in
     let block = c.in-Some.block in
-    let place : IsPlace (without_held m.heap) c.args.size block.base = rw c.in-Some.is at c.in-Ok.ensures.place in
+    let place : IsPlace (without_waiting m.heap) c.args.size block.base = rw c.in-Some.is at c.in-Ok.ensures.place in
     let top : block.top ≡ block.base + block_length c.args.size = rw c.in-Some.is at c.in-Ok.ensures.top in
     omega (arith, place.free.end, top, (FitsAddresses-state (state_of m) c.requires.parts.sound.safe).end)
 
@@ -31,12 +32,12 @@ returns-clause-step g c =
     let m = c.args.self.now in
     let s = state_of m in
     let block = c.in-Some.block in
-    let place : IsPlace (without_held m.heap) c.args.size block.base = rw c.in-Some.is at c.in-Ok.ensures.place in
+    let place : IsPlace (without_waiting m.heap) c.args.size block.base = rw c.in-Some.is at c.in-Ok.ensures.place in
     let top : block.top ≡ block.base + block_length c.args.size = rw c.in-Some.is at c.in-Ok.ensures.top in
-    let live : c.give_back_and_reserve.new.self ≡ with_live (without_held m.heap) c.args.size block.base = rw c.in-Some.is at c.in-Ok.ensures.live in
-    let taken : AreTaken m.heap.held m.memory m.registers c.take-cleared.new.memory c.take-cleared.new.registers c.take-cleared.result =
-    c.take-cleared.ensures.taken m.heap.held c.in_ok-revoked.ensures.revoked in (
-      SweepsFirst-taken s c.args.size m.memory c.take-cleared.new.memory c.take-cleared.new.registers c.take-cleared.result refl c.requires.none c.requires.held taken,
+    let live : c.give_back_and_reserve.new.self ≡ with_live (without_waiting m.heap) c.args.size block.base = rw c.in-Some.is at c.in-Ok.ensures.live in
+    let taken : AreTaken m.heap.waiting m.memory m.registers c.take-cleared.new.memory c.take-cleared.new.registers c.take-cleared.result =
+    c.take-cleared.ensures.taken m.heap.waiting (rw (due-closed m.heap c.requires.closed) at c.in_ok-revoked.ensures.revoked) in (
+      SweepsFirst-taken s c.args.size m.memory c.take-cleared.new.memory c.take-cleared.new.registers c.take-cleared.result refl c.requires.none (record { closed = c.requires.closed; waiting = c.requires.waiting }) taken,
       HandsOut-swept s c.args.rd c.args.size block.base block.top c.give_back_and_reserve.new.self m.memory c.take-cleared.new.memory c.take-cleared.new.registers c.set-2.new.self c.take-cleared.result
           refl place top live taken (rw c.block_capability.ensures.value at c.set-2.ensures),
     )

@@ -1,0 +1,144 @@
+-- Each tagged word of memory whose base lies in a painted block stands in a dirty page, after every command.
+use Rattle.std.proofs.Common.{◌≡◌, ◌∙◌, ◌<◌, ◌*◌, ◌/◌, ◌&&◌, ℕ, Bool, true, false, not, Option, Some, None, inl, inr, List, [], length, get_or, set, refl, sym, ap, subst, arith}
+use Rattle.std.proofs.lemmas.Bool.{and_parts, cases_eq, cases_lt, true≢false}
+use Rattle.std.proofs.lemmas.List.{get_or-map, get_or-set_other, get_or-set_same, get_or_past, length-map, length-set}
+use Rattle.heap_core.specs.Blocks.{Span}
+use Rattle.heap_core.specs.Heap.{HeapState, empty_heap}
+use Rattle.sweep_pool.specs.Sweep.{AreInDirtyPages, is_revoked, swept_granule, swept_granules, takes_tag}
+use Rattle.tag_memory.specs.Cells.{Granule, cell_of, is_dirty_at, marked}
+use Rattle.trace_text.specs.declared.trace.Command.{Command}
+use Rattle.trace_text.specs.declared.trace.Command.TheVariants.{Malloc, Free, Copy, SetAddr, Narrow, AndPerm, StoreCap, LoadCap, Write, Show, Sweep, Begin, End}
+use Rattle.heap_reply.specs.declared.reply.Reply.{Reply}
+use Rattle.heap_reply.specs.declared.reply.Reply.TheVariants.{Block, BlockAfter, NoSpace, NoSpaceAfter, Held, Done, Cleared, Swept, Begun, Shown, Trap}
+use Rattle.heap_reply.specs.declared.reply.Trap.{Trap as TheTrap}
+use Rattle.heap_machine.specs.Dirty.{HasPages, IsDirtied, dirty_after, dirty_by}
+use Rattle.heap_machine.specs.State.{State, register}
+use Rattle.heap_machine.specs.Step.{Effect, Step, StepAfter, checks, first_failed, index_in}
+
+-- ---- lists of granules
+
+-- No granule past the end is tagged.
+inside_of : (held : List Span) (cells : List Granule) (i : ℕ) → takes_tag held (cell_of (get_or cells i (0, false))) ≡ true → i < length cells
+inside_of held cells i taken =
+    elim (cases_lt i (length cells)) [
+      | inl lt ↦ lt
+      | inr past ↦ absurd (true≢false (sym taken ∙ ap (λ (g : Granule). takes_tag held (cell_of g)) (get_or_past cells i (0, false) past)))
+    ]
+
+-- Where a sweep took tags, what is left was there before.
+InDirtyPages-fewer : (held swept : List Span) (cells : List Granule) (dirty : List Bool) → AreInDirtyPages cells dirty held → AreInDirtyPages (swept_granules swept cells) dirty held
+InDirtyPages-fewer held swept cells dirty stand i taken =
+    let lt : i < length cells = omega (arith, inside_of held (swept_granules swept cells) i taken, length-map cells (swept_granule swept)) in
+    let g = get_or cells i (0, false) in
+    let is : get_or (swept_granules swept cells) i (0, false) ≡ swept_granule swept (get_or cells i (0, false)) = get_or-map (swept_granule swept) cells i (0, false) (0, false) lt in
+    let left : takes_tag held (cell_of (swept_granule swept (get_or cells i (0, false)))) ≡ true = ap (λ (x : Granule). takes_tag held (cell_of x)) (sym is) ∙ taken in
+    let both = and_parts (g.1 && not (is_revoked swept (cell_of g).0)) (is_revoked held (cell_of g).0) left in
+    let tag = (and_parts g.1 (not (is_revoked swept (cell_of g).0)) both.0).0 in
+    stand i (both_true g.1 (is_revoked held (cell_of g).0) tag both.1) where
+      both_true : (a b : Bool) → a ≡ true → b ≡ true → (a && b) ≡ true
+      both_true true b p q = q
+      both_true false b p q = p
+
+-- A sweep of these blocks leaves none of theirs.
+InDirtyPages-swept : (held : List Span) (cells : List Granule) (dirty : List Bool) → AreInDirtyPages (swept_granules held cells) dirty held
+InDirtyPages-swept held cells dirty i taken =
+    let lt : i < length cells = omega (arith, inside_of held (swept_granules held cells) i taken, length-map cells (swept_granule held)) in
+    let g = get_or cells i (0, false) in
+    let is : get_or (swept_granules held cells) i (0, false) ≡ swept_granule held (get_or cells i (0, false)) = get_or-map (swept_granule held) cells i (0, false) (0, false) lt in
+    let left : takes_tag held (cell_of (swept_granule held (get_or cells i (0, false)))) ≡ true = ap (λ (x : Granule). takes_tag held (cell_of x)) (sym is) ∙ taken in
+    absurd (true≢false (sym left ∙ none g.1 (is_revoked held (cell_of g).0))) where
+      none : (t r : Bool) → ((t && not r) && r) ≡ false
+      none true true = refl
+      none true false = refl
+      none false r = refl
+
+-- With no blocks there is nothing to look for.
+InDirtyPages-none : (cells : List Granule) (dirty : List Bool) → AreInDirtyPages cells dirty []
+InDirtyPages-none cells dirty i taken = absurd (true≢false (sym taken ∙ off (get_or cells i (0, false)).1)) where
+  off : (t : Bool) → (t && false) ≡ false
+  off true = refl
+  off false = refl
+
+-- So it is in the first state.
+pub InDirtyPages-first : (cells : List Granule) (dirty : List Bool) (heap : HeapState) (base pages : ℕ) → heap ≡ empty_heap base pages → AreInDirtyPages cells dirty heap.painted
+InDirtyPages-first cells dirty heap base pages first =
+    subst (λ (blocks : List Span). AreInDirtyPages cells dirty blocks) (sym (ap (λ (h : HeapState). h.painted) first)) (InDirtyPages-none cells dirty)
+
+-- A page that is dirty stays so once another is.
+still_dirty : (dirty : List Bool) (page j : ℕ) → is_dirty_at dirty page ≡ true → is_dirty_at (set dirty j true) page ≡ true
+still_dirty dirty page j is =
+    elim (cases_eq page j) [
+      | inl same ↦
+          let inside : page < length dirty = elim (cases_lt page (length dirty)) [
+            | inl lt ↦ lt
+            | inr past ↦ absurd (true≢false (sym is ∙ get_or_past dirty page false past))
+          ] in
+          subst (λ (k : ℕ). get_or (set dirty k true) page false ≡ true) same (get_or-set_same dirty page true false inside)
+      | inr other ↦ get_or-set_other dirty j page true false other ∙ is
+    ]
+
+-- A granule written, with its page.
+InDirtyPages-put : (held : List Span) (cells : List Granule) (dirty : List Bool) (i : ℕ) (granule : Granule) → length cells ≡ 256 * length dirty → AreInDirtyPages cells dirty held
+    → AreInDirtyPages (set cells i granule) (marked dirty i granule.1) held
+InDirtyPages-put held cells dirty i (bits, false) pages stand k taken =
+    elim (cases_eq k i) [
+      | inl same ↦
+          let lt : k < length cells = omega (arith, inside_of held (set cells i (bits, false)) k taken, length-set cells i (bits, false)) in
+          let here : get_or (set cells i (bits, false)) k (0, false) ≡ (bits, false) = subst (λ (j : ℕ). get_or (set cells j (bits, false)) k (0, false) ≡ (bits, false)) same (get_or-set_same cells k (bits, false) (0, false) lt) in
+          absurd (true≢false (sym taken ∙ ap (λ (g : Granule). takes_tag held (cell_of g)) here))
+      | inr other ↦ stand k (ap (λ (g : Granule). takes_tag held (cell_of g)) (sym (get_or-set_other cells i k (bits, false) (0, false) other)) ∙ taken)
+    ]
+InDirtyPages-put held cells dirty i (bits, true) pages stand k taken =
+    elim (cases_eq k i) [
+      | inl same ↦
+          let lt : k < length cells = omega (arith, inside_of held (set cells i (bits, true)) k taken, length-set cells i (bits, true)) in
+          subst (λ (j : ℕ). is_dirty_at (set dirty (j / 256) true) (k / 256) ≡ true) same (get_or-set_same dirty (k / 256) true false (omega (arith, lt, pages)))
+      | inr other ↦ still_dirty dirty (k / 256) (i / 256) (stand k (ap (λ (g : Granule). takes_tag held (cell_of g)) (sym (get_or-set_other cells i k (bits, true) (0, false) other)) ∙ taken))
+    ]
+
+-- ---- steps
+
+Malloc-dirtied : (old : State) (rd size : ℕ) (r : Reply) (new : State) (dirty : List Bool) → IsDirtied old dirty → Effect old (Malloc rd size) r new → IsDirtied new dirty
+Malloc-dirtied old rd size (Block base top) new dirty stand effect = subst (λ (s : State). IsDirtied s dirty) (sym effect.state) stand
+Malloc-dirtied old rd size (BlockAfter base top cleared) new dirty stand effect =
+    subst (λ (s : State). IsDirtied s dirty) (sym effect.1.state) (InDirtyPages-fewer old.heap.painted old.heap.waiting old.cells dirty stand)
+Malloc-dirtied old rd size NoSpace new dirty stand effect = subst (λ (s : State). IsDirtied s dirty) (sym effect.1.state) stand
+Malloc-dirtied old rd size (NoSpaceAfter cleared) new dirty stand effect =
+    subst (λ (s : State). IsDirtied s dirty) (sym effect.1.state) (InDirtyPages-fewer old.heap.painted old.heap.waiting old.cells dirty stand)
+Malloc-dirtied old rd size (Held bytes) new dirty stand effect = absurd effect
+Malloc-dirtied old rd size Done new dirty stand effect = absurd effect
+Malloc-dirtied old rd size Cleared new dirty stand effect = absurd effect
+Malloc-dirtied old rd size (Swept cleared released) new dirty stand effect = absurd effect
+Malloc-dirtied old rd size (Begun cleared) new dirty stand effect = absurd effect
+Malloc-dirtied old rd size (Shown shown) new dirty stand effect = absurd effect
+Malloc-dirtied old rd size (Trap trap) new dirty stand effect = absurd effect
+
+Effect-dirtied : (old : State) (c : Command) (r : Reply) (new : State) (dirty : List Bool) → HasPages old dirty → IsDirtied old dirty → Effect old c r new → IsDirtied new (dirty_by None old c dirty)
+Effect-dirtied old (Malloc rd size) r new dirty pages stand effect = Malloc-dirtied old rd size r new dirty stand effect
+Effect-dirtied old (Free rs) r new dirty pages stand effect = subst (λ (s : State). IsDirtied s dirty) (sym effect.1) stand
+Effect-dirtied old (Copy rd rs) r new dirty pages stand effect = subst (λ (s : State). IsDirtied s dirty) (sym effect.1) stand
+Effect-dirtied old (SetAddr rd rs a) r new dirty pages stand effect = subst (λ (s : State). IsDirtied s dirty) (sym effect.1) stand
+Effect-dirtied old (Narrow rd rs n) r new dirty pages stand effect = subst (λ (s : State). IsDirtied s dirty) (sym effect.1) stand
+Effect-dirtied old (AndPerm rd rs mask) r new dirty pages stand effect = subst (λ (s : State). IsDirtied s dirty) (sym effect.1) stand
+Effect-dirtied old (StoreCap ra rs) r new dirty pages stand effect =
+    let c = register old rs in
+    subst (λ (s : State). IsDirtied s (dirty_by None old (StoreCap ra rs) dirty)) (sym effect.1)
+    (InDirtyPages-put old.heap.painted old.cells dirty (index_in old (register old ra).0) (c.0.bits, c.1) pages stand)
+Effect-dirtied old (LoadCap rd ra) r new dirty pages stand effect = subst (λ (s : State). IsDirtied s dirty) (sym effect.1) stand
+Effect-dirtied old (Write ra bytes) r new dirty pages stand effect =
+    subst (λ (s : State). IsDirtied s dirty) (sym effect.1) (InDirtyPages-put old.heap.painted old.cells dirty (index_in old (register old ra).0) (_, false) pages stand)
+Effect-dirtied old (Show rs) r new dirty pages stand effect = subst (λ (s : State). IsDirtied s dirty) (sym effect.1) stand
+Effect-dirtied old Sweep r new dirty pages stand effect =
+    subst (λ (s : State). IsDirtied s dirty) (sym effect.1) (InDirtyPages-fewer old.heap.painted old.heap.waiting old.cells dirty stand)
+Effect-dirtied old Begin r new dirty pages stand effect =
+    subst (λ (s : State). IsDirtied s (dirty_by None old Begin dirty)) (sym effect.1) (InDirtyPages-swept old.heap.waiting old.cells _)
+Effect-dirtied old End r new dirty pages stand effect =
+    subst (λ (s : State). IsDirtied s dirty) (sym effect.1) (InDirtyPages-none (swept_granules old.heap.painted old.cells) dirty)
+
+StepAfter-dirtied : (t : Option TheTrap) (old : State) (c : Command) (r : Reply) (new : State) (dirty : List Bool) → HasPages old dirty → IsDirtied old dirty → StepAfter t old c r new
+    → IsDirtied new (dirty_by t old c dirty)
+StepAfter-dirtied None old c r new dirty pages stand step = Effect-dirtied old c r new dirty pages stand step
+StepAfter-dirtied (Some t) old c r new dirty pages stand step = subst (λ (s : State). IsDirtied s dirty) (sym step.1) stand
+
+pub Step-dirtied : (old : State) (c : Command) (r : Reply) (new : State) (dirty : List Bool) → HasPages old dirty → IsDirtied old dirty → Step old c r new → IsDirtied new (dirty_after old c dirty)
+Step-dirtied old c r new dirty pages stand step = StepAfter-dirtied (first_failed (checks old c)) old c r new dirty pages stand step
