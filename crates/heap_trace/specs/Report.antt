@@ -3,9 +3,9 @@ use Rattle.std.specs.Prelude.{ℕ, ◌-◌, List, [], ◌∷◌, ◌++◌, codes
 use Rattle.std.specs.Fmt.{decimal}
 use Rattle.std.specs.List.{concat}
 use Rattle.heap_core.specs.Blocks.{bytes_in}
-use Rattle.heap_core.specs.Heap.{HeapState}
+use Rattle.heap_core.specs.Heap.{HeapState, held_bytes}
 use Rattle.trace_text.specs.declared.trace.Command.{Command}
-use Rattle.trace_text.specs.declared.trace.Command.TheVariants.{Malloc, Free, Copy, SetAddr, Narrow, AndPerm, StoreCap, LoadCap, Write, Show, Sweep}
+use Rattle.trace_text.specs.declared.trace.Command.TheVariants.{Malloc, Free, Copy, SetAddr, Narrow, AndPerm, StoreCap, LoadCap, Write, Show, Sweep, Begin, End}
 use Rattle.heap_reply.specs.declared.reply.Reply.{Reply}
 use Rattle.heap_machine.specs.State.{State, tags_of}
 pub use Rattle.heap_reply.specs.Answer.{answer_text, block_text, shown_text, trap_name}
@@ -23,6 +23,8 @@ name_of (LoadCap rd ra) = codes "loadcap"
 name_of (Write ra bytes) = codes "write"
 name_of (Show rs) = codes "show"
 name_of Sweep = codes "sweep"
+name_of Begin = codes "begin"
+name_of End = codes "end"
 
 -- The line of a command at line n.
 abbrev pub line_text : ℕ → Command → Reply → List ℕ
@@ -35,13 +37,13 @@ lines_text (c ∷ cs) [] = []
 
 -- The bytes in no block.
 abbrev pub free_of : HeapState → ℕ
-free_of h = h.size - bytes_in h.live - bytes_in h.held
+free_of h = h.size - bytes_in h.live - held_bytes h
 
--- The last line: the bytes in live blocks, in held blocks and in neither, and the tags.
+-- The last line: the bytes in live blocks, in held blocks, waiting or painted, and in neither, and the tags.
 abbrev pub end_text : State → List ℕ
 end_text s =
     concat (
-    codes "end live " ∷ decimal (bytes_in s.heap.live) ∷ codes " held " ∷ decimal (bytes_in s.heap.held)
+    codes "end live " ∷ decimal (bytes_in s.heap.live) ∷ codes " held " ∷ decimal (held_bytes s.heap)
     ∷ codes " free " ∷ decimal (free_of s.heap) ∷ codes " tags " ∷ decimal (tags_of s) ∷ codes "\n" ∷ []
     )
 

@@ -26,6 +26,8 @@ fn name(command: Command) -> &'static str
         Command::Write { .. } => "write",
         Command::Show { .. } => "show",
         Command::Sweep => "sweep",
+        Command::Begin => "begin",
+        Command::End => "end",
     }
 }
 
@@ -92,6 +94,10 @@ fn put_reply(line: &mut Line, reply: Reply)
             line.put_decimal(u64::from(cleared));
             line.put_text(b"cleared ");
         }
+        Reply::Begun { cleared } => {
+            line.put_decimal(u64::from(cleared));
+            line.put_text(b"cleared ");
+        }
         Reply::Shown(shown) => put_shown(line, shown),
         Reply::Trap(trap) => {
             line.put_text(trap.name().as_bytes());
@@ -155,7 +161,7 @@ impl Report {
     /// The whole text, with a last line: the bytes in live blocks, in held blocks and in neither, and
     /// the tags.
     pub fn end(self, alloc: Global, machine: &Machine) -> Result<Vec<u8>, AllocError>
-        ensures { IfOk result (λ text. text.items ≡ self ++ end_text machine.now) }
+        ensures { IfOk result (λ text. text.items ≡ self ++ end_text machine.now.state) }
     {
         let Report { mut text, last } = self;
         let live = machine.live_bytes();
@@ -171,7 +177,7 @@ impl Report {
 
 // How many granules and registers are tagged.
 fn tagged(machine: &Machine) -> u128
-    ensures { result ≡ tags_of machine.now }
+    ensures { result ≡ tags_of machine.now.state }
 {
     machine.memory().tagged() as u128 + machine.registers().tagged() as u128
 }

@@ -99,8 +99,8 @@ fn run_commands<R: Threads + Sync>(
     commands: &[(u32, Command)],
 ) -> Option<Report>
     requires valid { All IsListed commands.now }
-    requires safe { IsSafe machine.old }
-    ensures { IfSome result (λ report. Told machine.old commands.now machine.new report) }
+    requires safe { IsSafe machine.old.state }
+    ensures { IfSome result (λ report. Told machine.old.state commands.now machine.new.state report) }
 {
     let mut report = Report::new(alloc);
     for (line, command) in commands {

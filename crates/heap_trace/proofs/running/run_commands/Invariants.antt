@@ -4,4 +4,4 @@ use Rattle.heap_trace.specs.Run.{Told}
 use Rattle.heap_trace.proofs.running.run_commands.Given as goal
 
 abbrev pub invariant-loop-line : goal.invariant-loop-line
-invariant-loop-line g l = Told l.fn.machine (take l.line-index l.commands) l.machine l.report
+invariant-loop-line g l = Told l.fn.machine.state (take l.line-index l.commands) l.machine.state l.report

@@ -5,4 +5,4 @@ use Rattle.heap_trace.proofs.running.run_trace.Goals as goal
 
 pub returns : goal.returns
 returns g c =
-    IsOutcome-told (script_of c.args.trace.now) _ c.in-Ok.machine c.run_commands.new.machine c.in_ok-lines.lines (search rules) c.in-Ok.ensures.first (search rules) (search rules) (search rules) (search rules)
+    IsOutcome-told (script_of c.args.trace.now) _ c.in-Ok.machine.state c.run_commands.new.machine.state c.in_ok-lines.lines (search rules) c.in-Ok.ensures.first (search rules) (search rules) (search rules) (search rules)
