@@ -119,6 +119,15 @@ impl Heap {
         Ok(Some(Block { base, top }))
     }
 
+    /// Whether an epoch of revocation is open.
+    pub fn is_open(&self) -> bool
+        ensures value { result ≡ self.now.is_open }
+        // What holds of every heap.
+        ensures sound { IsSound self.now }
+    {
+        self.is_open
+    }
+
     /// The bytes of the live blocks.
     pub fn live_bytes(&self) -> u64
         ensures { result ≡ bytes_in self.now.live }

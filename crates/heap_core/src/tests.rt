@@ -1,5 +1,7 @@
 //! Heaps that are refused, and blocks that lie where they should.
 
+mod epochs;
+
 use crate::{Block, Freed, Heap, HeapFault, Shadow};
 use mark_board::Board;
 use std::alloc::Global;
@@ -230,6 +232,7 @@ fn a_block_gets_the_bytes_given_back(rt: HostRuntime) {
         let mut heap = Heap::new(rt.alloc(), BASE, 1).expect(&rt, "a heap");
         blocks_lie(&rt, &mut heap, &halves);
         assert_eq!(rt; heap.release(0x4000_0800, 0x4000_1000), Ok(Freed::Held));
+        assert!(rt; !heap.is_open());
         let block = place.map(|(base, top)| Block { base, top });
         assert_eq!(rt;
             heap.give_back_and_reserve(size),

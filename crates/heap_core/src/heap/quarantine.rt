@@ -46,15 +46,6 @@ impl Heap {
         Ok(Freed::Held)
     }
 
-    /// Whether an epoch of revocation is open.
-    pub fn is_open(&self) -> bool
-        ensures value { result ≡ self.now.is_open }
-        // What holds of every heap.
-        ensures sound { IsSound self.now }
-    {
-        self.is_open
-    }
-
     /// Begins an epoch (Filardo et al. 2020, Cornucopia): all blocks that wait are painted, and blocks that are given
     /// up from then on wait for the next one.
     pub fn begin_epoch(&mut self)
@@ -145,9 +136,9 @@ impl Heap {
         ensures live { IfOk result (λ done. IfSome done.0 (λ block. self.new ≡ with_live (without_waiting self.old) size block.base)) }
         ensures sound { IsSound self.new }
     {
-        let bytes = GRANULE * u64::from(self.held_granules);
+        let waiting = GRANULE * u64::from(self.held_granules);
         self.drop_waiting();
         let found = self.reserve(size)?;
-        Ok((found, bytes))
+        Ok((found, waiting))
     }
 }

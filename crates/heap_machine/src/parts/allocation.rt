@@ -1,9 +1,9 @@
 //! Handing out blocks that have a place.
 
-ghost use Rattle.std.specs.Prelude.{◌≡◌, IfErr, IfOk, IsOk, OnErr, OnOk};
+ghost use Rattle.std.specs.Prelude.{◌≡◌, IfErr, IfOk, IsOk, OnErr, OnOk, false, true};
 ghost use Rattle.trace_text.specs.Command.{IsValid};
 ghost use Rattle.heap_machine.specs.Parts.{AreParts, state_of};
-ghost use Rattle.heap_machine.specs.Step.{Step, TakesNoMemory};
+ghost use Rattle.heap_machine.specs.Step.{MaySweep, Step, TakesNoMemory};
 
 use crate::fault::MachineFault;
 use crate::parts::Parts;
@@ -42,14 +42,18 @@ impl Parts {
             self.registers.set(rd, block_capability(base, top), true);
             return Ok(Reply::Block { base, top });
         }
-        if self.heap.is_open() {
-            self.registers.set(rd, Word::NULL, false);
-            return Ok(Reply::NoSpace);
-        }
-        if self.heap.held_bytes() == 0 {
+        if !self.may_sweep() {
             self.registers.set(rd, Word::NULL, false);
             return Ok(Reply::NoSpace);
         }
         self.sweep_and_malloc(rt, alloc, rd, size, gate)
+    }
+
+    // Whether a malloc may sweep: no epoch is open, and some block waits.
+    fn may_sweep(&self) -> bool
+        ensures may { result ≡ true → MaySweep (state_of self.now) }
+        ensures not { result ≡ false → ¬ MaySweep (state_of self.now) }
+    {
+        !self.heap.is_open() && self.heap.held_bytes() != 0
     }
 }

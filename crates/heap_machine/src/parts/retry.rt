@@ -1,9 +1,9 @@
 //! Handing out blocks after a sweep: where a block has no place, and others are held.
 
-ghost use Rattle.std.specs.Prelude.{◌≡◌, [], IfErr, IfOk, OnErr, OnOk, false};
+ghost use Rattle.std.specs.Prelude.{◌≡◌, IfErr, IfOk, OnErr, OnOk};
 ghost use Rattle.trace_text.specs.Command.{IsValid};
 ghost use Rattle.heap_machine.specs.Parts.{AreParts, state_of};
-ghost use Rattle.heap_machine.specs.Step.{HasNoPlace, Step};
+ghost use Rattle.heap_machine.specs.Step.{HasNoPlace, MaySweep, Step};
 
 use crate::fault::MachineFault;
 use crate::parts::Parts;
@@ -28,8 +28,7 @@ impl Parts {
         requires parts { AreParts self.old }
         requires valid { IsValid (Command.Malloc rd size) }
         requires none { HasNoPlace (state_of self.old) size }
-        requires closed { self.old.heap.is_open ≡ false }
-        requires waiting { ¬ (self.old.heap.waiting ≡ []) }
+        requires may { MaySweep (state_of self.old) }
         ensures step { IfOk result (λ reply. Step (state_of self.old) (Command.Malloc rd size) reply (state_of self.new)) }
         ensures base { self.new.memory.base ≡ self.new.heap.base }
         ensures dirty { OnOk result (self.new.memory.dirty ≡ self.old.memory.dirty) }

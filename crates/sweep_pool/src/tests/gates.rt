@@ -10,9 +10,18 @@ use tag_memory::Memory;
 // How often it was told of each of the tasks 0 to 6, and of others as if of 7, a byte a task; and the tasks
 // in their order, each as its number plus 1, a hexadecimal digit a task.
 #[derive(Drop)]
-struct Tally {
-    counts: AtomicU64,
-    order: AtomicU64,
+pub(super) struct Tally {
+    pub(super) counts: AtomicU64,
+    pub(super) order: AtomicU64,
+}
+
+impl Tally {
+    pub(super) fn new() -> Tally {
+        Tally {
+            counts: AtomicU64::new(0),
+            order: AtomicU64::new(0),
+        }
+    }
 }
 
 impl Gate for Tally {
@@ -31,10 +40,7 @@ fn a_gate_is_told_of_each_task_once(rt: HostRuntime) {
     let shadow = held_shadow(rt.alloc()).expect(&rt, "there is memory");
     for workers in [1, 3, 64] {
         let cutting = Cutting::new(workers, 2).expect(&rt, "it is a cutting");
-        let gate = Tally {
-            counts: AtomicU64::new(0),
-            order: AtomicU64::new(0),
-        };
+        let gate = Tally::new();
         let _ = sweep_masks(&rt, rt.alloc(), &memory, &shadow, &cutting, &gate).expect(
             &rt,
             "there is memory",

@@ -13,8 +13,8 @@ returns-in_default-found-clause-step g c =
     let m = c.args.self.now in
     let s = state_of m in
     let taken : AreTaken m.heap.waiting m.memory m.registers c.take-cleared.new.memory c.take-cleared.new.registers c.take-cleared.result =
-    c.take-cleared.ensures.taken m.heap.waiting (rw (due-closed m.heap c.requires.closed) at c.in_ok-revoked.ensures.revoked) in (
-      SweepsFirst-taken s c.args.size m.memory c.take-cleared.new.memory c.take-cleared.new.registers c.take-cleared.result refl c.requires.none (record { closed = c.requires.closed; waiting = c.requires.waiting }) taken,
+    c.take-cleared.ensures.taken m.heap.waiting (rw (due-closed m.heap c.requires.may.closed) at c.in_ok-revoked.ensures.revoked) in (
+      SweepsFirst-taken s c.args.size m.memory c.take-cleared.new.memory c.take-cleared.new.registers c.take-cleared.result refl c.requires.none c.requires.may taken,
       HandsOutNone-swept s c.args.rd c.args.size c.give_back_and_reserve.new.self m.memory c.take-cleared.new.memory c.take-cleared.new.registers c.set.new.self c.take-cleared.result
           refl (c.in-Ok.ensures.none.0 c.in_default-found.is) (c.in-Ok.ensures.free c.in_default-found.is) taken c.set.ensures,
     )
@@ -36,8 +36,8 @@ returns-clause-step g c =
     let top : block.top ≡ block.base + block_length c.args.size = rw c.in-Some.is at c.in-Ok.ensures.top in
     let live : c.give_back_and_reserve.new.self ≡ with_live (without_waiting m.heap) c.args.size block.base = rw c.in-Some.is at c.in-Ok.ensures.live in
     let taken : AreTaken m.heap.waiting m.memory m.registers c.take-cleared.new.memory c.take-cleared.new.registers c.take-cleared.result =
-    c.take-cleared.ensures.taken m.heap.waiting (rw (due-closed m.heap c.requires.closed) at c.in_ok-revoked.ensures.revoked) in (
-      SweepsFirst-taken s c.args.size m.memory c.take-cleared.new.memory c.take-cleared.new.registers c.take-cleared.result refl c.requires.none (record { closed = c.requires.closed; waiting = c.requires.waiting }) taken,
+    c.take-cleared.ensures.taken m.heap.waiting (rw (due-closed m.heap c.requires.may.closed) at c.in_ok-revoked.ensures.revoked) in (
+      SweepsFirst-taken s c.args.size m.memory c.take-cleared.new.memory c.take-cleared.new.registers c.take-cleared.result refl c.requires.none c.requires.may taken,
       HandsOut-swept s c.args.rd c.args.size block.base block.top c.give_back_and_reserve.new.self m.memory c.take-cleared.new.memory c.take-cleared.new.registers c.set-2.new.self c.take-cleared.result
           refl place top live taken (rw c.block_capability.ensures.value at c.set-2.ensures),
     )
