@@ -1,5 +1,6 @@
 //! Machines, command by command.
 
+mod epochs;
 mod machine;
 mod sweeps;
 mod workers;

@@ -210,4 +210,93 @@ end live 0 held 0 free 4096 tags 0
     ],
 };
 
-pub const ROWS: [Row; 6] = [WRAPPED, REUSED, KEPT, NARROWED, PLACED, FULL];
+/// An epoch with a store and a release in it.
+const EPOCH: Row = Row {
+    text: "heap 0x40000000 2\nmalloc c1 32\nmalloc c2 4096\nmalloc c3 32\nstorecap c2 c1\nfree c1\nbegin\nstorecap c3 c1\nfree c2\nsweep\nend\nend\nmalloc c4 32\nshow c2\nsweep\n",
+    report: "2 malloc block 0x40000000 0x40000020
+3 malloc block 0x40000020 0x40001020
+4 malloc block 0x40001020 0x40001040
+5 storecap ok
+6 free held 32
+7 begin cleared 1
+8 storecap ok
+9 free held 4096
+10 sweep trap open
+11 end cleared 2 released 32
+12 end trap notopen
+13 malloc block 0x40000000 0x40000020
+14 show tag 1 address 0x40000020 base 0x40000020 top 0x40001020 perms 0x3d type 0x3ffff exponent 0
+15 sweep cleared 1 released 4096
+end live 64 held 0 free 8128 tags 2
+",
+    image: "0x40000020 0 00000040000000000480090400003d00
+0x40001020 0 00000040000000000480090400003d00
+",
+    tagged: 0b11000,
+    replies: &[
+        Reply::Block {
+            base: 0x4000_0000,
+            top: 0x4000_0020,
+        },
+        Reply::Block {
+            base: 0x4000_0020,
+            top: 0x4000_1020,
+        },
+        Reply::Block {
+            base: 0x4000_1020,
+            top: 0x4000_1040,
+        },
+        Reply::Done,
+        Reply::Held(32),
+        Reply::Begun { cleared: 1 },
+        Reply::Done,
+        Reply::Held(4096),
+        Reply::Trap(Trap::Open),
+        Reply::Swept {
+            cleared: 2,
+            released: 32,
+        },
+        Reply::Trap(Trap::NotOpen),
+        Reply::Block {
+            base: 0x4000_0000,
+            top: 0x4000_0020,
+        },
+        Reply::Shown(Shown {
+            tag: true,
+            address: 0x4000_0020,
+            base: 0x4000_0020,
+            top: 0x4000_1020,
+            perms: 0x3d,
+            otype: 0x3ffff,
+            exponent: 0,
+        }),
+        Reply::Swept {
+            cleared: 1,
+            released: 4096,
+        },
+    ],
+};
+
+/// In an open epoch a malloc without a place does not sweep.
+const OPENED: Row = Row {
+    text: "heap 0x40000000 1\nmalloc c1 4096\nfree c1\nbegin\nmalloc c2 16\n",
+    report: "2 malloc block 0x40000000 0x40001000
+3 free held 4096
+4 begin cleared 0
+5 malloc nospace
+end live 0 held 4096 free 0 tags 1
+",
+    image: "",
+    tagged: 0b10,
+    replies: &[
+        Reply::Block {
+            base: 0x4000_0000,
+            top: 0x4000_1000,
+        },
+        Reply::Held(4096),
+        Reply::Begun { cleared: 0 },
+        Reply::NoSpace,
+    ],
+};
+
+pub const ROWS: [Row; 8] = [WRAPPED, REUSED, KEPT, NARROWED, PLACED, FULL, EPOCH, OPENED];

@@ -4,7 +4,7 @@ use crate::tests::runs::answer;
 use crate::{RunFault, image_text};
 
 // Traces with the reports of their runs.
-const SWEEPS: [(&str, &str); 5] = [
+const SWEEPS: [(&str, &str); 6] = [
     // A block that is held isn't handed out, and its capabilities are gone before it is.
     (
         "heap 0x40000000 1
@@ -121,6 +121,20 @@ show c4
 8 malloc nospace swept 2
 9 show tag 0 address 0x40000000 base 0x40000000 top 0x40000020 perms 0x3d type 0x3ffff exponent 0
 end live 0 held 0 free 4096 tags 0
+",
+    ),
+    (
+        "heap 0x40000000 1
+malloc c1 4096
+free c1
+begin
+malloc c2 16
+",
+        "2 malloc block 0x40000000 0x40001000
+3 free held 4096
+4 begin cleared 0
+5 malloc nospace
+end live 0 held 4096 free 0 tags 1
 ",
     ),
 ];
