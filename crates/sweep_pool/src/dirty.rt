@@ -1,10 +1,10 @@
 //! A sweep of the dirty pages of a memory, by the calling thread.
 
 ghost use Rattle.heap_core.specs.Heap.{HeapState, due};
-ghost use Rattle.std.specs.Prelude.{◌≡◌, ◌<◌, ◌≤◌, ◌+◌, ◌*◌, ◌/◌, ℕ, IfErr, IfOk, false, length};
+ghost use Rattle.std.specs.Prelude.{◌≡◌, ◌<◌, ◌≤◌, ◌+◌, ◌*◌, ◌/◌, ℕ, IfErr, IfOk, length, slice_index, true};
 ghost use Rattle.sweep_pool.specs.Sweep.{AreDirtyMasks, AreInDirtyPages, IsShadowOf, TakeTags, is_dirty_hit_at};
 ghost use Rattle.tag_memory.specs.Cells.{is_dirty_at};
-ghost use Rattle.tag_memory.specs.Tags.{is_set, is_set_for, is_tagged};
+ghost use Rattle.tag_memory.specs.Tags.{is_set_for};
 
 use crate::cutting::Cutting;
 use crate::gate::Gate;
@@ -15,49 +15,42 @@ use std::alloc::Global;
 use std::thread::Threads;
 use tag_memory::{Memory, PAGE_WORDS};
 
-// The mask of word `w` of the tags, which is not looked at where its page is clean.
-fn dirty_mask(memory: &Memory, shadow: &Shadow, w: usize, dirty: bool, may_hold: bool) -> u64
-    requires within { 64 * w + 64 ≤ length memory.now.cells }
-    requires dirty { dirty ≡ is_dirty_at memory.now.dirty (w / 4) }
-    requires untagged { may_hold ≡ false → (j : ℕ) → j < 64 → is_tagged memory.now.cells (64 * w + j) ≡ false }
-    ensures { (j : ℕ) → j < 64 → is_set result j ≡ is_dirty_hit_at memory.now shadow.now (64 * w + j) }
-{
-    if !dirty {
-        return 0;
-    }
-    word_mask(memory, shadow, w, may_hold)
-}
-
-// Makes the masks of a page, where those of the pages before are made, and tells whether it is dirty.
-fn fill_dirty_page(memory: &Memory, shadow: &Shadow, page: u32, masks: &mut Vec<u64>) -> bool
+// Makes the masks of a dirty page, where those of the pages before are made, and those from it on are 0.
+fn fill_dirty_page(memory: &Memory, shadow: &Shadow, page: u32, masks: &mut Vec<u64>)
     requires room { 4 * page + 4 ≤ length masks.old.items }
     requires within { 256 * page + 256 ≤ length memory.now.cells }
+    requires dirty { is_dirty_at memory.now.dirty page ≡ true }
     requires before { (i : ℕ) → i / 256 < page → is_set_for masks.old.items i ≡ is_dirty_hit_at memory.now shadow.now i }
+    requires rest { (w : ℕ) → 4 * page ≤ w → slice_index masks.old.items w ≡ 0 }
     ensures count { length masks.new.items ≡ length masks.old.items }
     ensures done { (i : ℕ) → i / 256 < page + 1 → is_set_for masks.new.items i ≡ is_dirty_hit_at memory.now shadow.now i }
-    ensures dirty { result ≡ is_dirty_at memory.now.dirty page }
+    ensures rest { (w : ℕ) → 4 * page + 4 ≤ w → slice_index masks.new.items w ≡ 0 }
 {
-    let dirty = memory.dirty(page);
     let may_hold = memory.may_hold_tags(page);
     let at = PAGE_WORDS * page as usize;
     for j in 0..PAGE_WORDS {
-        masks[at + j] = dirty_mask(memory, shadow, at + j, dirty, may_hold);
+        masks[at + j] = word_mask(memory, shadow, at + j, may_hold);
     }
-    dirty
 }
 
-// Makes the masks of the pages `from` to `end - 1`, where those before are made, and tells whether one of them is dirty.
+// Makes the masks of the pages `from` to `end - 1`, where those before are made, and those from them on are 0; and tells
+// whether one of the pages is dirty.
 fn fill_dirty(memory: &Memory, shadow: &Shadow, from: u32, end: u32, masks: &mut Vec<u64>) -> bool
     requires order { from ≤ end }
     requires room { 4 * end ≤ length masks.old.items }
     requires within { 256 * end ≤ length memory.now.cells }
     requires before { (i : ℕ) → i / 256 < from → is_set_for masks.old.items i ≡ is_dirty_hit_at memory.now shadow.now i }
+    requires rest { (w : ℕ) → 4 * from ≤ w → slice_index masks.old.items w ≡ 0 }
     ensures count { length masks.new.items ≡ length masks.old.items }
     ensures done { (i : ℕ) → i / 256 < end → is_set_for masks.new.items i ≡ is_dirty_hit_at memory.now shadow.now i }
+    ensures rest { (w : ℕ) → 4 * end ≤ w → slice_index masks.new.items w ≡ 0 }
 {
     let mut some = false;
     for page in from..end {
-        some |= fill_dirty_page(memory, shadow, page, masks);
+        if memory.dirty(page) {
+            fill_dirty_page(memory, shadow, page, masks);
+            some = true;
+        }
     }
     some
 }
