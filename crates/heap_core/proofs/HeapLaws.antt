@@ -1,8 +1,8 @@
 -- What a caller sees of a heap once its table or its late blocks have changed.
-use Rattle.std.proofs.Common.{◌≡◌, ◌<◌, ◌≤◌, ◌+◌, ◌*◌, ◌-◌, ℕ, Bool, true, false, List, [], length, get_or, set, length-set, replicate, refl, sym, ap, ◌∙◌, arith}
+use Rattle.std.proofs.Common.{◌≡◌, ◌≤◌, ◌+◌, ◌*◌, ℕ, Bool, true, false, List, length, get_or, set, length-set, replicate, refl, sym, ap, ◌∙◌, arith}
 use Rattle.std.proofs.lemmas.Bool.{true≢false}
 use Rattle.std.proofs.lemmas.List.{set-get_or}
-use Rattle.heap_core.specs.Blocks.{Span, blocks_with, bytes_in}
+use Rattle.heap_core.specs.Blocks.{blocks_with, bytes_in}
 use Rattle.heap_core.specs.Consistent.{AreLate, either_mark, heap_state}
 use Rattle.heap_core.specs.Heap.{held_bytes}
 use Rattle.heap_core.specs.Quarantine.{with_epoch, with_waiting, without_epoch, without_waiting}

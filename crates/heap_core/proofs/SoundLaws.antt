@@ -1,5 +1,5 @@
 -- What holds of every heap, from its table and its late blocks.
-use Rattle.std.proofs.Common.{◌≡◌, ◌<◌, ◌+◌, ◌*◌, ◌||◌, inl, inr, ℕ, Bool, true, false, List, [], length, get_or, not, refl, sym, ap, ◌∙◌, arith}
+use Rattle.std.proofs.Common.{◌≡◌, ◌<◌, ◌+◌, ◌*◌, ◌||◌, inl, inr, ℕ, Bool, true, false, List, length, get_or, not, refl, sym, ap, ◌∙◌, arith}
 use Rattle.std.proofs.lemmas.Bool.{cases_order, true≢false}
 use Rattle.std.proofs.lemmas.List.Elements.{All-nil}
 use Rattle.std.specs.Prelude.{All}

@@ -4,7 +4,7 @@ use Rattle.std.specs.Prelude.{◌≡◌, ◌<◌, ◌*◌, ◌||◌, if◌then�
 use Rattle.heap_core.specs.Blocks.{bytes_in}
 use Rattle.heap_core.specs.Heap.{HeapState}
 use Rattle.heap_core.specs.Shadow.{bits_of}
-use Rattle.heap_core.specs.Table.{IsTable, TableState, blocks_of, is_held, is_live}
+use Rattle.heap_core.specs.Table.{IsTable, blocks_of, is_held, is_live}
 use Rattle.heap_core.specs.declared.heap.Heap.TheInside.{Inside}
 
 -- A mark where either has one.

@@ -1,4 +1,4 @@
-use Rattle.std.proofs.Common.{◌≡◌, ◌<◌, ◌≤◌, ◌/◌, ◌+◌, ◌*◌, ℕ, get_or, length}
+use Rattle.std.proofs.Common.{◌≡◌, ◌<◌, ◌≤◌, ◌/◌, ◌+◌, ℕ, get_or, length}
 use Rattle.sweep_pool.specs.Sweep.{is_dirty_hit_at}
 use Rattle.tag_memory.specs.Tags.{is_set_for}
 use Rattle.sweep_pool.proofs.dirty.fill_dirty_page.Given as goal

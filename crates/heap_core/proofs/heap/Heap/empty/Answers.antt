@@ -1,6 +1,5 @@
-use Rattle.std.proofs.Common.{◌≡◌, ◌*◌, ◌/◌, ◌∙◌, ℕ, List, Bool, ap, length, false, replicate, refl, subst, arith}
+use Rattle.std.proofs.Common.{◌≡◌, ◌*◌, ◌/◌, ◌∙◌, ap, false, replicate, refl, arith}
 use Rattle.std.proofs.lemmas.Grind.{common_steps}
-use Rattle.heap_core.specs.Consistent.{AreLate, either_mark}
 use Rattle.heap_core.specs.Shadow.{bits_of}
 use Rattle.heap_core.proofs.EmptyLaws.{AreLate-zeros, IsTable-zeros, bits_of-zeros, blocks_of-zeros, heap_state-zeros, zeros}
 use Rattle.heap_core.proofs.LateLaws.{either-none_left}

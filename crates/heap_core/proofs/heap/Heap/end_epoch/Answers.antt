@@ -1,16 +1,14 @@
-use Rattle.std.proofs.Common.{◌≡◌, ◌∙◌, ◌<◌, ◌+◌, ◌*◌, ℕ, Bool, List, sym, ap, false, true, length, get_or, replicate, refl, zero, arith}
-use Rattle.std.proofs.lemmas.List.{ext_get_or, length-replicate}
+use Rattle.std.proofs.Common.{◌≡◌, ◌∙◌, ℕ, List, sym, ap, false, true, length, get_or, replicate, refl, zero, arith}
+use Rattle.std.proofs.lemmas.List.{length-replicate}
 use Rattle.std.specs.Vec.{vec_len}
-use Rattle.heap_core.specs.Consistent.{AreLate, either_mark, heap_state}
 use Rattle.heap_core.specs.Heap.{HeapState}
-use Rattle.heap_core.specs.Quarantine.{without_epoch}
 use Rattle.heap_core.specs.Shadow.{bits_of}
 use Rattle.heap_core.specs.Table.{is_live, kept_lengths}
 use Rattle.heap_core.proofs.EmptyLaws.{is_set-zeros}
 use Rattle.heap_core.proofs.HeapLaws.{heap_state-ended}
-use Rattle.heap_core.proofs.KeptLaws.{IsTable-kept, get_or-kept, length-kept_lengths}
+use Rattle.heap_core.proofs.KeptLaws.{IsTable-kept, length-kept_lengths}
 use Rattle.heap_core.proofs.LateLaws.{AreLate-none, bits_of-none, either-none_right, late_blocks-dropped, late_stays, live_blocks-dropped, marks_of_bits, no_held}
-use Rattle.heap_core.proofs.ShadowLaws.{get_or-bits_of, length-bits_of}
+use Rattle.heap_core.proofs.ShadowLaws.{length-bits_of}
 use Rattle.heap_core.proofs.SoundLaws.{IsTable-marks}
 use Rattle.heap_core.proofs.SpanLaws.{LiesWithin-table}
 use Rattle.tag_memory.specs.Tags.{is_set_for}

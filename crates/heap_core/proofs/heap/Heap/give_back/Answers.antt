@@ -1,8 +1,6 @@
 use Rattle.std.proofs.Common.{◌≡◌, ◌∙◌, ap, false, sym, true, arith}
-use Rattle.heap_core.specs.Blocks.{Span, bytes_in}
-use Rattle.heap_core.specs.Heap.{HeapState, IsSound, due}
+use Rattle.heap_core.specs.Heap.{HeapState, IsSound}
 use Rattle.heap_core.specs.Laws.{without_due-closed, without_due-open}
-use Rattle.heap_core.specs.Shadow.{bits_of}
 use Rattle.heap_core.proofs.ShadowLaws.{due-heap_state}
 use Rattle.heap_core.proofs.SoundLaws.{IsSound-from_table}
 use Rattle.heap_core.proofs.StateLaws.{IsSound-ended, IsSound-free}
