@@ -1,4 +1,4 @@
-//! The shadow of a heap: which of its granules lie in held blocks.
+//! The shadow of a heap: which of its granules lie in blocks that are due.
 
 ghost use Rattle.std.specs.Prelude.{◌≡◌, ◌<◌, ◌*◌, ◌^◌, ℕ, IfOk, false, length, slice_index_or};
 ghost use Rattle.heap_core.specs.Shadow.{bits_of};
@@ -9,7 +9,7 @@ use std::alloc::{AllocError, Global};
 use std::marker::Model;
 use tag_memory::WORD_GRANULES;
 
-/// Which granules of a heap lay in held blocks when it was made: one bit a granule, as the revoker's
+/// Which granules of a heap lay in blocks that were due when it was made: one bit a granule, as the revoker's
 /// shadow bitmap has it (Filardo et al. 2020, Cornucopia).
 #[derive(Drop)]
 pub struct Shadow {
@@ -59,7 +59,7 @@ impl Shadow {
         self.granules
     }
 
-    /// Whether a granule, counted from the heap's base, lay in a held block.
+    /// Whether a granule, counted from the heap's base, lay in a block that was due.
     pub fn painted(&self, granule: usize) -> bool
         requires { granule < length self.now }
         ensures { result ≡ slice_index_or self.now granule false }

@@ -62,7 +62,7 @@ painted-join s board a b c whole one both low high all more of sound mine seen =
       ];
 }
 
--- A granule in some held blocks lies in a held block.
+-- A granule in some of the blocks that are due lies in a block that is due.
 pub in_due-any : (s : HeapState) (a b k : ℕ) → is_due_at s k ≡ false → is_in_due s a b k ≡ false
 in_due-any s a b k free =
     let test : Span → Bool = has_address (s.base + 16 * k) in
@@ -96,7 +96,7 @@ base_whole s sound =
     let page : s.base % 4096 ≡ 0 = eqb-true (s.base % 4096) 0 (and_parts (s.base % 4096 == 0) (nat_le (s.base + 4096 * sound.pages) (2 ^ 64)) sound.place).0 in
     omega (arith, page)
 
--- A held block is whole granules.
+-- A block that is due is whole granules.
 same_granule : (s : HeapState) (a k : ℕ) (block : Span) → s.base % 16 ≡ 0 → IsInside s block → s.base + 16 * k ≤ a → a < s.base + 16 * k + 16 → has_address a block ≡ has_address (s.base + 16 * k) block
 same_granule s a k block base inside low high = elim (cases_lt a (start_of block)) [
   | inl before ↦ (let there : s.base + 16 * k < start_of block = omega (arith, before, low) in has_address-before a block before ∙ sym (has_address-before (s.base + 16 * k) block there))
@@ -115,7 +115,7 @@ same_granules s a k (block ∷ blocks) base inside low high =
     let rest = same_granules s a k blocks base (All-tail (IsInside s) block blocks inside) low high in
     λ i. here i || rest i
 
--- Words of which each bit says whether its granule lies in a held block are the shadow.
+-- Words of which each bit says whether its granule lies in a block that is due are the shadow.
 pub shadow-from_words : (s : HeapState) (shadow : List Bool) → IsSound s → 16 * length shadow ≡ s.size → ((k : ℕ) → k < length shadow → get_or shadow k false ≡ is_due_at s k) → IsShadow s shadow
 shadow-from_words s shadow sound long each =
     let base : s.base % 16 ≡ 0 = base_whole s sound in

@@ -41,13 +41,13 @@ has_address-outside : (heap : HeapState) (a : ℕ) (block : Span) → IsInside h
 has_address-outside heap a block inside (inl below) = has_address-before a block (omega (arith, below, inside.from))
 has_address-outside heap a block inside (inr above) = has_address-after a block (omega (arith, above, inside.end))
 
--- No address outside the heap lies in a held block.
+-- No address outside the heap lies in a block that is due.
 lies_in-outside : (heap : HeapState) (a : ℕ) → IsSound heap → (a < heap.base) ⊎ (heap.base + heap.size ≤ a) → lies_in (due heap) a ≡ false
 lies_in-outside heap a sound outside =
     list_any_none (has_address a) (due heap)
     (All-weaker (IsInside heap) (λ block. has_address a block ≡ false) (λ block inside. has_address-outside heap a block inside outside) (due heap) (due-inside heap sound))
 
--- So an address lies in a held block exactly where the shadow of the heap is painted there.
+-- So an address lies in a block that is due exactly where the shadow of the heap is painted there.
 pub is_painted-held : (heap : HeapState) (shadow : List Bool) (a : ℕ) → IsSound heap → IsShadow heap shadow → is_painted shadow heap.base a ≡ lies_in (due heap) a
 is_painted-held heap shadow a sound is =
     elim (cases_lt a heap.base) [

@@ -1,4 +1,4 @@
--- A shadow that several workers paint: the held blocks are cut into shares, one a worker.
+-- A shadow that several workers paint: the blocks that are due are cut into shares, one a worker.
 use Rattle.std.specs.Prelude.{◌≡◌, ◌<◌, ◌+◌, ◌*◌, ◌/◌, ℕ, Bool, List, true, false, length, slice_index_or}
 use Rattle.heap_core.specs.Blocks.{lies_in}
 use Rattle.heap_core.specs.Heap.{HeapState, due}
@@ -7,7 +7,7 @@ use Rattle.mark_board.specs.Bits.{has}
 use Rattle.mark_board.specs.Board.{BoardState, IsOf, IsSeat, SeatState, no_bits}
 use Rattle.sweep_pool.specs.declared.painting.Share.{Share}
 
--- The number of the held block with which share i begins, where there are h and so many workers.
+-- The number of the block with which share i begins, where h are due and there are so many workers.
 abbrev pub share_start : ℕ → ℕ → ℕ → ℕ
 share_start h workers i = i * h / workers
 
@@ -15,7 +15,7 @@ share_start h workers i = i * h / workers
 abbrev pub HasGranules : HeapState → BoardState → Type 0
 HasGranules s board = 16 * board.bits ≡ s.size
 
--- Granule k lies in a held block.
+-- Granule k lies in a block that is due.
 abbrev pub is_due_at : HeapState → ℕ → Bool
 is_due_at s k = lies_in (due s) (s.base + 16 * k)
 
@@ -28,8 +28,8 @@ pub record IsBlank (board : BoardState) (workers i : ℕ) (share : Share) : Type
   pub none : share.seat.mine ≡ no_bits board
   pub sound : IsSeat share.seat
 
--- The held blocks from number `first` up to `last` are painted through a seat: it has seen all their granules set,
--- and has set none outside of held blocks.
+-- The blocks that are due, from number `first` up to `last`, are painted through a seat: it has seen all their
+-- granules set, and has set none outside of blocks that are due.
 pub record HasPainted (s : HeapState) (board : BoardState) (first last : ℕ) (seat : SeatState) : Type 0 where
   pub of : IsOf board seat
   pub sound : IsSeat seat

@@ -25,7 +25,7 @@ struct Painting<'a, G> {
     workers: u32,
 }
 
-/// A share of the held blocks, by its number, and the seat through which it is painted.
+/// A share of the blocks that are due, by its number, and the seat through which it is painted.
 #[derive(Drop)]
 pub(crate) struct Share {
     pub(crate) seat: MarkSeat,
@@ -33,7 +33,7 @@ pub(crate) struct Share {
 }
 
 /// The shadow of a heap, painted by the workers of the cutting: a granule is painted exactly where it lies in a
-/// held block. With `h` held blocks and `w` workers, share `i` is the blocks from number `i * h / w` up to, not
+/// block that is due. With `h` such blocks and `w` workers, share `i` is those from number `i * h / w` up to, not
 /// including, `(i + 1) * h / w`, by rising start, and `gate` is told of it once, by the worker that painted it. A
 /// single worker is the calling thread, which copies the row of the held granules (Filardo et al. 2020,
 /// Cornucopia: the shadow bitmap).
@@ -211,7 +211,7 @@ fn joined<G>(painting: &Painting<'_, G>, seats: Vec<MarkSeat>) -> MarkSeat
     whole
 }
 
-// The shadow, once all held blocks are painted.
+// The shadow, once all blocks that are due are painted.
 fn finished(alloc: Global, heap: &Heap, board: Board, seat: MarkSeat) -> Result<Shadow, SweepFault>
     requires painted { HasPainted heap.now board 0 (length (due heap.now)) seat }
     requires parts { seat.parts ≡ board.parts }

@@ -21,7 +21,7 @@ use std::thread::Threads;
 use tag_memory::Memory;
 
 /// The masks of a whole memory, four words a page: a bit is 1 exactly where its granule is tagged and
-/// the base of its word lies in a painted granule, which for a heap's shadow is in a held block. The
+/// the base of its word lies in a painted granule, which for a heap's shadow is in a block that is due. The
 /// tasks are claimed by as many workers as the cutting has, but no more than there are tasks, each on a
 /// thread of its own where one can be started; the first worker to claim a task sweeps it. A single
 /// worker is the calling thread, which sweeps task after task. `gate` is told of each task once, by the

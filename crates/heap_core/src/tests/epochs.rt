@@ -1,7 +1,8 @@
 //! Epochs of revocation: what is painted, what waits, and what is free at their end.
 
-use crate::tests::{BASE, blocks_lie, granules_are_painted};
+use crate::tests::{BASE, blocks_lie, granules_are_painted, held_heap};
 use crate::{Freed, Heap};
+use mark_board::Board;
 use std::alloc::Global;
 use std::process::Abort;
 
@@ -86,4 +87,21 @@ fn late_blocks_of_two_words_are_due_at_the_end(rt: HostRuntime) {
         let is_late = granule < 70 && granule % 2 == 1;
         assert_eq!(rt; shadow.painted(granule), is_late, "granule {granule}");
     }
+}
+
+#[test]
+fn painted_blocks_alone_are_painted_on_a_board(rt: HostRuntime) {
+    let mut heap = held_heap(&rt, rt.alloc());
+    assert!(rt; !heap.is_open());
+    heap.begin_epoch();
+    assert_eq!(rt; heap.release(0x4000_0280, 0x4000_02a0), Ok(Freed::Held));
+    assert_eq!(rt; heap.held_blocks(), 3);
+    assert_eq!(rt; heap.granules(), 256);
+    let (board, mut seat) = Board::new(rt.alloc(), 256, 1).expect(&rt, "a board");
+    heap.paint(&board, &mut seat, 0, 3);
+    let words = board.finish(rt.alloc(), seat).expect(&rt, "memory");
+    assert_eq!(rt;
+        words.as_slice(),
+        [u64::MAX ^ (3 << 40), (1 << 43) - 1, 0, 0].as_slice()
+    );
 }
