@@ -5,7 +5,7 @@ use Rattle.std.proofs.lemmas.List.{set-get_or}
 use Rattle.heap_core.specs.Blocks.{blocks_with, bytes_in}
 use Rattle.heap_core.specs.Consistent.{AreLate, either_mark, heap_state}
 use Rattle.heap_core.specs.Heap.{held_bytes}
-use Rattle.heap_core.specs.Quarantine.{with_epoch, with_waiting, without_epoch, without_waiting}
+use Rattle.heap_core.specs.Quarantine.{with_epoch, with_waiting, without_due, without_epoch}
 use Rattle.heap_core.specs.Table.{IsBlockAt, IsGap, IsTable, blocks_of, is_held, is_live, kept_lengths}
 use Rattle.heap_core.proofs.KeptLaws.{held_blocks-kept, length-kept_lengths}
 use Rattle.heap_core.proofs.LateLaws.{bytes_in-either, either-none_left, either-none_right, either-set_left, either-set_none, either-set_right, late_blocks-dropped, length-either, live_blocks-dropped, no_held, none_in_gap}
@@ -86,15 +86,24 @@ pub heap_state-begun : (base : ℕ) (lengths : List ℕ) (marks lates : List Boo
 heap_state-begun base lengths marks lates true closed are = absurd (true≢false closed)
 heap_state-begun base lengths marks lates false closed are = rw (no_held base 0 lengths lates (are.closed refl)) refl
 
--- Without an epoch the blocks that wait are dropped.
-pub heap_state-dropped : (base : ℕ) (lengths : List ℕ) (marks lates : List Bool) (is_open : Bool) → is_open ≡ false → length marks ≡ length lengths → AreLate lengths marks lates is_open
-    → heap_state base (kept_lengths is_live lengths marks) (replicate (length lengths) false) lates is_open ≡ without_waiting (heap_state base lengths marks lates is_open)
-heap_state-dropped base lengths marks lates true closed same are = absurd (true≢false closed)
-heap_state-dropped base lengths marks lates false closed same are =
+-- Where no block is late, those that are due are dropped, and no epoch is open then.
+pub heap_state-dropped : (base : ℕ) (lengths : List ℕ) (marks lates : List Bool) (is_open : Bool) → length marks ≡ length lengths → length lates ≡ length lengths
+    → ((k : ℕ) → get_or lates k false ≡ false)
+    → heap_state base (kept_lengths is_live lengths marks) (replicate (length lengths) false) lates false ≡ without_due (heap_state base lengths marks lates is_open)
+unfolding without_due
+heap_state-dropped base lengths marks lates true same also none =
     rw (
       length-kept_lengths is_live lengths marks same,
-      either-none_left (length lengths) lates are.same,
-      live_blocks-dropped base 0 lengths marks lates same are.same,
+      either-none_left (length lengths) lates also,
+      live_blocks-dropped base 0 lengths marks lates same also,
+      held_blocks-kept base 0 lengths marks same,
+      no_held base 0 lengths lates none,
+    ) refl
+heap_state-dropped base lengths marks lates false same also none =
+    rw (
+      length-kept_lengths is_live lengths marks same,
+      either-none_left (length lengths) lates also,
+      live_blocks-dropped base 0 lengths marks lates same also,
       held_blocks-kept base 0 lengths marks same,
     ) refl
 

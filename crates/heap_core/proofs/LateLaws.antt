@@ -1,11 +1,11 @@
 -- Marks of two kinds over one table: of the blocks that are due, and of the late ones.
-use Rattle.std.proofs.Common.{◌≡◌, ◌≢◌, ◌<◌, ◌≤◌, ◌+◌, ◌*◌, ◌/◌, ◌%◌, ◌||◌, inl, inr, not, ℕ, zero, suc, Bool, true, false, List, [], ◌∷◌, length, get_or, set, length-set, replicate, refl, sym, ap, ◌∙◌, subst, arith}
+use Rattle.std.proofs.Common.{◌&&◌, ◌≡◌, ◌≢◌, ◌<◌, ◌≤◌, ◌+◌, ◌*◌, ◌/◌, ◌%◌, ◌||◌, inl, inr, nat_lt, not, ℕ, zero, suc, Bool, true, false, List, [], ◌∷◌, length, get_or, set, length-set, replicate, refl, sym, ap, ◌∙◌, subst, arith}
 use Rattle.std.proofs.lemmas.Bool.{cases_Bool, cases_eq, cases_lt, le-ltb, lt-ltb, true≢false}
 use Rattle.std.proofs.lemmas.Bool.Decides.{nat_tests}
 use Rattle.std.proofs.lemmas.List.{ext_get_or, get_or-set_other, get_or-set_same, get_or_past}
 use Rattle.granule_rows.specs.Runs.{is_within}
 use Rattle.heap_core.specs.Blocks.{Span, bytes_in}
-use Rattle.heap_core.specs.Consistent.{AreLate, either_mark}
+use Rattle.heap_core.specs.Consistent.{AreLate, either_mark, heap_state}
 use Rattle.heap_core.specs.Shadow.{bits_of}
 use Rattle.heap_core.specs.Table.{IsGap, blocks_of, is_held, is_live, kept_lengths}
 use Rattle.heap_core.proofs.KeptLaws.{get_or-kept}
@@ -80,6 +80,24 @@ no_held base i (n ∷ lengths) [] none = refl
 no_held base i (n ∷ lengths) (mark ∷ marks) none =
     let here : mark ≡ false = none 0 in
     rw (here, no_held base (i + 1) lengths marks (λ k. none (suc k))) (grind arith)
+
+-- And no mark stands where the blocks with one have no bytes.
+pub no_bytes : (base i : ℕ) (lengths : List ℕ) (marks : List Bool) → length marks ≡ length lengths → ((k : ℕ) → get_or marks k false ≡ true → 0 < get_or lengths k 0)
+    → bytes_in (blocks_of is_held base i lengths marks) ≡ 0 → (k : ℕ) → get_or marks k false ≡ false
+no_bytes base i [] [] same some none k = refl
+no_bytes base i [] (mark ∷ marks) same some none k = absurd (omega arith)
+no_bytes base i (n ∷ lengths) [] same some none k = absurd (omega arith)
+no_bytes base i (n ∷ lengths) (true ∷ marks) same some none k =
+    let here : 0 < n = some 0 refl in
+    let bytes = none in
+    absurd (omega (arith, here, rw (lt-ltb 0 n here) at bytes, bytes_in-cons (base + 16 * i, 16 * n) (blocks_of is_held base (i + 1) lengths marks)))
+no_bytes base i (n ∷ lengths) (false ∷ marks) same some none zero = refl
+no_bytes base i (n ∷ lengths) (false ∷ marks) same some none (suc k) =
+    let bytes = none in
+    no_bytes base (i + 1) lengths marks (omega arith) (λ j. some (suc j)) (rw (and_false (nat_lt 0 n)) at bytes) k where
+      and_false : (a : Bool) → (a && false) ≡ false
+      and_false true = refl
+      and_false false = refl
 
 -- The blocks with either mark are those with the one and those with the other.
 pub bytes_in-either : (base i : ℕ) (lengths : List ℕ) (marks lates : List Bool) → length marks ≡ length lengths → length lates ≡ length lengths
@@ -177,6 +195,20 @@ AreLate-none lengths marks lates is_open same none = record {
   apart = λ k is. absurd (true≢false (sym is ∙ none k));
   closed = λ _ k. none k;
 }
+
+-- No block is late where an epoch is open and the late ones have no bytes, and where none is open.
+pub none_late : (base : ℕ) (lengths : List ℕ) (marks lates : List Bool) (is_open : Bool) → AreLate lengths marks lates is_open
+    → (is_open ≡ true → bytes_in (heap_state base lengths marks lates is_open).waiting ≡ 0) → (k : ℕ) → get_or lates k false ≡ false
+none_late base lengths marks lates true are none = no_bytes base 0 lengths lates are.same are.some (none refl)
+none_late base lengths marks lates false are none = are.closed refl
+
+-- An epoch is open where a block is late.
+pub is_open-late : (base : ℕ) (lengths : List ℕ) (marks lates : List Bool) (is_open : Bool) (late : ℕ) → AreLate lengths marks lates is_open
+    → 16 * late ≡ bytes_in (blocks_of is_held base 0 lengths lates) → late ≢ 0 → is_open ≡ true
+is_open-late base lengths marks lates true late are bytes some = refl
+is_open-late base lengths marks lates false late are bytes some =
+    let none : bytes_in (blocks_of is_held base 0 lengths lates) ≡ 0 = ap bytes_in (no_held base 0 lengths lates (are.closed refl)) in
+    absurd (some (omega (arith, bytes, none)))
 
 -- No late block starts in a gap.
 pub none_in_gap : (lengths : List ℕ) (marks lates : List Bool) (is_open : Bool) (p n : ℕ) → AreLate lengths marks lates is_open → IsGap lengths p n → get_or lates p false ≡ false

@@ -5,12 +5,12 @@ use Rattle.std.proofs.lemmas.Bool.{cases_Bool, ltb-true, true≢false}
 use Rattle.std.proofs.lemmas.Bool.Decides.{nat_tests}
 use Rattle.std.proofs.lemmas.List.Elements.{All-cons, All-contains, All-filter, All-head, All-nil, All-tail, All-weaker}
 use Rattle.std.proofs.lemmas.List.Kept.{AllPairs-cons, AllPairs-filter}
-use Rattle.std.specs.Prelude.{All, AllPairs, max}
+use Rattle.std.specs.Prelude.{All, AllPairs, false, if◌then◌else◌, max}
 use Rattle.heap_core.specs.Blocks.{IsApart, IsBefore, Span, blocks_with, blocks_without, has_bounds, is_block, length_of, start_of}
 use Rattle.heap_core.specs.Heap.{HeapState, IsInside, IsSound}
 use Rattle.heap_core.specs.Laws.{Contains-block, has_bounds-is}
 use Rattle.heap_core.specs.Place.{IsFree, block_length, granule_size, with_live}
-use Rattle.heap_core.specs.Quarantine.{with_epoch, with_waiting, without_epoch, without_waiting}
+use Rattle.heap_core.specs.Quarantine.{with_epoch, with_waiting, without_due, without_epoch, without_waiting}
 use Rattle.heap_core.proofs.SizeLaws.{le-length_for, length_for_granules}
 
 -- ---- lists of blocks
@@ -210,3 +210,11 @@ IsSound-ended s sound =
       apart_held = All-weaker (λ b. All (IsApart b) s.painted) (λ b. All (IsApart b) []) (λ b _. All-nil (IsApart b)) s.waiting sound.apart_held;
       closed = λ _. refl;
     }
+
+-- In either case.
+pub IsSound-due : (s : HeapState) → IsSound s → IsSound (without_due s)
+unfolding without_due
+IsSound-due s sound = either (without_epoch s) (without_waiting s) s.is_open (IsSound-ended s sound) (IsSound-free s sound) where
+  either : (x y : HeapState) (b : Bool) → IsSound x → IsSound y → IsSound (if b then x else y)
+  either x y true p q = p
+  either x y false p q = q

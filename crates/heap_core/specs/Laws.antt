@@ -1,12 +1,13 @@
 -- What the crates above need of blocks: what a test of an address and one of bounds say, of one block and
--- of a list; and which blocks are due.
-use Rattle.std.proofs.Common.{◌≡◌, ◌<◌, ◌≤◌, ◌-◌, ◌==◌, ℕ, true, false, List, subst, arith}
+-- of a list; which blocks are due, and where they lie.
+use Rattle.std.proofs.Common.{◌≡◌, ◌⊎◌, ◌<◌, ◌≤◌, ◌+◌, ◌-◌, ◌==◌, ℕ, inl, inr, true, false, List, subst, arith}
 use Rattle.std.specs.List.{Contains}
 use Rattle.std.proofs.lemmas.Bool.{and_parts, eqb-true}
 use Rattle.std.proofs.lemmas.Bool.Decides.{nat_tests}
-use Rattle.std.proofs.lemmas.List.Folds.{Any-from_list_any}
+use Rattle.std.proofs.lemmas.List.Elements.{All-weaker}
+use Rattle.std.proofs.lemmas.List.Folds.{Any-from_list_any, list_any_none}
 use Rattle.std.specs.Prelude.{All, Bool, refl, if◌then◌else◌}
-use Rattle.heap_core.specs.Blocks.{Span, end_of, has_address, has_bounds, is_block, start_of}
+use Rattle.heap_core.specs.Blocks.{Span, end_of, has_address, has_bounds, is_block, lies_in, start_of}
 use Rattle.heap_core.specs.Heap.{HeapState, IsInside, IsSound, due}
 use Rattle.heap_core.specs.Quarantine.{without_due, without_epoch, without_waiting}
 
@@ -64,3 +65,13 @@ due-inside s sound = either (All (IsInside s)) s.is_open sound.painted_inside so
   either : (P : List Span → Type 0) (b : Bool) → P s.painted → P s.waiting → P (if b then s.painted else s.waiting)
   either P true p q = p
   either P false p q = q
+
+has_address-outside : (s : HeapState) (a : ℕ) (block : Span) → IsInside s block → (a < s.base) ⊎ (s.base + s.size ≤ a) → has_address a block ≡ false
+has_address-outside s a block inside (inl below) = has_address-before a block (omega (arith, below, inside.from))
+has_address-outside s a block inside (inr above) = has_address-after a block (omega (arith, above, inside.end))
+
+-- So no address outside the heap lies in one of them.
+pub lies_in-outside : (s : HeapState) (a : ℕ) → IsSound s → (a < s.base) ⊎ (s.base + s.size ≤ a) → lies_in (due s) a ≡ false
+lies_in-outside s a sound outside =
+    list_any_none (has_address a) (due s)
+    (All-weaker (IsInside s) (λ block. has_address a block ≡ false) (λ block inside. has_address-outside s a block inside outside) (due s) (due-inside s sound))

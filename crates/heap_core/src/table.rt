@@ -123,6 +123,14 @@ impl Table {
         row_bit(&self.rows.starts, granule) && row_bit(&self.rows.held, granule)
     }
 
+    /// Whether a granule lies in a held block.
+    pub fn is_in_held(&self, granule: usize) -> bool
+        requires { granule < length self.now.lengths }
+        ensures { result ≡ is_taken granule (kept_lengths is_held self.now.lengths self.now.marks) }
+    {
+        row_bit(&self.rows.held, granule)
+    }
+
     /// Makes the live block that starts at a granule held.
     pub fn hold(&mut self, granule: usize)
         requires inside { granule < length self.old.lengths }

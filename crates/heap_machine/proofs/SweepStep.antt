@@ -1,10 +1,10 @@
 -- What is left once the tags of a sweep's masks are taken.
-use Rattle.std.proofs.Common.{◌≡◌, ◌∙◌, ◌<◌, ◌≤◌, ◌+◌, ◌^◌, ℕ, List, false, length, get_or, sym, arith}
+use Rattle.std.proofs.Common.{◌≡◌, ◌∙◌, ◌<◌, ◌≤◌, ◌+◌, ◌/◌, ◌^◌, ℕ, List, false, inl, inr, length, get_or, refl, sym, arith}
 use Rattle.std.specs.Prelude.{count_ones, nat_le, sum_by}
-use Rattle.std.proofs.lemmas.Bool.{and_parts, leb-true}
+use Rattle.std.proofs.lemmas.Bool.{and_parts, cases_Bool, leb-true, true≢false}
 use Rattle.heap_core.specs.Blocks.{Span}
-use Rattle.sweep_pool.specs.Sweep.{takes_tag}
-use Rattle.tag_memory.specs.Cells.{Cell, Granule, MemoryState, cell_of, null_cell}
+use Rattle.sweep_pool.specs.Sweep.{AreInDirtyPages, takes_tag}
+use Rattle.tag_memory.specs.Cells.{Cell, Granule, MemoryState, cell_of, is_dirty_at, null_cell, register_at}
 use Rattle.tag_memory.specs.Tags.{is_set, without_tags}
 use Rattle.heap_machine.specs.Revoked.{AreRevoked, AreTaken}
 use Rattle.heap_machine.specs.Sound.{IsMachine}
@@ -12,7 +12,7 @@ use Rattle.heap_machine.specs.State.{State}
 use Rattle.heap_machine.specs.declared.parts.revocation.RevokedTags.{RevokedTags}
 use Rattle.heap_machine.proofs.ClearedRegisters.{registers-swept, without_tag_if}
 use Rattle.heap_machine.proofs.CountLaws.{ones-masks, ones-registers}
-use Rattle.heap_machine.proofs.SweptState.{without_tags-swept}
+use Rattle.heap_machine.proofs.SweptState.{granules_taken-untouched, swept_granules-untouched, without_tags-swept}
 
 pub AreTaken-masks : (held : List Span) (old new : MemoryState) (registers left : List Cell) (tags : RevokedTags) (cleared : ℕ)
     → AreRevoked held old registers tags → new.base ≡ old.base → new.dirty ≡ old.dirty → new.cells ≡ without_tags tags.masks.items old.cells
@@ -30,6 +30,30 @@ AreTaken-masks held old new registers left tags cleared revoked same still cells
       cells = cells_are ∙ without_tags-swept held old tags.masks.items revoked.granules;
       registers_are = registers-swept held registers left tags.registers revoked.count revoked.zero revoked.bits long (zero ∙ sym revoked.zero) (λ r some lt. each r lt);
       cleared_is = told ∙ (λ k. of_memory k + of_registers k);
+    }
+
+-- With no dirty page, and the words that lose their tags in dirty pages alone, only registers lose theirs.
+pub AreTaken-clean : (held : List Span) (memory : MemoryState) (registers left : List Cell) (mask : ℕ)
+    → AreInDirtyPages memory.cells memory.dirty held → ((page : ℕ) → is_dirty_at memory.dirty page ≡ false)
+    → length registers ≡ 32 → get_or registers 0 null_cell ≡ null_cell → ((r : ℕ) → r < 32 → is_set mask r ≡ takes_tag held (register_at registers r))
+    → length left ≡ 32 → get_or left 0 null_cell ≡ null_cell
+    → ((r : ℕ) → r < 32 → get_or left r null_cell ≡ without_tag_if (is_set mask r) (get_or registers r null_cell))
+    → mask < 2 ^ 32
+    → AreTaken held memory registers memory left (count_ones mask)
+AreTaken-clean held memory registers left mask stand clean count null bits long zero each below =
+    let untouched : (i : ℕ) → takes_tag held (cell_of (get_or memory.cells i (0, false))) ≡ false =
+    λ i. elim (cases_Bool (takes_tag held (cell_of (get_or memory.cells i (0, false))))) [
+      | inl is ↦ absurd (true≢false (sym (stand i is) ∙ clean (i / 256)))
+      | inr none ↦ none
+    ] in
+    let of_memory = granules_taken-untouched held memory.cells untouched in
+    let of_registers = ones-registers held registers mask count null below bits in
+    record {
+      base = refl;
+      cells = sym (swept_granules-untouched held memory.cells untouched);
+      dirty = refl;
+      registers_are = registers-swept held registers left mask count null bits long (zero ∙ sym null) (λ r some lt. each r lt);
+      cleared_is = omega (arith, of_memory, of_registers);
     }
 
 -- There are few granules.

@@ -1,6 +1,6 @@
 -- The state after a sweep: each tagged word whose base lies in a held block has lost its tag.
-use Rattle.std.proofs.Common.{◌≡◌, ◌∙◌, ◌<◌, ◌+◌, ◌&&◌, ℕ, Bool, true, false, cond, not, inl, inr, All, List, [], ◌∷◌, length, get_or, drop, refl, sym, ap, subst, arith}
-use Rattle.std.proofs.Math.Bool.{and-true}
+use Rattle.std.proofs.Common.{◌≡◌, ◌∙◌, ◌<◌, ◌+◌, ◌&&◌, ℕ, suc, Bool, true, false, cond, not, inl, inr, All, List, [], ◌∷◌, length, get_or, drop, refl, sym, ap, subst, arith}
+use Rattle.std.proofs.Math.Bool.{and-false, and-true}
 use Rattle.std.specs.Prelude.{count_by}
 use Rattle.std.specs.List.{Contains, enumerate_from}
 use Rattle.std.proofs.lemmas.Bool.{and_parts, not-true, true≢false}
@@ -14,7 +14,7 @@ use Rattle.heap_core.specs.Blocks.{Span, bytes_in, has_address, length_of}
 use Rattle.heap_core.specs.Laws.{has_address-within}
 use Rattle.heap_core.specs.Heap.{HeapState, IsInside, IsSound as IsSoundHeap, held_bytes}
 use Rattle.heap_core.specs.Quarantine.{with_epoch, without_epoch, without_waiting}
-use Rattle.sweep_pool.specs.Sweep.{TakeTags, is_revoked, swept_cell, swept_cells, swept_granule, swept_granules, tags_taken}
+use Rattle.sweep_pool.specs.Sweep.{TakeTags, is_revoked, swept_cell, swept_cells, swept_granule, swept_granules, tags_taken, takes_tag}
 use Rattle.tag_memory.specs.Cells.{Cell, Granule, MemoryState, cell_of}
 use Rattle.tag_memory.specs.Tags.{is_set_for, without_tags}
 use Rattle.heap_machine.specs.Safety.{HoldsGuarded, IsGuarded, IsLiveOrHeld, IsSafe, LieIn}
@@ -190,7 +190,7 @@ IsSafe-ended s safe sound =
       cells = All-map (HoldsGuarded heap) (swept_granule held) s.cells (All-weaker (HoldsGuarded s.heap) (λ granule. HoldsGuarded heap (swept_granule held granule)) (λ granule. IsGuarded-ended s.heap (cell_of granule)) s.cells safe.cells);
     }
 
--- ---- where no block waits
+-- ---- where no block waits, and where no word is taken
 
 no_spans : (heap : HeapState) (blocks : List Span) → All (IsInside heap) blocks → bytes_in blocks ≡ 0 → blocks ≡ []
 no_spans heap [] inside none = refl
@@ -202,9 +202,25 @@ no_spans heap (b ∷ blocks) inside none =
 pub no_blocks : (heap : HeapState) → IsSoundHeap heap → held_bytes heap ≡ 0 → heap.waiting ≡ []
 no_blocks heap sound none = no_spans heap heap.waiting sound.waiting_inside (omega (arith, none))
 
+-- Where none of its words loses its tag, memory stays as it is.
+pub swept_granules-untouched : (held : List Span) (granules : List Granule) → ((i : ℕ) → takes_tag held (cell_of (get_or granules i (0, false))) ≡ false)
+    → swept_granules held granules ≡ granules
+swept_granules-untouched held [] untouched = refl
+swept_granules-untouched held (g ∷ granules) untouched =
+    λ i. (g.0, kept g.1 (is_revoked held (cell_of g).0) (untouched 0) i) ∷ swept_granules-untouched held granules (λ k. untouched (suc k)) i where
+      kept : (t r : Bool) → (t && r) ≡ false → (t && not r) ≡ t
+      kept true true none = absurd (true≢false none)
+      kept true false none = refl
+      kept false r none = refl
+
+-- And no tag of it is counted.
+pub granules_taken-untouched : (held : List Span) (granules : List Granule) → ((i : ℕ) → takes_tag held (cell_of (get_or granules i (0, false))) ≡ false)
+    → count_by (λ (g : Granule). takes_tag held (cell_of g)) granules ≡ 0
+granules_taken-untouched held granules untouched =
+    omega (arith, count-swept_granules held granules, ap (count_by (λ (g : Granule). g.1)) (swept_granules-untouched held granules untouched))
+
 swept_granules-none : (granules : List Granule) → swept_granules [] granules ≡ granules
-swept_granules-none [] = refl
-swept_granules-none (g ∷ granules) = λ i. (g.0, and-true g.1 i) ∷ swept_granules-none granules i
+swept_granules-none granules = swept_granules-untouched [] granules (λ i. and-false (get_or granules i (0, false)).1)
 
 swept_cells-none : (registers : List Cell) → swept_cells [] registers ≡ registers
 swept_cells-none [] = refl

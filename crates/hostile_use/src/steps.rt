@@ -20,7 +20,7 @@ pub struct Seen {
 }
 
 impl Seen {
-    pub fn of(machine: &Machine) -> Seen {
+    pub(crate) fn of(machine: &Machine) -> Seen {
         let mut registers = [(Word::NULL, false); 32];
         for r in 0..REGISTERS {
             registers[r as usize] = machine.registers().get(r);

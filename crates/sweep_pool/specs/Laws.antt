@@ -5,17 +5,15 @@ use Rattle.std.proofs.Math.Decide.{dec_lt}
 use Rattle.std.proofs.lemmas.Bool.{cases_lt, le-leb, lt-leb}
 use Rattle.std.proofs.lemmas.Bool.Decides.{nat_tests}
 use Rattle.std.proofs.lemmas.List.{ext_get_or, get_or_past}
-use Rattle.std.proofs.lemmas.List.Elements.{All-weaker}
-use Rattle.std.proofs.lemmas.List.Folds.{list_any_none}
 use Rattle.std.proofs.lemmas.Nat.{mul-le}
 use Rattle.std.proofs.lemmas.Nat.Bits.{bit_at-lt, same_from_bits_below}
 use Rattle.std.specs.Int.{bit_at}
 use Rattle.tag_memory.specs.Laws.{is_set_for-at}
 use mathlib.Core.Logic.{dite}
 use Rattle.cap_codec.specs.Words.{base_of}
-use Rattle.heap_core.specs.Blocks.{Span, has_address, lies_in}
-use Rattle.heap_core.specs.Laws.{due-inside, has_address-after, has_address-before}
-use Rattle.heap_core.specs.Heap.{HeapState, IsInside, IsSound, due}
+use Rattle.heap_core.specs.Blocks.{lies_in}
+use Rattle.heap_core.specs.Laws.{lies_in-outside}
+use Rattle.heap_core.specs.Heap.{HeapState, IsSound, due}
 use Rattle.heap_core.specs.Quarantine.{IsShadow}
 use Rattle.sweep_pool.specs.Sweep.{AreBits, AreDirtyMasks, AreInDirtyPages, AreMasks, ArePageMasks, IsShadowOf, TakePageTags, TakeTags, is_hit, is_hit_at, is_painted, takes_tag}
 use Rattle.sweep_pool.specs.Tasks.{Cut, IsTask, IsTaskCount}
@@ -37,17 +35,7 @@ below_of-IsTask c pages n k count is = dite (dec_lt k n)
 
 -- ---- the shadow of a heap
 
-has_address-outside : (heap : HeapState) (a : ℕ) (block : Span) → IsInside heap block → (a < heap.base) ⊎ (heap.base + heap.size ≤ a) → has_address a block ≡ false
-has_address-outside heap a block inside (inl below) = has_address-before a block (omega (arith, below, inside.from))
-has_address-outside heap a block inside (inr above) = has_address-after a block (omega (arith, above, inside.end))
-
--- No address outside the heap lies in a block that is due.
-lies_in-outside : (heap : HeapState) (a : ℕ) → IsSound heap → (a < heap.base) ⊎ (heap.base + heap.size ≤ a) → lies_in (due heap) a ≡ false
-lies_in-outside heap a sound outside =
-    list_any_none (has_address a) (due heap)
-    (All-weaker (IsInside heap) (λ block. has_address a block ≡ false) (λ block inside. has_address-outside heap a block inside outside) (due heap) (due-inside heap sound))
-
--- So an address lies in a block that is due exactly where the shadow of the heap is painted there.
+-- An address lies in a block that is due exactly where the shadow of the heap is painted there.
 pub is_painted-held : (heap : HeapState) (shadow : List Bool) (a : ℕ) → IsSound heap → IsShadow heap shadow → is_painted shadow heap.base a ≡ lies_in (due heap) a
 is_painted-held heap shadow a sound is =
     elim (cases_lt a heap.base) [

@@ -22,5 +22,5 @@ pub use crate::gate::{Gate, Open};
 pub use crate::gathering::{GatherFault, gather};
 pub use crate::painting::paint_shadow;
 pub use crate::pool::sweep_masks;
-pub use crate::sweep::{SweepFault, swept_registers};
+pub use crate::sweep::{SweepFault, due_registers, swept_registers};
 pub use crate::task::{Swept, sweep_task};

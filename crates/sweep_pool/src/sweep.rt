@@ -9,7 +9,7 @@ ghost use Rattle.tag_memory.specs.Cells.{register_at, register_count};
 ghost use Rattle.tag_memory.specs.Tags.{is_set, is_tagged};
 
 use cap_codec::{Word, bounds};
-use heap_core::Shadow;
+use heap_core::{Heap, Shadow};
 use std::alloc::AllocError;
 use tag_memory::{GRANULE, Memory, REGISTERS, Registers, WORD_GRANULES, with_bit};
 use thiserror::Error;
@@ -111,6 +111,32 @@ pub fn swept_registers(registers: &Registers, shadow: &Shadow, base: u64) -> u32
     let mut mask = 0;
     for r in 0..REGISTERS {
         if is_register_hit(registers, shadow, base, r) {
+            mask |= 1 << r;
+        }
+    }
+    mask
+}
+
+// Whether a register is tagged, and the base of its word lies in a block that is due.
+fn is_register_due(registers: &Registers, heap: &Heap, r: u8) -> bool
+    requires { r < register_count }
+    ensures { result ≡ takes_tag (due heap.now) (register_at registers.now r) }
+{
+    let (word, tag) = registers.get(r);
+    if !tag {
+        return false;
+    }
+    heap.is_due(bounds(word).base)
+}
+
+/// Bit `r` is 1 exactly where register `r` is tagged and the base of its word lies in a block of the heap that is due:
+/// what `swept_registers` tells by the heap's shadow, without making one.
+pub fn due_registers(registers: &Registers, heap: &Heap) -> u32
+    ensures { (r : ℕ) → r < register_count → is_set result r ≡ takes_tag (due heap.now) (register_at registers.now r) }
+{
+    let mut mask = 0;
+    for r in 0..REGISTERS {
+        if is_register_due(registers, heap, r) {
             mask |= 1 << r;
         }
     }

@@ -174,6 +174,13 @@ impl Memory {
         self.dirty[page as usize]
     }
 
+    /// Whether some page is dirty.
+    pub fn has_dirty(&self) -> bool
+        ensures { (result ≡ false) ↔ ((page : ℕ) → is_dirty_at self.now.dirty page ≡ false) }
+    {
+        self.dirty.contains(&true)
+    }
+
     /// The tags of granules `64 * w` to `64 * w + 63`, the first in bit 0.
     pub fn tag_word(&self, w: usize) -> u64
         requires { 64 * w < length self.now.cells }

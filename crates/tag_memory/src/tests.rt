@@ -69,6 +69,7 @@ fn pages_that_may_hold_tags_are_told_apart(rt: HostRuntime) {
 #[test]
 fn a_page_is_dirty_once_a_tagged_word_was_written(rt: HostRuntime) {
     let mut memory = Memory::new(rt.alloc(), 0, 3).expect(&rt, "there is memory");
+    assert!(rt; !memory.has_dirty());
     memory.put(256, 1, true);
     memory.put(512, 1, false);
     let dirty = [memory.dirty(0), memory.dirty(1), memory.dirty(2)];
@@ -76,8 +77,10 @@ fn a_page_is_dirty_once_a_tagged_word_was_written(rt: HostRuntime) {
     memory.put(256, 1, false);
     memory.clear_tags(&[0; 12]);
     assert!(rt; memory.dirty(1));
+    assert!(rt; memory.has_dirty());
     memory.mark_clean();
     assert!(rt; !memory.dirty(1));
+    assert!(rt; !memory.has_dirty());
 }
 
 #[test]

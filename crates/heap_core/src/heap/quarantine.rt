@@ -2,7 +2,7 @@
 
 ghost use Rattle.std.specs.Prelude.{◌≡◌, ◌↔◌, ◌+◌, ℕ, IfErr, IfOk, IfSome, IsOk, None, [], false, true};
 ghost use Rattle.cap_codec.specs.Rounding.{IsExact};
-ghost use Rattle.heap_core.specs.Blocks.{bytes_in};
+ghost use Rattle.heap_core.specs.Blocks.{bytes_in, lies_in};
 ghost use Rattle.heap_core.specs.Heap.{IsSound, due};
 ghost use Rattle.heap_core.specs.Place.{IsFree, IsPlace, block_length, with_live};
 ghost use Rattle.heap_core.specs.Quarantine.{IsShadow, freed_of, with_epoch, with_waiting, without_due, without_epoch, without_waiting};
@@ -56,6 +56,20 @@ impl Heap {
         self.is_open = true;
     }
 
+    /// Whether an address lies in a block that is due now.
+    pub fn is_due(&self, address: u64) -> bool
+        ensures { result ≡ lies_in (due self.now) address }
+    {
+        if address < self.base {
+            return false;
+        }
+        let granule = ((address - self.base) / GRANULE) as usize;
+        if granule >= self.table.granules() {
+            return false;
+        }
+        self.table.is_in_held(granule)
+    }
+
     /// Which granules lie in blocks that are due now.
     pub fn shadow(&self, alloc: Global) -> Result<Shadow, HeapFault>
         ensures memory { IfErr result (λ fault. fault ≡ HeapFault.Memory) }
@@ -89,12 +103,22 @@ impl Heap {
         ensures sound { IsSound self.new }
     {
         let bytes = GRANULE * u64::from(self.held_granules);
-        if self.is_open {
-            self.end_epoch();
+        if self.late_granules == 0 {
+            self.drop_due();
         } else {
-            self.drop_waiting();
+            self.end_epoch();
         }
         bytes
+    }
+
+    // Makes the blocks that are due free, where no other block is held. No epoch is open then.
+    fn drop_due(&mut self)
+        requires { self.old.is_open ≡ true → bytes_in self.old.waiting ≡ 0 }
+        ensures { self.new ≡ without_due self.old }
+    {
+        self.table.drop_held();
+        self.held_granules = 0;
+        self.is_open = false;
     }
 
     // Makes the painted blocks free and ends the epoch: the late blocks are due then.
@@ -108,15 +132,6 @@ impl Heap {
         self.held_granules = self.late_granules;
         self.late_granules = 0;
         self.is_open = false;
-    }
-
-    // Makes the blocks that wait free.
-    fn drop_waiting(&mut self)
-        requires { self.old.is_open ≡ false }
-        ensures { self.new ≡ without_waiting self.old }
-    {
-        self.table.drop_held();
-        self.held_granules = 0;
     }
 
     /// Makes the blocks that wait free, and then a block of `size` bytes live, at the least place for it. It
@@ -137,7 +152,7 @@ impl Heap {
         ensures sound { IsSound self.new }
     {
         let waiting = GRANULE * u64::from(self.held_granules);
-        self.drop_waiting();
+        self.drop_due();
         let found = self.reserve(size)?;
         Ok((found, waiting))
     }

@@ -30,6 +30,25 @@ fn an_epoch_paints_what_waits(rt: HostRuntime) {
 }
 
 #[test]
+fn addresses_of_painted_blocks_are_due(rt: HostRuntime) {
+    let mut heap = heap_in_an_epoch(&rt, rt.alloc());
+    assert_eq!(rt; heap.release(0x4000_0020, 0x4000_0040), Ok(Freed::Held));
+    let cases = [
+        (0x3fff_ffff, false),
+        (0x4000_0000, true),
+        (0x4000_001f, true),
+        (0x4000_0020, false),
+        (0x4000_1000, false),
+    ];
+    for (address, is_due) in cases {
+        assert_eq!(rt; heap.is_due(address), is_due, "at {address:x}");
+    }
+    heap.give_back();
+    assert!(rt; !heap.is_due(0x4000_0000));
+    assert!(rt; heap.is_due(0x4000_0020));
+}
+
+#[test]
 fn a_block_given_up_in_an_epoch_waits(rt: HostRuntime) {
     let mut heap = heap_in_an_epoch(&rt, rt.alloc());
     assert_eq!(rt; heap.release(0x4000_0020, 0x4000_0040), Ok(Freed::Held));

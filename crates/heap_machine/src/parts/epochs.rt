@@ -1,7 +1,8 @@
 //! Epochs of revocation: what begins one sweeps memory alone, and what ends it looks at registers and dirty pages.
 
-ghost use Rattle.std.specs.Prelude.{◌≡◌, ◌<◌, ◌*◌, ◌^◌, IfErr, IfOk, IsOk, OnErr, OnOk, length, true};
+ghost use Rattle.std.specs.Prelude.{◌≡◌, ◌<◌, ◌*◌, ◌^◌, ℕ, IfErr, IfOk, IsOk, OnErr, OnOk, false, length, true};
 ghost use Rattle.heap_core.specs.Heap.{due};
+ghost use Rattle.tag_memory.specs.Cells.{is_dirty_at};
 ghost use Rattle.heap_machine.specs.Dirty.{dirty_after};
 ghost use Rattle.heap_machine.specs.Parts.{AreParts, state_of};
 ghost use Rattle.heap_machine.specs.Revoked.{AreRevoked};
@@ -13,7 +14,7 @@ use crate::parts::revocation::{RevokedTags, ones_in};
 use heap_reply::{Reply, Trap};
 use std::alloc::Global;
 use std::thread::Threads;
-use sweep_pool::{Gate, sweep_dirty, swept_registers};
+use sweep_pool::{Gate, due_registers, sweep_dirty, swept_registers};
 use trace_text::Command;
 
 impl Parts {
@@ -70,6 +71,9 @@ impl Parts {
         if !self.heap.is_open() {
             return Ok(Reply::Trap(Trap::NotOpen));
         }
+        if !self.memory.has_dirty() {
+            return Ok(self.end_clean());
+        }
         let Ok(()) = self.heap.prepare() else {
             return Err(MachineFault::Memory);
         };
@@ -77,6 +81,25 @@ impl Parts {
         let cleared = revoked.take(&mut self.memory, &mut self.registers);
         let released = self.heap.give_back();
         Ok(Reply::Swept { cleared, released })
+    }
+
+    // The same where no page is dirty, so that no word of memory loses its tag: only registers are looked at, whatever the
+    // heap, and that takes no memory.
+    fn end_clean(&mut self) -> Reply
+        requires parts { AreParts self.old }
+        requires opened { self.old.heap.is_open ≡ true }
+        requires clean { (page : ℕ) → is_dirty_at self.old.memory.dirty page ≡ false }
+        ensures step { Step (state_of self.old) Command.End result (state_of self.new) }
+        ensures base { self.new.memory.base ≡ self.new.heap.base }
+        ensures dirty { self.new.memory.dirty ≡ self.old.memory.dirty }
+    {
+        let revoked = due_registers(&self.registers, &self.heap);
+        self.registers.clear_tags(revoked);
+        let released = self.heap.give_back();
+        Reply::Swept {
+            cleared: revoked.count_ones(),
+            released,
+        }
     }
 
     // The tags of memory and registers that the end of an epoch takes now: in memory only dirty pages are looked at.
