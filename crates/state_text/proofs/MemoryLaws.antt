@@ -1,0 +1,200 @@
+-- What is told of memory is what changed in it.
+use Rattle.std.proofs.Common.{◌≡◌, ◌∙◌, ◌≢◌, ◌⊎◌, ◌<◌, ◌&&◌, ℕ, zero, suc, Bool, true, false, not, inl, inr, Option, Some, None, List, [], ◌∷◌, ◌++◌, if◌then◌else◌, append-nil, codes, length, get_or, refl, sym, ap, arith}
+use Rattle.std.proofs.lemmas.Bool.{cases_eq, cases_lt, eq-eqb, lt-ltb, le-ltb, true≢false}
+use Rattle.std.proofs.lemmas.List.{get_or-map, length-map}
+use Rattle.heap_core.specs.Blocks.{Span}
+use Rattle.heap_core.specs.Heap.{due}
+use Rattle.heap_core.specs.Laws.{due-closed}
+use Rattle.heap_machine.specs.State.{State}
+use Rattle.heap_reply.specs.declared.reply.Reply.{Reply}
+use Rattle.json.specs.Token.{Token, begin_object, end_object, key}
+use Rattle.sweep_pool.specs.Sweep.{is_revoked, swept_granule, swept_granules}
+use Rattle.tag_memory.specs.Cells.{Granule, cell_of}
+use Rattle.tag_memory.specs.Tags.{is_set_for, is_tagged}
+use Rattle.state_text.specs.Changes.{below, change_tokens, granule_change, granules_tokens, is_same, tag_change}
+use Rattle.state_text.specs.Line.{list_tokens}
+use Rattle.state_text.specs.States.{pass_tokens, tells_pass, tells_registers}
+use Rattle.state_text.specs.Taken.{is_granule_taken, is_register_taken, is_tag_gone, number_if, register_numbers}
+use Rattle.state_text.specs.Told.{IsSeen, due_seen, granule_before, granules_told, is_stale, pass_told}
+use Rattle.state_text.specs.declared.seen.Seen.{Seen}
+use Rattle.state_text.proofs.ChangeLaws.{change_tokens-same, is_same-itself, number_if-same}
+use Rattle.state_text.proofs.Did.{Did}
+use Rattle.state_text.proofs.Did.Did.{quiet, wrote, handed_out, gave_up, freed, freed_and_handed_out, began}
+
+-- ---- lists of what numbers have
+
+below_none : (f : ℕ → List Token) (n : ℕ) → ((k : ℕ) → k < n → f k ≡ []) → below f n ≡ []
+below_none f zero none = refl
+below_none f (suc n) none =
+    (λ i. below f n ++ none n (omega arith) i) ∙ (append-nil (below f n) ∙ below_none f n (λ k lt. none k (omega (arith, lt))))
+
+below_one : (f : ℕ → List Token) (n i : ℕ) → i < n → ((k : ℕ) → k < n → k ≢ i → f k ≡ []) → below f n ≡ f i
+below_one f zero i lt none = absurd (omega (arith, lt))
+below_one f (suc n) i lt none =
+    elim (cases_eq i n) [
+      | inl last ↦ (λ j. below_none f n (λ k before. none k (omega (arith, before)) (λ e. omega (arith, before, e, last))) j ++ f n) ∙ ap f (sym last)
+      | inr other ↦
+          (λ j. below f n ++ none n (omega arith) (λ e. other (sym e)) j)
+          ∙ (append-nil (below f n) ∙ below_one f n i (omega (arith, lt, other)) (λ k before. none k (omega (arith, before))))
+    ]
+
+below_same : {X : Type 0} (f g : ℕ → List X) (n : ℕ) → ((k : ℕ) → k < n → f k ≡ g k) → below f n ≡ below g n
+below_same f g zero same = refl
+below_same f g (suc n) same = λ i. below_same f g n (λ k lt. same k (omega (arith, lt))) i ++ same n (omega arith) i
+
+-- A granule that is as it was.
+granule_change-none : (old new : List Granule) (k : ℕ) → get_or new k (0, false) ≡ get_or old k (0, false) → granule_change old new k ≡ []
+granule_change-none old new k same =
+    let was = cell_of (get_or old k (0, false)) in
+    change_tokens-same (codes "i") k was (cell_of (get_or new k (0, false))) (ap (λ (g : Granule). is_same was (cell_of g)) same ∙ is_same-itself was)
+
+-- ---- memory after a command
+
+-- No pass was made, and all granules are as they were but the one that may be written.
+record AreKept (s : State) (w : Option ℕ) (r : Reply) (new : State) : Type 0 where
+  pub pass : tells_pass r ≡ false
+  pub count : length new.cells ≡ length s.cells
+  pub same : (k : ℕ) → (w ≡ Some k → ⊥) → get_or new.cells k (0, false) ≡ get_or s.cells k (0, false)
+
+-- A pass was made, for the blocks that were due.
+record AreSwept (s : State) (w : Option ℕ) (r : Reply) (new : State) : Type 0 where
+  pub pass : tells_pass r ≡ true
+  pub none : w ≡ None
+  pub cells : new.cells ≡ swept_granules (due s.heap) s.cells
+
+kept : (s : State) (w : Option ℕ) (r : Reply) (new : State) → tells_pass r ≡ false → new.cells ≡ s.cells → AreKept s w r new
+kept s w r new pass same = record {
+  pass = pass;
+  count = ap length same;
+  same = λ k _. ap (λ (cells : List Granule). get_or cells k (0, false)) same;
+}
+
+Did-memory : (s : State) (w : Option ℕ) (start : ℕ) (r : Reply) (new : State) → Did s w start r new → AreKept s w r new ⊎ AreSwept s w r new
+Did-memory s w start r new (quiet is cells heap) = inl (kept s w r new is.pass cells)
+Did-memory s w start r new (wrote i is_i is heap count elsewhere) =
+    inl (record { pass = is.pass; count = count; same = λ k not_k. elsewhere k (λ e. not_k (is_i ∙ ap Some (sym e))) })
+Did-memory s w start r new (handed_out size base top none is place end cells heap) = inl (kept s w r new (ap tells_pass is) cells)
+Did-memory s w start r new (gave_up base top none at is block cells heap) = inl (kept s w r new (ap tells_pass is) cells)
+Did-memory s w start r new (freed none is cells heap) = inr (record { pass = is.pass; none = none; cells = cells })
+Did-memory s w start r new (freed_and_handed_out size base top cleared none is closed place end cells heap) =
+    inr (record { pass = ap tells_pass is; none = none; cells = cells ∙ ap (λ (held : List Span). swept_granules held s.cells) (sym (due-closed s.heap closed)) })
+Did-memory s w start r new (began cleared none is closed cells heap) =
+    inr (record { pass = ap tells_pass is; none = none; cells = cells ∙ ap (λ (held : List Span). swept_granules held s.cells) (sym (due-closed s.heap closed)) })
+
+-- ---- granules
+
+-- Without a pass nothing is told of a granule that isn't one.
+told_none : (r : Reply) (tags : List ℕ) (cells : List Granule) → tells_pass r ≡ false → granules_told None r tags cells ≡ []
+told_none r tags cells pass = rw pass refl
+
+some_is : {a b : ℕ} → Some a ≡ Some b → a ≡ b
+some_is e = ap value e where
+  value : Option ℕ → ℕ
+  value (Some n) = n
+  value None = 0
+
+none_is : (k : ℕ) → None ≡ Some k → ⊥
+none_is k e = cc
+
+kept_all : (s : State) (r : Reply) (tags : List ℕ) (new : State) → AreKept s None r new → granules_told None r tags new.cells ≡ granules_tokens s.cells new.cells
+kept_all s r tags new are =
+    told_none r tags new.cells are.pass ∙ sym (below_none (granule_change s.cells new.cells) (length new.cells) (λ k lt. granule_change-none s.cells new.cells k (are.same k (none_is k))))
+
+kept_but_one : (s : State) (i : ℕ) (r : Reply) (tags : List ℕ) (new : State) → AreKept s (Some i) r new
+    → granules_told (granule_before s (Some i)) r tags new.cells ≡ granules_tokens s.cells new.cells
+kept_but_one s i r tags new are =
+    let change = granule_change s.cells new.cells in
+    let other : (k : ℕ) → k ≢ i → granule_change s.cells new.cells k ≡ [] = λ k not_i. granule_change-none s.cells new.cells k (are.same k (λ e. not_i (sym (some_is e)))) in
+    elim (cases_lt i (length s.cells)) [
+      | inl lt ↦ rw (lt-ltb i (length s.cells) lt) (sym (below_one change (length new.cells) i (omega (arith, lt, are.count)) (λ k _ not_i. other k not_i)))
+      | inr past ↦
+          rw (le-ltb i (length s.cells) past)
+          (told_none r tags new.cells are.pass ∙ sym (below_none change (length new.cells) (λ k lt. other k (λ e. omega (arith, lt, past, e, are.count)))))
+    ]
+
+-- After a pass the bytes are as before, and the tags before are those of the words.
+swept_change : (s : State) (tags : List ℕ) (new : State) (k : ℕ) → new.cells ≡ swept_granules (due s.heap) s.cells → k < length s.cells → is_set_for tags k ≡ is_tagged s.cells k
+    → tag_change tags new.cells k ≡ granule_change s.cells new.cells k
+swept_change s tags new k cells lt bit =
+    let held = due s.heap in
+    let is : get_or new.cells k (0, false) ≡ swept_granule (due s.heap) (get_or s.cells k (0, false)) =
+    ap (λ (xs : List Granule). get_or xs k (0, false)) cells ∙ get_or-map (swept_granule held) s.cells k (0, false) (0, false) lt in
+    let number : (get_or new.cells k (0, false)).0 ≡ (get_or s.cells k (0, false)).0 = ap (λ (g : Granule). g.0) is in
+    λ i. change_tokens (codes "i") k (cell_of (number i, bit i)) (cell_of (get_or new.cells k (0, false)))
+
+pub granules_told-is : (s : State) (w : Option ℕ) (start : ℕ) (r : Reply) (tags : List ℕ) (new : State) → Did s w start r new
+    → ((i : ℕ) → i < length s.cells → is_set_for tags i ≡ is_tagged s.cells i)
+    → granules_told (granule_before s w) r tags new.cells ≡ granules_tokens s.cells new.cells
+granules_told-is s w start r tags new did bits =
+    elim (Did-memory s w start r new did) [
+      | inl are ↦ by w are
+      | inr are ↦
+          rw (are.none, are.pass)
+          (below_same (tag_change tags new.cells) (granule_change s.cells new.cells) (length new.cells) (λ k lt.
+          let inside : k < length s.cells = omega (arith, lt, ap length are.cells, length-map s.cells (swept_granule (due s.heap))) in
+          swept_change s tags new k are.cells inside (bits k inside)))
+    ] where
+      by : (w : Option ℕ) → AreKept s w r new → granules_told (granule_before s w) r tags new.cells ≡ granules_tokens s.cells new.cells
+      by None are = kept_all s r tags new are
+      by (Some i) are = kept_but_one s i r tags new are
+
+-- ---- tags
+
+pub count-is : (s : State) (w : Option ℕ) (start : ℕ) (r : Reply) (new : State) → Did s w start r new → length new.cells ≡ length s.cells
+count-is s w start r new did =
+    elim (Did-memory s w start r new did) [
+      | inl are ↦ are.count
+      | inr are ↦ ap length are.cells ∙ length-map s.cells (swept_granule (due s.heap))
+    ]
+
+-- A granule that isn't the one written, and after no pass, has its tag.
+pub tag-kept : (s : State) (w : Option ℕ) (start : ℕ) (r : Reply) (new : State) → Did s w start r new
+    → (k : ℕ) → k < length new.cells → is_stale (granule_before s w) r k ≡ false → is_tagged new.cells k ≡ is_tagged s.cells k
+tag-kept s w start r new did k lt fresh =
+    elim (Did-memory s w start r new did) [
+      | inl are ↦ by w are fresh
+      | inr are ↦ absurd (true≢false (sym are.pass ∙ (ap (λ (o : Option ℕ). is_stale (granule_before s o) r k) (sym are.none) ∙ fresh)))
+    ] where
+      by : (w : Option ℕ) → AreKept s w r new → is_stale (granule_before s w) r k ≡ false → is_tagged new.cells k ≡ is_tagged s.cells k
+      by None are fresh = ap (λ (g : Granule). g.1) (are.same k (none_is k))
+      by (Some i) are fresh =
+          ap (λ (g : Granule). g.1) (are.same k (λ e. elim (cases_lt i (length s.cells)) [
+            | inl inside ↦
+                let stale : is_stale (granule_before s (Some i)) r k ≡ true = rw (lt-ltb i (length s.cells) inside) (eq-eqb k i (sym (some_is e))) in
+                true≢false (sym stale ∙ fresh)
+            | inr past ↦ omega (arith, lt, past, some_is e, are.count)
+          ]))
+
+-- ---- passes
+
+pub due-seen : (seen : Seen) (s : State) → IsSeen seen s → due_seen seen ≡ due s.heap
+unfolding due
+due-seen seen s is = λ i. if is.is_open i then is.painted i else is.waiting i
+
+gone_is_taken : (t r : Bool) → (t && not (t && not r)) ≡ (t && r)
+gone_is_taken true true = refl
+gone_is_taken true false = refl
+gone_is_taken false r = refl
+
+pub pass_told-is : (s : State) (w : Option ℕ) (start : ℕ) (r : Reply) (seen : Seen) (new : State) → Did s w start r new → IsSeen seen s
+    → pass_told r seen new.cells ≡ pass_tokens r s
+pass_told-is s w start r seen new did is =
+    elim (Did-memory s w start r new did) [
+      | inl are ↦ rw are.pass refl
+      | inr are ↦
+          let held = due-seen seen s is in
+          let count : length new.cells ≡ length s.cells = ap length are.cells ∙ length-map s.cells (swept_granule (due s.heap)) in
+          let each : (k : ℕ) → k < length s.cells → is_tag_gone seen.tags.items new.cells k ≡ is_granule_taken (due s.heap) s.cells k =
+          λ k lt.
+          let tag : is_tagged new.cells k ≡ (is_tagged s.cells k && not (is_revoked (due s.heap) (cell_of (get_or s.cells k (0, false))).0)) =
+          ap (λ (xs : List Granule). is_tagged xs k) are.cells ∙ ap (λ (g : Granule). g.1) (get_or-map (swept_granule (due s.heap)) s.cells k (0, false) (0, false) lt) in
+          (λ i. is.bits k lt i && not (tag i)) ∙ gone_is_taken (is_tagged s.cells k) (is_revoked (due s.heap) (cell_of (get_or s.cells k (0, false))).0) in
+          let granules : below (number_if (is_tag_gone seen.tags.items new.cells)) (length new.cells) ≡ below (number_if (is_granule_taken (due s.heap) s.cells)) (length s.cells) =
+          ap (below (number_if (is_tag_gone seen.tags.items new.cells))) count
+          ∙ below_same (number_if (is_tag_gone seen.tags.items new.cells)) (number_if (is_granule_taken (due s.heap) s.cells)) (length s.cells)
+          (λ k lt. number_if-same (is_tag_gone seen.tags.items new.cells) (is_granule_taken (due s.heap) s.cells) k (each k lt)) in
+          rw are.pass
+          (λ i. key (codes "taken") ∷ begin_object
+          ∷ (list_tokens (codes "registers") (register_numbers (λ k. tells_registers r && is_register_taken (held i) (is.registers i) k))
+          ++ (list_tokens (codes "granules") (granules i) ++ end_object ∷ [])))
+    ]

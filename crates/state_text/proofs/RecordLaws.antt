@@ -1,0 +1,87 @@
+-- The line of a command is that of its step, and what is seen after it is the new state's.
+use Rattle.std.proofs.Common.{◌≡◌, ◌∙◌, ◌*◌, ◌++◌, ◌∷◌, [], ℕ, List, append-nil, append_assoc, length, refl, subst, sym, ap, arith}
+use Rattle.heap_machine.specs.Safety.{IsSafe}
+use Rattle.heap_machine.specs.State.{State}
+use Rattle.heap_machine.specs.Step.{Step}
+use Rattle.heap_reply.specs.declared.reply.Reply.{Reply}
+use Rattle.json.specs.Token.{Token}
+use Rattle.trace_text.specs.declared.trace.Command.{Command}
+use Rattle.state_text.specs.Blocks.{blocks_tokens}
+use Rattle.state_text.specs.Changes.{granules_tokens, registers_tokens}
+use Rattle.state_text.specs.States.{Tells, line_text, line_tokens, parts_tokens, pass_tokens}
+use Rattle.state_text.specs.Told.{Follows, IsSeen, Recorded, Records, before_of, blocks_told, due_seen, given_up, granules_told, is_stale, open_after, painted_after, pass_told, told_tokens, waiting_after, written}
+use Rattle.state_text.specs.declared.seen.Before.{Before}
+use Rattle.state_text.specs.declared.seen.Seen.{Seen}
+use Rattle.state_text.proofs.AfterLaws.{are_after}
+use Rattle.state_text.proofs.BlockLaws.{blocks_told-is}
+use Rattle.state_text.proofs.Did.{Step-did}
+use Rattle.state_text.proofs.MemoryLaws.{count-is, due-seen, granules_told-is, pass_told-is, tag-kept}
+
+told-is : (old : State) (n : ℕ) (c : Command) (r : Reply) (new : State) (seen : Seen) (before : Before) → IsSeen seen old → IsSafe old → IsSafe new → Step old c r new → before ≡ before_of old c
+    → told_tokens n c r seen before new.registers new.cells ≡ line_tokens n c r old new
+told-is old n c r new seen before is safe after step read =
+    let did = Step-did old c r new step in
+    let granules : granules_told before.granule r seen.tags.items new.cells ≡ granules_tokens old.cells new.cells =
+    ap (λ (b : Before). granules_told b.granule r seen.tags.items new.cells) read ∙ granules_told-is old (written old c) (given_up old c) r seen.tags.items new did is.bits in
+    let blocks : blocks_told r (due_seen seen) before.base ≡ blocks_tokens old.heap new.heap =
+    (λ i. blocks_told r (due-seen seen old is i) (read i).base) ∙ blocks_told-is old (written old c) (given_up old c) r new did safe.heap after.heap in
+    let pass : pass_told r seen new.cells ≡ pass_tokens r old = pass_told-is old (written old c) (given_up old c) r seen new did is in
+    λ i. parts_tokens n c r (registers_tokens (is.registers i) new.registers) (granules i) (blocks i) (pass i)
+
+seen-is : (old : State) (c : Command) (r : Reply) (new : State) (seen later : Seen) (before : Before) → IsSeen seen old → IsSafe old → Step old c r new → before ≡ before_of old c
+    → Follows seen later before r new → IsSeen later new
+seen-is old c r new seen later before is safe step read follows =
+    let did = Step-did old c r new step in
+    let after = are_after old (written old c) (given_up old c) r new did safe.heap in
+    let count = count-is old (written old c) (given_up old c) r new did in
+    record {
+      registers = follows.registers;
+      count = follows.count;
+      bits = follows.bits (λ k lt fresh.
+          is.bits k (omega (arith, lt, count))
+          ∙ sym (tag-kept old (written old c) (given_up old c) r new did k lt (ap (λ (b : Before). is_stale b.granule r k) (sym read) ∙ fresh)));
+      waiting = follows.waiting ∙ ((λ i. waiting_after r (is.is_open i) (is.waiting i) (read i).base) ∙ after.waiting);
+      painted = follows.painted ∙ ((λ i. painted_after r (is.waiting i) (is.painted i)) ∙ after.painted);
+      is_open = follows.is_open ∙ (ap (open_after r) is.is_open ∙ after.is_open);
+    }
+
+pub records : (old : State) (n : ℕ) (c : Command) (r : Reply) (new : State) (seen later : Seen) (before : Before) (text told : List ℕ)
+    → IsSeen seen old → IsSafe old → IsSafe new → Step old c r new → before ≡ before_of old c → Follows seen later before r new
+    → told ≡ text ++ line_text (told_tokens n c r seen before new.registers new.cells) → Records old n c new later text told
+records old n c r new seen later before text told is safe after step read follows line = record {
+  reply = r;
+  step = step;
+  safe = after;
+  is_seen = seen-is old c r new seen later before is safe step read follows;
+  text = line ∙ ap (λ (tokens : List Token). text ++ line_text tokens) (told-is old n c r new seen before is safe after step read);
+}
+
+-- There are as many granules after a command as before it.
+pub count-after : (old : State) (c : Command) (r : Reply) (new : State) (seen : Seen) → IsSeen seen old → Step old c r new → 64 * length seen.tags.items ≡ length new.cells
+count-after old c r new seen is step = is.count ∙ sym (count-is old (written old c) (given_up old c) r new (Step-did old c r new step))
+
+-- ---- one command more
+
+Tells-push : (first : State) (items : List (ℕ × Command)) (lines : List ℕ) (mid new : State) (c : ℕ × Command) (r : Reply) → Tells first items lines mid → Step mid c.1 r new
+    → Tells first (items ++ c ∷ []) (lines ++ line_text (line_tokens c.0 c.1 r mid new)) new
+Tells-push first [] lines mid new c r tells step =
+    subst (λ (s : State). Tells s (c ∷ []) (lines ++ line_text (line_tokens c.0 c.1 r mid new)) new) tells.1
+    (r, new, [], step, (refl, refl), (λ i. tells.0 i ++ line_text (line_tokens c.0 c.1 r mid new)) ∙ sym (append-nil (line_text (line_tokens c.0 c.1 r mid new))))
+Tells-push first (item ∷ items) lines mid new c r (reply, next, rest, done, more, is) step = (
+  reply,
+  next,
+  rest ++ line_text (line_tokens c.0 c.1 r mid new),
+  done,
+  Tells-push next items rest mid new c r more step,
+  ap (λ (text : List ℕ). text ++ line_text (line_tokens c.0 c.1 r mid new)) is ∙ append_assoc (line_text (line_tokens item.0 item.1 reply first next)) rest (line_text (line_tokens c.0 c.1 r mid new)),
+)
+
+pub Recorded-push : (first : State) (items : List (ℕ × Command)) (mid new : State) (seen later : Seen) (before text told : List ℕ) (c : ℕ × Command)
+    → Recorded first items mid seen before text → Records mid c.0 c.1 new later text told → Recorded first (items ++ c ∷ []) new later before told
+Recorded-push first items mid new seen later before text told c so_far more = record {
+  lines = so_far.lines ++ line_text (line_tokens c.0 c.1 more.reply mid new);
+  tells = Tells-push first items so_far.lines mid new c more.reply so_far.tells more.step;
+  safe = more.safe;
+  is_seen = more.is_seen;
+  text_is = more.text ∙ (ap (λ (t : List ℕ). t ++ line_text (line_tokens c.0 c.1 more.reply mid new)) so_far.text_is ∙ append_assoc before so_far.lines (line_text (line_tokens c.0 c.1 more.reply mid new)));
+}

@@ -1,0 +1,13 @@
+use Rattle.state_text.proofs.RecordLaws.{count-after, records}
+use Rattle.state_text.proofs.recording.tell_step.Goals as goal
+
+pub told-requires-clause-tags : goal.told-requires-clause-tags
+told-requires-clause-tags g c = count-after c.args.machine.now.state c.args.command c.in-Ok.reply c.step.new.self.state c.args.seen.now c.requires.seen c.in-Ok.ensures.step
+
+pub follow-requires-clause-count : goal.follow-requires-clause-count
+follow-requires-clause-count g c = count-after c.args.machine.now.state c.args.command c.in-Ok.reply c.step.new.self.state c.args.seen.now c.requires.seen c.in-Ok.ensures.step
+
+pub returns : goal.returns
+returns g c =
+    records c.args.machine.now.state c.args.number c.args.command c.in-Ok.reply c.step.new.self.state c.args.seen.now c.follow.new.self c.read_before-before.result c.args.text.items c.in-Ok-told.text.items
+    c.requires.seen c.requires.safe c.in-Ok.ensures.safe c.in-Ok.ensures.step c.read_before-before.ensures c.in-Ok-follow.ensures c.in-Ok-told.ensures

@@ -1,0 +1,10 @@
+-- Blocks of this crate, as the definitions have them.
+use Rattle.std.specs.Prelude.{List, map}
+use Rattle.heap_core.specs.Blocks.{Span}
+use Rattle.state_text.specs.declared.blocks.Block.{Block}
+
+abbrev pub span_of : Block → Span
+span_of block = (block.base, block.length)
+
+abbrev pub spans_of : List Block → List Span
+spans_of blocks = map span_of blocks

@@ -1,0 +1,101 @@
+//! Blocks, and what became of them.
+
+ghost use Rattle.std.specs.Prelude.{◌≡◌, ◌+◌, ◌-◌, ◌≤◌, [], ◌∷◌, OnOk, codes};
+ghost use Rattle.heap_core.specs.Blocks.{has_address};
+ghost use Rattle.heap_core.specs.Blocks as blocks_of;
+ghost use Rattle.state_text.specs.Blocks.{block_tokens, told_blocks};
+ghost use Rattle.heap_reply.specs.Display.{hexadecimal_text};
+ghost use Rattle.json.specs.Token.{key, string};
+ghost use Rattle.state_text.specs.Line.{added};
+ghost use Rattle.state_text.specs.Spans.{span_of, spans_of};
+
+use crate::cells::put_address;
+use crate::line::Line;
+use std::alloc::{AllocError, Global};
+
+/// A block: where it starts, and its length in bytes.
+#[derive(Clone, Copy, Debug, PartialEq, Eq)]
+pub struct Block {
+    pub base: u64,
+    pub length: u64,
+}
+
+impl Block {
+    /// The address after its last byte.
+    pub fn top(self) -> u128
+        ensures { result ≡ self.base + self.length }
+    {
+        u128::from(self.base) + u128::from(self.length)
+    }
+
+    /// Whether an address lies in it.
+    pub fn has(self, address: u64) -> bool
+        ensures { result ≡ has_address address (span_of self) }
+    {
+        self.base <= address && u128::from(address) < self.top()
+    }
+}
+
+/// Whether an address lies in one of these blocks.
+pub fn lies_in(blocks: &[Block], address: u64) -> bool
+    ensures { result ≡ blocks_of.lies_in (spans_of blocks.now) address }
+{
+    for block in blocks {
+        if block.has(address) {
+            return true;
+        }
+    }
+    false
+}
+
+fn put_bounds(line: &mut Line, alloc: Global, base: u64, top: u128) -> Result<(), AllocError>
+    ensures { OnOk result (line.new ≡ added line.old
+        (key (codes "base") ∷ string (hexadecimal_text base) ∷ key (codes "top") ∷ string (hexadecimal_text top) ∷ [])) }
+{
+    put_address(line, alloc, "base", u128::from(base))?;
+    put_address(line, alloc, "top", top)
+}
+
+/// A block from `base` to `top`, with a word for what it is now.
+pub fn put_span(
+    line: &mut Line,
+    alloc: Global,
+    state: &str,
+    base: u64,
+    top: u128,
+) -> Result<(), AllocError>
+    requires { base ≤ top }
+    ensures { OnOk result (line.new ≡ added line.old (block_tokens state.now (base, top - base))) }
+{
+    line.open()?;
+    put_bounds(line, alloc, base, top)?;
+    line.text("state", state)?;
+    line.close()
+}
+
+/// The same of a block.
+pub fn put_block(
+    line: &mut Line,
+    alloc: Global,
+    state: &str,
+    block: Block,
+) -> Result<(), AllocError>
+    ensures { OnOk result (line.new ≡ added line.old (block_tokens state.now (span_of block))) }
+{
+    put_span(line, alloc, state, block.base, block.top())
+}
+
+/// These blocks, with the same word for each.
+pub fn put_blocks(
+    line: &mut Line,
+    alloc: Global,
+    state: &str,
+    blocks: &[Block],
+) -> Result<(), AllocError>
+    ensures { OnOk result (line.new ≡ added line.old (told_blocks state.now (spans_of blocks.now))) }
+{
+    for block in blocks {
+        put_block(line, alloc, state, *block)?;
+    }
+    Ok(())
+}

@@ -1,0 +1,62 @@
+//! What is told of a cell.
+
+ghost use Rattle.std.specs.Prelude.{◌≡◌, [], ◌∷◌, OnOk, codes};
+ghost use Rattle.json.specs.Token.{boolean, key, string};
+ghost use Rattle.cap_codec.specs.Bytes.{bytes_of};
+ghost use Rattle.hex.specs.Hex.{encode_lower};
+ghost use Rattle.heap_reply.specs.Display.{hexadecimal_text};
+ghost use Rattle.state_text.specs.Cells.{cell_tokens, place_tokens, rights_tokens};
+ghost use Rattle.state_text.specs.Line.{added};
+
+use crate::line::Line;
+use cap_codec::{Word, to_bytes};
+use heap_reply::{Hexadecimal, Shown};
+use std::alloc::{AllocError, Global};
+
+/// An address, as a member of this name.
+pub fn put_address(
+    line: &mut Line,
+    alloc: Global,
+    name: &str,
+    address: u128,
+) -> Result<(), AllocError>
+    ensures { OnOk result (line.new ≡ added line.old (key name.now ∷ string (hexadecimal_text address) ∷ [])) }
+{
+    let text = format!(in alloc; "{}", Hexadecimal(address))?;
+    line.text(name, text.as_str())
+}
+
+fn put_place(line: &mut Line, alloc: Global, shown: Shown) -> Result<(), AllocError>
+    ensures { OnOk result (line.new ≡ added line.old (place_tokens shown)) }
+{
+    put_address(line, alloc, "address", u128::from(shown.address))?;
+    put_address(line, alloc, "base", u128::from(shown.base))?;
+    put_address(line, alloc, "top", shown.top)
+}
+
+fn put_rights(line: &mut Line, shown: Shown) -> Result<(), AllocError>
+    ensures { OnOk result (line.new ≡ added line.old (rights_tokens shown)) }
+{
+    line.count("perms", u64::from(shown.perms))?;
+    line.count("type", u64::from(shown.otype))?;
+    line.count("exponent", u64::from(shown.exponent))
+}
+
+fn put_word(line: &mut Line, alloc: Global, word: Word, tag: bool) -> Result<(), AllocError>
+    ensures { OnOk result (line.new ≡ added line.old
+        (key (codes "tag") ∷ boolean tag ∷ key (codes "word") ∷ string (encode_lower (bytes_of word.bits)) ∷ [])) }
+{
+    let digits = hex::encode(alloc, to_bytes(word))?;
+    line.flag("tag", tag)?;
+    line.text("word", digits.as_str())
+}
+
+/// The members of a cell: its tag, its word, and what the word decodes to.
+pub fn put_cell(line: &mut Line, alloc: Global, word: Word, tag: bool) -> Result<(), AllocError>
+    ensures { OnOk result (line.new ≡ added line.old (cell_tokens (word, tag))) }
+{
+    let shown = Shown::of(word, tag);
+    put_word(line, alloc, word, tag)?;
+    put_place(line, alloc, shown)?;
+    put_rights(line, shown)
+}

@@ -1,0 +1,80 @@
+//! The registers and the granules that changed.
+
+ghost use Rattle.std.specs.Prelude.{◌≡◌, ◌+◌, ◌<◌, OnOk, [], ◌∷◌, ◌++◌, decimal, length};
+ghost use Rattle.state_text.specs.Cells.{cell_tokens};
+ghost use Rattle.state_text.specs.Changes as changes;
+ghost use Rattle.state_text.specs.Changes.{change_tokens, registers_tokens};
+ghost use Rattle.json.specs.Token.{begin_object, end_object, key};
+ghost use Rattle.json.specs.Token.{number as number_token};
+ghost use Rattle.state_text.specs.Line.{added};
+ghost use Rattle.tag_memory.specs.Cells.{register_count};
+
+use crate::cells::put_cell;
+use crate::line::Line;
+use cap_codec::Word;
+use std::alloc::{AllocError, Global};
+use tag_memory::{REGISTERS, Registers};
+
+// The object of a cell: its number under this name, and its members.
+fn put_numbered(
+    line: &mut Line,
+    alloc: Global,
+    name: &str,
+    number: u64,
+    new: (Word, bool),
+) -> Result<(), AllocError>
+    ensures { OnOk result (line.new ≡ added line.old (begin_object ∷ key name.now ∷ number_token (decimal number) ∷ (cell_tokens new ++ end_object ∷ []))) }
+{
+    let (word, tag) = new;
+    line.open()?;
+    line.count(name, number)?;
+    put_cell(line, alloc, word, tag)?;
+    line.close()
+}
+
+fn is_same(old: (Word, bool), new: (Word, bool)) -> bool
+    ensures { result ≡ changes.is_same old new }
+{
+    old.0.bits == new.0.bits && old.1 == new.1
+}
+
+/// The same where the cell changed, and nothing where it didn't.
+pub fn put_change(
+    line: &mut Line,
+    alloc: Global,
+    name: &str,
+    number: u64,
+    old: (Word, bool),
+    new: (Word, bool),
+) -> Result<(), AllocError>
+    ensures { OnOk result (line.new ≡ added line.old (change_tokens name.now number old new)) }
+{
+    if is_same(old, new) {
+        return Ok(());
+    }
+    put_numbered(line, alloc, name, number, new)
+}
+
+/// The registers that changed: `old` has all 32 as they were.
+pub fn put_registers(
+    line: &mut Line,
+    alloc: Global,
+    old: &[(Word, bool)],
+    new: &Registers,
+) -> Result<(), AllocError>
+    requires { length old.now ≡ register_count }
+    ensures { OnOk result (line.new ≡ added line.old (registers_tokens old.now new.now)) }
+{
+    for k in 0..REGISTERS - 1 {
+        let r = k + 1;
+        put_change(
+            line,
+            alloc,
+            "r",
+            u64::from(r),
+            old[usize::from(r)],
+            new.get(r),
+        )?;
+    }
+    Ok(())
+}

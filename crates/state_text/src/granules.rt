@@ -1,0 +1,92 @@
+//! The granules that changed.
+
+ghost use Rattle.std.specs.Prelude.{◌≡◌, ◌<◌, ◌≤◌, ◌+◌, ◌*◌, ◌^◌, OnOk, codes, false, length, slice_index_or};
+ghost use Rattle.state_text.specs.Changes.{below, change_tokens, tag_change};
+ghost use Rattle.state_text.specs.Line.{LineState, added};
+ghost use Rattle.tag_memory.specs.Cells.{cell_of};
+
+use crate::changes::put_change;
+use crate::line::Line;
+use cap_codec::Word;
+use std::alloc::{AllocError, Global};
+use tag_memory::{Memory, WORD_GRANULES, bit};
+
+/// Granule `i` where it changed: before it had these bytes, and this tag.
+pub fn put_granule(
+    line: &mut Line,
+    alloc: Global,
+    memory: &Memory,
+    i: usize,
+    bits: u128,
+    tag: bool,
+) -> Result<(), AllocError>
+    requires { i < length memory.now.cells }
+    ensures { OnOk result (line.new ≡ added line.old
+        (change_tokens (codes "i") i (cell_of (bits, tag)) (cell_of (slice_index_or memory.now.cells i (0, false))))) }
+{
+    let (now, is_tagged) = memory.cell(i);
+    put_change(
+        line,
+        alloc,
+        "i",
+        i as u64,
+        (Word { bits }, tag),
+        (Word { bits: now }, is_tagged),
+    )
+}
+
+// Granule `i` where its tag changed.
+fn put_tag(
+    line: &mut Line,
+    alloc: Global,
+    memory: &Memory,
+    tags: &[u64],
+    i: usize,
+) -> Result<(), AllocError>
+    requires inside { i < length memory.now.cells }
+    requires tags { 64 * length tags.now ≡ length memory.now.cells }
+    ensures { OnOk result (line.new ≡ added line.old (tag_change tags.now memory.now.cells i)) }
+{
+    let (bits, _) = memory.cell(i);
+    let tag = bit(tags[i / WORD_GRANULES], i % WORD_GRANULES);
+    put_granule(line, alloc, memory, i, bits, tag)
+}
+
+// The granules of word `w` of the tags whose tags changed, where those before are told.
+fn put_tags_of_word(
+    line: &mut Line,
+    alloc: Global,
+    memory: &Memory,
+    tags: &[u64],
+    w: usize,
+) -> Result<(), AllocError>
+    requires inside { 64 * w + 64 ≤ length memory.now.cells }
+    requires few { length memory.now.cells < 2 ^ 64 }
+    requires tags { 64 * length tags.now ≡ length memory.now.cells }
+    ensures { (start : LineState) → line.old ≡ added start (below (tag_change tags.now memory.now.cells) (64 * w))
+        → OnOk result (line.new ≡ added start (below (tag_change tags.now memory.now.cells) (64 * w + 64))) }
+{
+    if tags[w] == memory.tag_word(w) {
+        return Ok(());
+    }
+    for j in 0..WORD_GRANULES {
+        put_tag(line, alloc, memory, tags, WORD_GRANULES * w + j)?;
+    }
+    Ok(())
+}
+
+/// The granules whose tags changed: before they had those of these words. Their bytes are as before.
+pub fn put_tags(
+    line: &mut Line,
+    alloc: Global,
+    memory: &Memory,
+    tags: &[u64],
+) -> Result<(), AllocError>
+    requires { 64 * length tags.now ≡ length memory.now.cells }
+    ensures { OnOk result (line.new ≡ added line.old (below (tag_change tags.now memory.now.cells) (length memory.now.cells))) }
+{
+    for w in 0..memory.granules() / WORD_GRANULES {
+        put_tags_of_word(line, alloc, memory, tags, w)?;
+    }
+    Ok(())
+}

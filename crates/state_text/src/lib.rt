@@ -1,0 +1,18 @@
+//! A run of a trace as data: JSON, one value a line.
+#![tactic(auto)]
+
+mod blocks;
+mod cells;
+mod changes;
+mod granules;
+mod line;
+mod recording;
+mod replies;
+mod seen;
+mod spelling;
+mod taken;
+mod telling;
+#[cfg(test)]
+mod tests;
+
+pub use crate::recording::states;

@@ -1,0 +1,202 @@
+//! Runs of whole traces, as data.
+
+ghost use Rattle.std.specs.Prelude.{◌≡◌, ◌≢◌, Err, ◌<◌, ◌*◌, ◌++◌, ℕ, All, IfOk, IfSome, List, OnOk, length, slice_index_or};
+ghost use Rattle.tag_memory.specs.Cells.{null_cell};
+ghost use Rattle.heap_machine.specs.Safety.{IsSafe};
+ghost use Rattle.heap_machine.specs.State.{tags_of};
+ghost use Rattle.state_text.specs.Line.{added};
+ghost use Rattle.state_text.specs.States.{IsData, IsDataOf, Tells, end_numbers, end_tokens, heap_tokens, line_text};
+ghost use Rattle.state_text.specs.Told.{HasOrder, IsSeen, Records, told_tokens};
+ghost use Rattle.trace_text.specs.Command.{IsListed, IsValid};
+ghost use Rattle.trace_text.specs.Heap.{IsHeap};
+ghost use Rattle.trace_text.specs.Reading.{script_of, trace_of};
+ghost use Rattle.trace_text.specs.declared.fault.TraceFault.{TraceFault as TheTraceFault};
+
+use crate::cells::put_address;
+use crate::line::Line;
+use crate::seen::{Before, Seen, read_before};
+use crate::telling::put_command;
+use heap_machine::Machine;
+use heap_reply::Reply;
+use heap_trace::RunFault;
+use std::alloc::{AllocError, Global};
+use std::thread::Threads;
+use sweep_pool::{Cutting, Open};
+use trace_text::{Command, Trace, TraceFault, parse};
+
+// The line's JSON after the text, and a line feed.
+fn ended(line: Line) -> Result<Vec<u8>, AllocError>
+    ensures { IfOk result (λ text. text.items ≡ line.before ++ line_text line.tokens) }
+{
+    let mut text = line.finish();
+    match text.push(b'\n') {
+        Ok(()) => Ok(text),
+        Err(_) => Err(AllocError),
+    }
+}
+
+// The text with the line of a command.
+fn told(
+    alloc: Global,
+    text: Vec<u8>,
+    seen: &Seen,
+    before: Before,
+    machine: &Machine,
+    of: (u32, Command, Reply),
+) -> Result<Vec<u8>, AllocError>
+    requires zero { slice_index_or seen.now.registers 0 null_cell ≡ null_cell }
+    requires tags { 64 * length seen.now.tags.items ≡ length machine.now.state.cells }
+    requires inside { IfSome before.granule (λ at. at.0 < length machine.now.state.cells) }
+    requires order { HasOrder of.2 }
+    ensures { IfOk result (λ told. told.items ≡ text.items ++ line_text (told_tokens of.0 of.1 of.2 seen.now before machine.now.state.registers machine.now.state.cells)) }
+{
+    let mut line = Line::after(text);
+    put_command(&mut line, alloc, seen, before, machine, of)?;
+    ended(line)
+}
+
+// Does a command, and adds its line to the text; `None` where memory runs out.
+fn tell_step<R: Threads + Sync>(
+    rt: &R,
+    alloc: Global,
+    machine: &mut Machine,
+    seen: &mut Seen,
+    text: Vec<u8>,
+    number: u32,
+    command: Command,
+) -> Option<Vec<u8>>
+    requires valid { IsValid command }
+    requires safe { IsSafe machine.old.state }
+    requires seen { IsSeen seen.old machine.old.state }
+    ensures { IfSome result (λ told. Records machine.old.state number command machine.new.state seen.new text.items told.items) }
+{
+    machine.registers().whole();
+    let before = read_before(machine, command);
+    let Ok(reply) = machine.step(rt, alloc, command, &Open) else {
+        return None;
+    };
+    let Ok(text) = told(alloc, text, seen, before, machine, (number, command, reply)) else {
+        return None;
+    };
+    let Ok(()) = seen.follow(machine, before, reply) else {
+        return None;
+    };
+    Some(text)
+}
+
+// Does these commands, and adds their lines to the text; `None` where memory runs out.
+fn tell_commands<R: Threads + Sync>(
+    rt: &R,
+    alloc: Global,
+    machine: &mut Machine,
+    seen: Seen,
+    text: Vec<u8>,
+    commands: &[(u32, Command)],
+) -> Option<Vec<u8>>
+    requires valid { All IsListed commands.now }
+    requires safe { IsSafe machine.old.state }
+    requires seen { IsSeen seen machine.old.state }
+    ensures { IfSome result (λ told. (lines : List ℕ) × Tells machine.old.state commands.now lines machine.new.state × (told.items ≡ text.items ++ lines)) }
+{
+    let mut seen = seen;
+    let mut text = text;
+    for (line, command) in commands {
+        text = tell_step(rt, alloc, machine, &mut seen, text, *line, *command)?;
+    }
+    Some(text)
+}
+
+// The text with the line of the heap.
+fn tell_heap(alloc: Global, text: Vec<u8>, base: u64, pages: u32) -> Result<Vec<u8>, AllocError>
+    ensures { IfOk result (λ told. told.items ≡ text.items ++ line_text (heap_tokens base pages)) }
+{
+    let mut line = Line::after(text);
+    line.open()?;
+    line.open_object("heap")?;
+    put_address(&mut line, alloc, "base", u128::from(base))?;
+    line.count("pages", u64::from(pages))?;
+    line.close()?;
+    line.close()?;
+    ended(line)
+}
+
+// How many granules and registers are tagged.
+fn tagged(machine: &Machine) -> u64
+    ensures { result ≡ tags_of machine.now.state }
+{
+    machine.memory().whole();
+    machine.registers().whole();
+    (machine.memory().tagged() + machine.registers().tagged()) as u64
+}
+
+fn put_end(line: &mut Line, machine: &Machine) -> Result<(), AllocError>
+    ensures { OnOk result (line.new ≡ added line.old (end_numbers machine.now.state)) }
+{
+    line.count("live", machine.live_bytes())?;
+    line.count("held", machine.held_bytes())?;
+    line.count("free", machine.free_bytes())?;
+    line.count("tags", tagged(machine))
+}
+
+// The text with the line of the end.
+fn tell_end(text: Vec<u8>, machine: &Machine) -> Result<Vec<u8>, AllocError>
+    ensures { IfOk result (λ told. told.items ≡ text.items ++ line_text (end_tokens machine.now.state)) }
+{
+    let mut line = Line::after(text);
+    line.open()?;
+    line.open_object("end")?;
+    put_end(&mut line, machine)?;
+    line.close()?;
+    line.close()?;
+    ended(line)
+}
+
+// Runs a trace, and answers its data; `None` where memory runs out.
+fn tell_trace<R: Threads + Sync>(
+    rt: &R,
+    alloc: Global,
+    trace: &Trace,
+    cutting: Cutting,
+) -> Option<Vec<u8>>
+    requires heap { IsHeap trace.now.base trace.now.pages }
+    requires valid { All IsListed trace.now.commands.items }
+    ensures { IfSome result (λ text. IsData (script_of trace.now) text.items) }
+{
+    let Ok(mut machine) = Machine::new(alloc, trace.base, trace.pages, cutting) else {
+        return None;
+    };
+    let Ok(seen) = Seen::first(alloc, &machine) else {
+        return None;
+    };
+    let Ok(text) = tell_heap(alloc, Vec::new(alloc), trace.base, trace.pages) else {
+        return None;
+    };
+    let text = tell_commands(rt, alloc, &mut machine, seen, text, &trace.commands)?;
+    let Ok(text) = tell_end(text, &machine) else {
+        return None;
+    };
+    Some(text)
+}
+
+/// Runs a trace from its text to its states as data: a line of JSON for the heap, one for each command with what it changed,
+/// and one for the end. Nothing runs where the text is faulty. Want of memory is `RunFault::Memory`, also while the text is
+/// read.
+pub fn states<R: Threads + Sync>(
+    rt: &R,
+    alloc: Global,
+    text: &[u8],
+    cutting: Cutting,
+) -> Result<Vec<u8>, RunFault>
+    ensures states { IfOk result (λ told. IsDataOf text.now told.items) }
+    ensures fault { (fault : TheTraceFault) → result ≡ Err (RunFault.Trace fault) → trace_of text.now ≡ Err fault }
+    ensures memory { result ≢ Err (RunFault.Trace TraceFault.Memory) }
+{
+    match parse(alloc, text) {
+        Err(TraceFault::Memory) => Err(RunFault::Memory),
+        Err(fault) => Err(RunFault::Trace(fault)),
+        Ok(trace) => match tell_trace(rt, alloc, &trace, cutting) {
+            Some(text) => Ok(text),
+            None => Err(RunFault::Memory),
+        },
+    }
+}
