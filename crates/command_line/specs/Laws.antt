@@ -1,11 +1,11 @@
 -- What the crates above need of the words: they name one subcommand and one text.
 use Rattle.std.specs.Prelude.{◌≡◌, ℕ, List, Some, codes, pos}
-use Rattle.std.proofs.Common.{◌∙◌, ap, inl, inr, subst, sym}
+use Rattle.std.proofs.Common.{◌∙◌, ap, inl, inr, subst, sym, true, true≢false}
 use Rattle.std.specs.Str.Parse.{signed_digits_value}
 use Rattle.clap.specs.Words.{Row, Text, first_of}
 use Rattle.command_line.specs.NumberLaws.{image_given}
 use Rattle.command_line.specs.declared.asked.Options.{Options}
-use Rattle.command_line.specs.Words.{AreWithinLimits, HasNumber, HasOptions, Names, NamesRun, NamesWord}
+use Rattle.command_line.specs.Words.{AreWithinLimits, HasNumber, HasOptions, Names, NamesNothing, NamesRun, NamesStates, NamesWord, with_run}
 
 -- The words name one subcommand, with one list of entries.
 pub Names-unique : (words : List Text) (m n : Text) (a b : List Row) → Names words m a → Names words n b → (m ≡ n) × (a ≡ b)
@@ -54,3 +54,18 @@ NamesRun-limits words options p = record {
   page_or_more = p.set.pages_per_task.least_or_more;
   pages_or_less = p.set.pages_per_task.most_or_less;
 }
+
+-- Words that ask for an image, for a word's line or for nothing don't ask for states.
+pub NamesStates-image : (words : List Text) (options other : Options) → options.image ≡ true → ((o : Options) → NamesRun (with_run words) o → o ≡ options) → NamesStates words other → ⊥
+NamesStates-image words options other image only names =
+    true≢false (sym image ∙ (ap (λ (o : Options). o.image) (sym (only other names.run)) ∙ names.no_image))
+
+pub NamesStates-word : (words : List Text) (hex : Text) (options : Options) → NamesWord (with_run words) hex → NamesStates words options → ⊥
+NamesStates-word words hex options word names = NamesWord-run (with_run words) hex word options names.run
+
+pub NamesStates-nothing : (words : List Text) (options : Options) → NamesNothing (with_run words) → NamesStates words options → ⊥
+NamesStates-nothing words options nothing names = nothing.run options names.run
+
+-- The numbers that they name lie in their limits.
+pub NamesStates-limits : (words : List Text) (options : Options) → NamesStates words options → AreWithinLimits options
+NamesStates-limits words options names = NamesRun-limits (with_run words) options names.run

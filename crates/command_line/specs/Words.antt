@@ -1,6 +1,6 @@
 -- What the words of a command line ask for, in the terms of clap's model of a command: the rules of its
 -- arguments, the words that it takes, and the matches that it then answers.
-use Rattle.std.specs.Prelude.{◌≡◌, ◌≤◌, ℕ, List, [], ◌∷◌, None, Option, Some, codes, pos, true, false}
+use Rattle.std.specs.Prelude.{◌≡◌, ◌≤◌, ℕ, List, [], ◌∷◌, None, Option, Some, codes, drop, pos, true, false}
 use Rattle.std.specs.Str.Parse.{IsNumeral, signed_digits_value, without_leading_sign}
 pub use Rattle.clap.specs.Walk.{texts}
 pub use Rattle.clap.specs.Words.{Text}
@@ -91,6 +91,15 @@ pub record NamesRun (words : List Text) (options : Options) : Type 0 where
   pub rows : List Row
   pub names : Names words (codes "run") rows
   pub set : HasOptions rows options
+
+-- The words with `heap_tool run` in place of the first.
+abbrev pub with_run : List Text → List Text
+with_run words = codes "heap_tool" ∷ codes "run" ∷ drop 1 words
+
+-- The words of a program that tells states: after its own name those of `run` with these options, without an image.
+pub record NamesStates (words : List Text) (options : Options) : Type 0 where
+  pub run : NamesRun (with_run words) options
+  pub no_image : options.image ≡ false
 
 -- The words name the subcommand `word`, with this text for HEX.
 pub record NamesWord (words : List Text) (hex : Text) : Type 0 where

@@ -1,10 +1,11 @@
 //! What the command line asks for.
 
-ghost use Rattle.std.specs.Prelude.{◌≡◌, ◌↔◌, IfErr, IfOk, OnOk, codes, false};
+ghost use Rattle.std.specs.Prelude.{◌≡◌, ◌↔◌, Err, IfErr, IfOk, OnOk, codes, false, true};
 ghost use Rattle.clap.specs.Walk.{texts};
 ghost use Rattle.clap.specs.Words.{app_of, found_of, kind_of, rows_of, rule_of, subcommand_rows_of};
 ghost use Rattle.clap.specs.declared.builder.command.Command.TheViews.{out-Command as fields_of};
-ghost use Rattle.command_line.specs.Words.{AreTaken, AsksFor, AsksOnlyFor, GivesNumber, HasOptions, NamesNothing, cut_rule, hex_rule, image_rule, run_app, subcommand_named, tool_app, word_app, workers_rule};
+ghost use Rattle.command_line.specs.declared.asked.Options.{Options as TheOptions};
+ghost use Rattle.command_line.specs.Words.{AreTaken, AsksFor, AsksOnlyFor, GivesNumber, HasOptions, NamesNothing, NamesStates, cut_rule, hex_rule, image_rule, run_app, subcommand_named, tool_app, with_run, word_app, workers_rule};
 
 use clap::error::ErrorKind;
 use clap::{Arg, ArgAction, ArgMatches, Command, Error};
@@ -62,6 +63,41 @@ pub fn asked_by<'a>(alloc: Global, words: &'a [&'a str]) -> Result<Asked<'a>, Re
         return Err(Refusal::Words);
     };
     Ok(Asked::Word(hex))
+}
+
+/// Reads the words of a program that tells states: after its own name they are those of `run`, but for --image.
+pub fn states_options_by<'a>(alloc: Global, words: &'a [&'a str]) -> Result<Options, Refusal>
+    ensures ok { IfOk result (NamesStates (texts words.entry.now)) }
+    ensures refused { result ≡ Err Refusal.Words → (options : TheOptions) → NamesStates (texts words.entry.now) options → ⊥ }
+{
+    let Ok(run) = words_of_run(alloc, words) else {
+        return Err(Refusal::Memory);
+    };
+    match asked_by(alloc, &run) {
+        Ok(Asked::Run(options)) => without_image(options),
+        Ok(Asked::Word(_)) => Err(Refusal::Words),
+        Err(refusal) => Err(refusal),
+    }
+}
+
+// The options, where they ask for no image.
+fn without_image(options: Options) -> Result<Options, Refusal>
+    ensures ok { IfOk result (λ same. (same ≡ options) × (same.image ≡ false)) }
+    ensures err { IfErr result (λ refusal. options.image ≡ true) }
+{
+    if options.image {
+        return Err(Refusal::Words);
+    }
+    Ok(options)
+}
+
+// The words with `heap_tool run` in place of the first.
+fn words_of_run<'a>(alloc: Global, words: &'a [&'a str]) -> Result<Vec<&'a str>, AllocError>
+    ensures { IfOk result (λ run. texts run.items ≡ with_run (texts words.entry.now)) }
+{
+    let mut run = vec![in alloc; "heap_tool", "run"]?;
+    run.extend_from_slice(words.get(1..).unwrap_or(&[]))?;
+    Ok(run)
 }
 
 // The options of `run`, whose matches have both numbers.

@@ -6,5 +6,5 @@ mod process;
 #[cfg(test)]
 mod tests;
 
-pub use crate::asked::{Asked, Options, Refusal, asked_by};
+pub use crate::asked::{Asked, Options, Refusal, asked_by, states_options_by};
 pub use crate::process::arguments;

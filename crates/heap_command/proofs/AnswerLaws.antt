@@ -1,7 +1,5 @@
 -- What the words ask for, and what that answers.
-use Rattle.std.proofs.Common.{◌≡◌, ◌≢◌, ◌∙◌, ℕ, ap, ap₂, sym, subst, List, ◌++◌, Option, Result, Ok, Err, IfOk, IfErr, refl, arith}
-use Rattle.std.proofs.KnownBytes.{Appends-nil}
-use Rattle.std.specs.Io.KnownBytes.{Appends}
+use Rattle.std.proofs.Common.{◌≡◌, ◌≢◌, ◌∙◌, ℕ, ap, ap₂, sym, subst, List, ◌++◌, Option, Result, Ok, Err, IfOk, IfErr, refl}
 use Rattle.cap_codec.specs.declared.word.Word.{Word}
 use Rattle.command_line.specs.declared.asked.Options.{Options}
 use Rattle.command_line.specs.declared.asked.Refusal.{Refusal}
@@ -14,10 +12,11 @@ use Rattle.heap_trace.specs.Image.{image_of}
 use Rattle.heap_trace.specs.Outcome.{IsOutcome}
 use Rattle.heap_trace.specs.Reading.{Script, trace_of}
 use Rattle.heap_trace.specs.Report.{report_text}
-use Rattle.heap_command.specs.declared.program.Answer.{Answer}
-use Rattle.heap_command.specs.Answer.{BeginsAnswer, HasAnswered, IsAnswer, IsRunAnswer, image_shown, lacks_memory, most_read, names_fault, refusal_line, refusal_status, refuses, reports, shows_run, shows_word, status_of, text_of}
-use Rattle.heap_command.specs.Device.{AppendsBeginning, ReadsUpTo}
-use Rattle.heap_command.specs.Text.{line_of_fault, memory_line, word_line}
+use Rattle.trace_program.specs.declared.answer.Answer.{Answer}
+use Rattle.trace_program.specs.Answer.{line_of_fault, refusal_line, refusal_status, status_of, text_of}
+use Rattle.trace_program.specs.Device.{ReadsUpTo, most_read}
+use Rattle.heap_command.specs.Answer.{IsAnswer, IsRunAnswer, image_shown, lacks_memory, names_fault, refuses, reports, shows_run, shows_word}
+use Rattle.heap_command.specs.Text.{usage_line, word_line}
 use Rattle.heap_command.specs.Words.{AskForNothing, IsTextOf}
 
 -- ---- words
@@ -62,20 +61,20 @@ IsRunAnswer-status input options (Err refusal) is = tt
 
 -- A refusal answers words that ask for nothing, if it is the words that are refused.
 IsAnswer-refused : (words : List Text) (unread left : Option (List ℕ)) (refusal : Refusal) → (refusal ≡ Words → AskForNothing words)
-    → IsAnswer words unread left (refusal_status refusal) (refusal_line refusal)
+    → IsAnswer words unread left (refusal_status refusal) (refusal_line usage_line refusal)
 IsAnswer-refused words unread left Memory h = lacks_memory
 IsAnswer-refused words unread left Words h = refuses (h refl)
 
 -- A refusal answers words that name nothing.
 pub IsAnswer-refusal : (words : List Text) (unread left : Option (List ℕ)) (refusal : Refusal) → (refusal ≡ Words → NamesNothing words)
-    → IsAnswer words unread left (refusal_status refusal) (refusal_line refusal)
+    → IsAnswer words unread left (refusal_status refusal) (refusal_line usage_line refusal)
 IsAnswer-refusal words unread left refusal h =
     IsAnswer-refused words unread left refusal (λ e. record { run = (h e).run; word = λ w asks. (h e).word asks.hex asks.named })
 
 -- What is answered for the text that the words name answers the words.
 pub IsAnswer-word : (words : List Text) (unread left : Option (List ℕ)) (hex : Text) (r : Result Answer Refusal) → NamesWord words hex
     → IfOk r (λ answer. answer.status ≡ 0) → IfOk r (λ answer. (w : Word) × IsTextOf hex w × (answer.text.items ≡ word_line w))
-    → (r ≡ Err Words → (w : Word) → IsTextOf hex w → ⊥) → IsAnswer words unread left (status_of r) (text_of r)
+    → (r ≡ Err Words → (w : Word) → IsTextOf hex w → ⊥) → IsAnswer words unread left (status_of r) (text_of usage_line r)
 IsAnswer-word words unread left hex (Ok answer) named status (w, is, line) none =
     let shows : IsAnswer words unread left 0 (word_line w) = shows_word w (record { hex = hex; named = named; text = is }) in
     subst (λ n. IsAnswer words unread left n answer.text.items) (sym status) (subst (IsAnswer words unread left 0) (sym line) shows)
@@ -84,21 +83,7 @@ IsAnswer-word words unread left hex (Err refusal) named status is none =
 
 -- What is answered for the bytes read answers the words that name `run`.
 pub IsAnswer-run : (words : List Text) (unread left : Option (List ℕ)) (input : List ℕ) (options : Options) (r : Result Answer Refusal) → NamesRun words options → ReadsUpTo most_read unread left input
-    → IfOk r (λ answer. IsRunAnswer input options answer.status answer.text.items) → IfErr r (λ refusal. refusal ≡ Memory) → IsAnswer words unread left (status_of r) (text_of r)
+    → IfOk r (λ answer. IsRunAnswer input options answer.status answer.text.items) → IfErr r (λ refusal. refusal ≡ Memory) → IsAnswer words unread left (status_of r) (text_of usage_line r)
 IsAnswer-run words unread left input options (Ok answer) named reads is memory = shows_run input options _ _ named reads is
 IsAnswer-run words unread left input options (Err Memory) named reads is memory = lacks_memory
 IsAnswer-run words unread left input options (Err Words) named reads is memory = absurd cc
-
--- An answer that was written whole.
-pub HasAnswered-told : (words : List Text) (unread left : Option (List ℕ)) (status said : ℕ) (text : List ℕ) (old new : Option (List ℕ)) → IsAnswer words unread left said text
-    → (status ≡ said) × Appends old new text → HasAnswered words unread left status old new
-HasAnswered-told words unread left status said text old new is (same, written) = record { text = text; is = subst (λ n. IsAnswer words unread left n text) (sym same) is; written = written }
-
--- An answer of which a beginning was written.
-pub BeginsAnswer-told : (words : List Text) (unread left : Option (List ℕ)) (said : ℕ) (text : List ℕ) (old new : Option (List ℕ)) → IsAnswer words unread left said text
-    → AppendsBeginning old new text → BeginsAnswer words unread left old new
-BeginsAnswer-told words unread left said text old new is begun = record { status = said; text = text; is = is; begun = begun }
-
--- Where nothing was written.
-pub BeginsAnswer-unwritten : (words : List Text) (unread left same : Option (List ℕ)) → BeginsAnswer words unread left same same
-BeginsAnswer-unwritten words unread left same = record { status = 1; text = memory_line; is = lacks_memory; begun = (0, omega arith, Appends-nil same) }

@@ -1,3 +1,1 @@
 mod AnswerLaws
-mod ReadLemmas
-mod SendLemmas

@@ -1,41 +1,19 @@
 -- What the program answers: its exit status, and what it writes with it.
-use Rattle.std.specs.Prelude.{◌≡◌, ◌+◌, ℕ, List, [], ◌++◌, Option, Result, Ok, Err, map, if◌then◌else◌}
-use Rattle.std.specs.Io.KnownBytes.{Appends}
+use Rattle.std.specs.Prelude.{◌≡◌, ℕ, List, [], ◌++◌, Option, Ok, Err, map, if◌then◌else◌}
 use Rattle.cap_codec.specs.declared.word.Word.{Word}
 use Rattle.command_line.specs.declared.asked.Options.{Options}
-use Rattle.command_line.specs.declared.asked.Refusal.{Refusal}
-use Rattle.command_line.specs.declared.asked.Refusal.TheVariants.{Memory, Words}
 use Rattle.command_line.specs.Words.{NamesRun, Text}
 use Rattle.trace_text.specs.declared.fault.TraceFault.{TraceFault}
 use Rattle.heap_reply.specs.declared.reply.Reply.{Reply}
-use Rattle.heap_trace.specs.Lines.{longest_text}
 use Rattle.heap_trace.specs.Reading.{Script, trace_of}
 use Rattle.heap_trace.specs.Report.{report_text}
 use Rattle.heap_trace.specs.Run.{Run}
 use Rattle.heap_trace.specs.Image.{image_of}
 use Rattle.heap_trace.specs.State.{State, first_state}
-use Rattle.heap_command.specs.declared.program.Answer.{Answer}
-use Rattle.heap_command.specs.Device.{AppendsBeginning, ReadsUpTo}
-use Rattle.heap_command.specs.Text.{line_of_fault, memory_line, usage_line, word_line}
+use Rattle.trace_program.specs.Answer.{line_of_fault, memory_line}
+use Rattle.trace_program.specs.Device.{ReadsUpTo, most_read}
+use Rattle.heap_command.specs.Text.{usage_line, word_line}
 use Rattle.heap_command.specs.Words.{AskForNothing, AsksForLineOf}
-
--- The status of a refusal, and its line.
-abbrev pub refusal_status : Refusal → ℕ
-refusal_status Memory = 1
-refusal_status Words = 2
-
-abbrev pub refusal_line : Refusal → List ℕ
-refusal_line Memory = memory_line
-refusal_line Words = usage_line
-
--- The status and the text of what was answered.
-abbrev pub status_of : Result Answer Refusal → ℕ
-status_of (Ok answer) = answer.status
-status_of (Err refusal) = refusal_status refusal
-
-abbrev pub text_of : Result Answer Refusal → List ℕ
-text_of (Ok answer) = answer.text.items
-text_of (Err refusal) = refusal_line refusal
 
 -- An image, where it is asked for.
 abbrev pub image_shown : Options → List ℕ → List ℕ
@@ -50,10 +28,6 @@ pub data IsRunAnswer (input : List ℕ) (options : Options) : ℕ → List ℕ �
       → IsRunAnswer input options 0 (report_text script.commands replies last ++ image_shown options (image_of last.heap.base last.cells))
   names_fault : (fault : TraceFault) → trace_of input ≡ Err fault → IsRunAnswer input options 3 (line_of_fault fault)
 
--- The most bytes that are read: one more than a trace has.
-abbrev pub most_read : ℕ
-most_read = longest_text + 1
-
 -- The text that goes with a status below 4, for these words and a reader whose known bytes were unread and
 -- are left now.
 pub data IsAnswer (words : List Text) (unread left : Option (List ℕ)) : ℕ → List ℕ → Type 0 where
@@ -62,16 +36,3 @@ pub data IsAnswer (words : List Text) (unread left : Option (List ℕ)) : ℕ �
       → IsRunAnswer input options status text → IsAnswer words unread left status text
   lacks_memory : IsAnswer words unread left 1 memory_line
   refuses : AskForNothing words → IsAnswer words unread left 2 usage_line
-
--- The known bytes of a sink grew by the text of this status.
-pub record HasAnswered (words : List Text) (unread left : Option (List ℕ)) (status : ℕ) (old new : Option (List ℕ)) : Type 0 where
-  pub text : List ℕ
-  pub is : IsAnswer words unread left status text
-  pub written : Appends old new text
-
--- The known bytes of a sink grew by a beginning of the text of some status.
-pub record BeginsAnswer (words : List Text) (unread left : Option (List ℕ)) (old new : Option (List ℕ)) : Type 0 where
-  pub status : ℕ
-  pub text : List ℕ
-  pub is : IsAnswer words unread left status text
-  pub begun : AppendsBeginning old new text

@@ -1,4 +1,3 @@
 pub mod Answer
-pub mod Device
 pub mod Text
 pub mod Words

@@ -9,8 +9,6 @@ use Rattle.cap_codec.specs.Fields.{fields_of}
 use Rattle.cap_codec.specs.Words.{bounds_in}
 use Rattle.cap_codec.specs.Mantissas.{exponent_of}
 use Rattle.heap_trace.specs.Display.{bit_text, hexadecimal_text, place_text}
-use Rattle.trace_text.specs.declared.fault.TraceFault.{TraceFault}
-use Rattle.trace_text.specs.Fault.{fault_text}
 
 -- What a word with these fields allows, and its type.
 abbrev pub rights_text : Fields → List ℕ
@@ -33,14 +31,6 @@ line_with f bounds exponent =
 -- The line of a word: its fields, and the bounds and the exponent that they encode.
 abbrev pub word_line : Word → List ℕ
 word_line w = line_with (fields_of w) (bounds_in w) (exponent_of (fields_of w))
-
--- What is written where memory runs out.
-abbrev pub memory_line : List ℕ
-memory_line = codes "fault memory\n"
-
--- What is written of a text that is no trace. Its fault is never want of memory.
-abbrev pub line_of_fault : TraceFault → List ℕ
-line_of_fault fault = concat (codes "fault " ∷ fault_text fault ∷ codes "\n" ∷ [])
 
 -- What is written where the words are refused.
 abbrev pub usage_line : List ℕ

@@ -1,10 +1,10 @@
 //! The lines that the program writes.
 
 ghost use Rattle.std.specs.Prelude.{◌≡◌, IfOk, Some, string_bytes};
-ghost use Rattle.heap_command.specs.Text.{encoding_text, line_of_fault, rights_text, word_line};
+ghost use Rattle.heap_command.specs.Text.{encoding_text, rights_text, word_line};
 
 use cap_codec::{Fields, Word, bounds, exponent, fields};
-use heap_trace::{Place, TraceFault, bit};
+use heap_trace::{Place, bit};
 use std::alloc::{AllocError, Global};
 use std::fmt;
 
@@ -66,11 +66,4 @@ pub fn line_of(alloc: Global, w: Word) -> Result<String, AllocError>
         exponent: exponent(w),
     };
     format!(in alloc; "{place} {rights} {encoding}\n")
-}
-
-/// The line that names the fault of a text that is no trace.
-pub fn fault_line(alloc: Global, fault: &TraceFault) -> Result<String, AllocError>
-    ensures { IfOk result (λ text. string_bytes text ≡ line_of_fault fault.now) }
-{
-    format!(in alloc; "fault {fault}\n")
 }

@@ -1,37 +1,29 @@
 //! The program over any devices.
 
-ghost use Rattle.std.specs.Prelude.{◌≡◌, ◌≢◌, ◌↔◌, ◌||◌, ◌++◌, IfErr, IfOk, Ok, false, length, string_bytes, true};
+ghost use Rattle.std.specs.Prelude.{◌≡◌, ◌≢◌, ◌↔◌, ◌||◌, ◌++◌, IfErr, IfOk, false, true};
 ghost use Rattle.std.specs.Io.KnownBytes.{Appends};
 ghost use Rattle.cap_codec.specs.declared.word.Word.{Word};
 ghost use Rattle.command_line.specs.declared.asked.Options.{Options as TheOptions};
 ghost use Rattle.command_line.specs.Words.{AreWithinLimits, NamesRun, texts};
 ghost use Rattle.heap_trace.specs.Image.{image_of};
-ghost use Rattle.heap_command.specs.Answer.{BeginsAnswer, HasAnswered, IsRunAnswer, image_shown, most_read, refusal_line, refusal_status, status_of, text_of};
-ghost use Rattle.heap_command.specs.Device.{AppendsBeginning, ReadsFew};
-ghost use Rattle.heap_command.specs.Text.{line_of_fault, word_line};
+ghost use Rattle.trace_program.specs.Answer.{BeginsAnswer, HasAnswered, refusal_line, refusal_status};
+ghost use Rattle.trace_program.specs.Device.{AppendsBeginning, ReadsFew, most_read};
+ghost use Rattle.heap_command.specs.Answer.{IsAnswer, IsRunAnswer, image_shown};
+ghost use Rattle.heap_command.specs.Text.{usage_line, word_line};
 ghost use Rattle.heap_command.specs.Words.{IsTextOf};
 
-use crate::devices::{Failed, ReadFault, Sink, Source, read_text, send};
-use crate::lines::{fault_line, line_of};
+use crate::lines::line_of;
 use cap_codec::from_bytes;
 use command_line::{Asked, Options, Refusal, asked_by};
-use heap_trace::{Outcome, RunFault, TraceFault, image_text, run};
+use heap_trace::{Outcome, RunFault, image_text, run};
 use hex::FromHex;
 use std::alloc::{AllocError, Global};
 use std::thread::Threads;
 use sweep_pool::Cutting;
-
-const MEMORY: &[u8] = b"fault memory\n";
+use trace_program::{Answer, ReadFault, Sink, Source, fault_answer, read_text, tell};
 
 const USAGE: &[u8] =
     b"usage: heap_tool run [--workers N] [--cut N] [--image] or heap_tool word HEX\n";
-
-/// What is written, and the exit status that goes with it.
-#[derive(Drop)]
-pub struct Answer {
-    pub status: u8,
-    pub text: Vec<u8>,
-}
 
 /// Runs the program on these words, of which the first is its name, and answers the exit status: 0
 /// where it is done, 1 for want of memory, 2 where the words are refused, 3 where the trace is faulty,
@@ -46,9 +38,9 @@ pub fn tool<'a, R: Threads + Sync, I: Source, O: Sink>(
 ) -> u8
     requires reader { I.failed reader.old ≡ false }
     requires writer { O.failed writer.old ≡ false }
-    ensures whole { result ≢ 4 → HasAnswered (texts words.entry.now) (I.remaining reader.old) (I.remaining reader.new)
+    ensures whole { result ≢ 4 → HasAnswered (IsAnswer (texts words.entry.now) (I.remaining reader.old) (I.remaining reader.new))
         result (O.contents writer.old) (O.contents writer.new) }
-    ensures part { result ≡ 4 → BeginsAnswer (texts words.entry.now) (I.remaining reader.old) (I.remaining reader.new)
+    ensures part { result ≡ 4 → BeginsAnswer (IsAnswer (texts words.entry.now) (I.remaining reader.old) (I.remaining reader.new))
         (O.contents writer.old) (O.contents writer.new) }
     ensures failed { (result ≡ 4) ↔ ((I.failed reader.new || O.failed writer.new) ≡ true) }
     ensures consumed { ReadsFew most_read 0 (I.remaining reader.old) (I.remaining reader.new) }
@@ -57,9 +49,9 @@ pub fn tool<'a, R: Threads + Sync, I: Source, O: Sink>(
     ensures unwritten { I.failed reader.new ≡ true → writer.new ≡ writer.old }
 {
     match asked_by(alloc, words) {
-        Ok(Asked::Word(hex)) => tell(writer, word_answer(alloc, hex)),
+        Ok(Asked::Word(hex)) => tell(writer, word_answer(alloc, hex), USAGE),
         Ok(Asked::Run(options)) => match read_text(alloc, reader) {
-            Ok(text) => tell(writer, run_answer(rt, alloc, &text, options)),
+            Ok(text) => tell(writer, run_answer(rt, alloc, &text, options), USAGE),
             Err(ReadFault::Memory) => refuse(writer, Refusal::Memory),
             Err(ReadFault::Failed) => 4,
         },
@@ -67,45 +59,14 @@ pub fn tool<'a, R: Threads + Sync, I: Source, O: Sink>(
     }
 }
 
-// Writes what was answered, and answers its status, or 4 where a write failed.
-fn tell<O: Sink>(writer: &mut O, answered: Result<Answer, Refusal>) -> u8
-    requires writer { O.failed writer.old ≡ false }
-    requires status { IfOk answered (λ answer. answer.status ≢ 4) }
-    ensures whole { result ≢ 4 → (result ≡ status_of answered) × Appends (O.contents writer.old) (O.contents writer.new) (text_of answered) }
-    ensures part { result ≡ 4 → AppendsBeginning (O.contents writer.old) (O.contents writer.new) (text_of answered) }
-    ensures failed { (result ≡ 4) ↔ (O.failed writer.new ≡ true) }
-{
-    match answered {
-        Ok(answer) => finish(writer, &answer.text, answer.status),
-        Err(refusal) => refuse(writer, refusal),
-    }
-}
-
 /// Writes the line of a refusal, and answers its status, or 4 where a write failed.
 pub fn refuse<O: Sink>(writer: &mut O, refusal: Refusal) -> u8
     requires { O.failed writer.old ≡ false }
-    ensures whole { result ≢ 4 → (result ≡ refusal_status refusal) × Appends (O.contents writer.old) (O.contents writer.new) (refusal_line refusal) }
-    ensures part { result ≡ 4 → AppendsBeginning (O.contents writer.old) (O.contents writer.new) (refusal_line refusal) }
+    ensures whole { result ≢ 4 → (result ≡ refusal_status refusal) × Appends (O.contents writer.old) (O.contents writer.new) (refusal_line usage_line refusal) }
+    ensures part { result ≡ 4 → AppendsBeginning (O.contents writer.old) (O.contents writer.new) (refusal_line usage_line refusal) }
     ensures failed { (result ≡ 4) ↔ (O.failed writer.new ≡ true) }
 {
-    match refusal {
-        Refusal::Memory => finish(writer, MEMORY, 1),
-        Refusal::Words => finish(writer, USAGE, 2),
-    }
-}
-
-// Writes the text, and answers the status, or 4 where a write failed.
-fn finish<O: Sink>(writer: &mut O, text: &[u8], status: u8) -> u8
-    requires writer { O.failed writer.old ≡ false }
-    requires status { status ≢ 4 }
-    ensures whole { result ≢ 4 → (result ≡ status) × Appends (O.contents writer.old) (O.contents writer.new) text.now }
-    ensures part { result ≡ 4 → AppendsBeginning (O.contents writer.old) (O.contents writer.new) text.now }
-    ensures failed { (result ≡ 4) ↔ (O.failed writer.new ≡ true) }
-{
-    match send(writer, text) {
-        Ok(()) => status,
-        Err(Failed) => 4,
-    }
+    trace_program::refuse(writer, refusal, USAGE)
 }
 
 // The line of the word that this text is.
@@ -168,18 +129,4 @@ fn cutting_of(options: Options) -> Cutting
     ensures { result ≡ record { workers = options.workers; pages_per_task = options.pages_per_task } }
 {
     Cutting::new(options.workers, options.pages_per_task).unwrap()
-}
-
-// The line of the fault of a text that is no trace.
-fn fault_answer(alloc: Global, fault: &TraceFault) -> Result<Answer, Refusal>
-    ensures ok { IfOk result (λ answer. (answer.status ≡ 3) × (answer.text.items ≡ line_of_fault fault.now)) }
-    ensures err { IfErr result (λ refusal. refusal ≡ Refusal.Memory) }
-{
-    match fault_line(alloc, fault) {
-        Ok(line) => Ok(Answer {
-            status: 3,
-            text: line.into_bytes(),
-        }),
-        Err(AllocError) => Err(Refusal::Memory),
-    }
 }

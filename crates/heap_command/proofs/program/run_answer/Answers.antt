@@ -1,6 +1,6 @@
 use Rattle.std.proofs.Common.{◌≡◌, Err, IfOk, subst}
 use Rattle.heap_trace.specs.Outcome.{Answers}
-use Rattle.heap_command.specs.Text.{line_of_fault}
+use Rattle.trace_program.specs.Answer.{line_of_fault}
 use Rattle.heap_command.proofs.AnswerLaws.{IsRunAnswer-fault, IsRunAnswer-report}
 use Rattle.heap_command.proofs.program.run_answer.Goals as goal
 

@@ -1,4 +1,0 @@
-use Rattle.heap_command.proofs.program.refuse.Goals as goal
-
-pub returns-in-Words-clause-part : goal.returns-in-Words-clause-part
-returns-in-Words-clause-part g c = λ e. rw c.in-Words.is (c.finish-in-Words.ensures.part e)

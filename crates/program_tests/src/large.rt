@@ -1,0 +1,67 @@
+//! Texts of megabytes, through the wrappers of the standard library's devices.
+
+use trace_program::{FromRead, FromWrite};
+use heap_command::tool;
+use std::alloc::{AllocError, Global};
+use std::thread::Threads;
+
+const HEAP: &[u8] = b"heap 0x40000000 1\n";
+
+const END: &[u8] = b"end live 0 held 0 free 4096 tags 0\n";
+
+// What the program writes for this text, after its status.
+fn answer<R: Threads + Sync>(rt: &R, alloc: Global, text: &[u8]) -> (u8, Vec<u8>) {
+    let mut taken = Vec::new(alloc);
+    let mut reader = FromRead::new(text);
+    let mut writer = FromWrite::new(&mut taken);
+    let status = tool(rt, alloc, &["heap_tool", "run"], &mut reader, &mut writer);
+    drop(writer);
+    (status, taken)
+}
+
+#[test]
+fn a_trace_has_4194304_bytes_at_most(rt: HostRuntime) {
+    let mut text = Vec::from_slice(rt.alloc(), HEAP).expect(&rt, "there is memory");
+    text.push(b'#').expect(&rt, "there is memory");
+    text.resize(4_194_304, b'x').expect(&rt, "there is memory");
+    let (status, report) = answer(&rt, rt.alloc(), &text);
+    assert_eq!(rt; status, 0);
+    assert_eq!(rt; report.as_slice(), END);
+    text.push(b'x').expect(&rt, "there is memory");
+    let (status, report) = answer(&rt, rt.alloc(), &text);
+    assert_eq!(rt; status, 3);
+    assert_eq!(rt; report.as_slice(), b"fault too-long\n".as_slice());
+}
+
+// A trace that shows register 0 in lines 2 to 40,001.
+fn shows(alloc: Global) -> Result<Vec<u8>, AllocError> {
+    let mut text = Vec::from_slice(alloc, HEAP)?;
+    for _ in 0..40_000 {
+        text.extend_from_slice(b"show c0\n")?;
+    }
+    Ok(text)
+}
+
+// Whether this is the report of that trace.
+fn is_report(alloc: Global, report: &[u8]) -> Result<bool, AllocError> {
+    let mut rest = report;
+    for number in 2..40_002 {
+        let line = format!(in alloc;
+            "{number} show tag 0 address 0x0 base 0x0 top 0x10000000000000000 perms 0x0 type 0x3ffff exponent 52\n"
+        )?;
+        match rest.strip_prefix(line.as_bytes()) {
+            Some(after) => rest = after,
+            None => return Ok(false),
+        }
+    }
+    Ok(rest == END)
+}
+
+#[test]
+fn a_report_of_megabytes_is_written_whole(rt: HostRuntime) {
+    let text = shows(rt.alloc()).expect(&rt, "there is memory");
+    let (status, report) = answer(&rt, rt.alloc(), &text);
+    assert_eq!(rt; status, 0);
+    assert!(rt; report.len() > 3_000_000);
+    assert!(rt; is_report(rt.alloc(), &report).expect(&rt, "there is memory"));
+}

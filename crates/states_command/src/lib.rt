@@ -1,0 +1,8 @@
+//! The program that tells states, over any devices: words and bytes in, an exit status and lines of JSON out.
+#![tactic(auto)]
+
+mod program;
+
+pub use crate::program::{refuse, states_tool};
+pub use command_line::{Options, Refusal};
+pub use trace_program::{Failed, FromRead, FromWrite, Sink, Source};

@@ -1,0 +1,88 @@
+//! The program over any devices.
+
+ghost use Rattle.std.specs.Prelude.{◌≡◌, ◌≢◌, ◌↔◌, ◌||◌, IfErr, IfOk, false, true};
+ghost use Rattle.std.specs.Io.KnownBytes.{Appends};
+ghost use Rattle.command_line.specs.declared.asked.Options.{Options as TheOptions};
+ghost use Rattle.command_line.specs.Words.{AreWithinLimits, NamesStates, texts};
+ghost use Rattle.trace_program.specs.Answer.{BeginsAnswer, HasAnswered, refusal_line, refusal_status};
+ghost use Rattle.trace_program.specs.Device.{AppendsBeginning, ReadsFew, most_read};
+ghost use Rattle.states_command.specs.Answer.{IsAnswer, IsStatesAnswer, usage_line};
+
+use command_line::{Options, Refusal, states_options_by};
+use heap_trace::RunFault;
+use state_text::states;
+use std::alloc::Global;
+use std::thread::Threads;
+use sweep_pool::Cutting;
+use trace_program::{Answer, ReadFault, Sink, Source, fault_answer, read_text, tell};
+
+const USAGE: &[u8] = b"usage: heap_states [--workers N] [--cut N]\n";
+
+/// Tells the states of the trace that the reader has, for these words, of which the first is the program's name, and answers
+/// the exit status: 0 where it is done, 1 for want of memory, 2 where the words are refused, 3 where the trace is faulty, and
+/// 4 where a device failed. The words are judged before the first read, and nothing is written before the last. No more than
+/// 4,194,305 bytes are read, whatever the status.
+pub fn states_tool<'a, R: Threads + Sync, I: Source, O: Sink>(
+    rt: &R,
+    alloc: Global,
+    words: &'a [&'a str],
+    reader: &mut I,
+    writer: &mut O,
+) -> u8
+    requires reader { I.failed reader.old ≡ false }
+    requires writer { O.failed writer.old ≡ false }
+    ensures whole { result ≢ 4 → HasAnswered (IsAnswer (texts words.entry.now) (I.remaining reader.old) (I.remaining reader.new))
+        result (O.contents writer.old) (O.contents writer.new) }
+    ensures part { result ≡ 4 → BeginsAnswer (IsAnswer (texts words.entry.now) (I.remaining reader.old) (I.remaining reader.new))
+        (O.contents writer.old) (O.contents writer.new) }
+    ensures failed { (result ≡ 4) ↔ ((I.failed reader.new || O.failed writer.new) ≡ true) }
+    ensures consumed { ReadsFew most_read 0 (I.remaining reader.old) (I.remaining reader.new) }
+    ensures unread { ((options : TheOptions) → NamesStates (texts words.entry.now) options → ⊥) → reader.new ≡ reader.old }
+    // Where a read failed nothing is written.
+    ensures unwritten { I.failed reader.new ≡ true → writer.new ≡ writer.old }
+{
+    match states_options_by(alloc, words) {
+        Ok(options) => match read_text(alloc, reader) {
+            Ok(text) => tell(writer, states_answer(rt, alloc, &text, options), USAGE),
+            Err(ReadFault::Memory) => refuse(writer, Refusal::Memory),
+            Err(ReadFault::Failed) => 4,
+        },
+        Err(refusal) => refuse(writer, refusal),
+    }
+}
+
+/// Writes the line of a refusal, and answers its status, or 4 where a write failed.
+pub fn refuse<O: Sink>(writer: &mut O, refusal: Refusal) -> u8
+    requires { O.failed writer.old ≡ false }
+    ensures whole { result ≢ 4 → (result ≡ refusal_status refusal) × Appends (O.contents writer.old) (O.contents writer.new) (refusal_line usage_line refusal) }
+    ensures part { result ≡ 4 → AppendsBeginning (O.contents writer.old) (O.contents writer.new) (refusal_line usage_line refusal) }
+    ensures failed { (result ≡ 4) ↔ (O.failed writer.new ≡ true) }
+{
+    trace_program::refuse(writer, refusal, USAGE)
+}
+
+// The data of the trace that this text is, or the line of its fault.
+fn states_answer<R: Threads + Sync>(
+    rt: &R,
+    alloc: Global,
+    text: &[u8],
+    options: Options,
+) -> Result<Answer, Refusal>
+    requires limits { AreWithinLimits options }
+    ensures ok { IfOk result (λ answer. IsStatesAnswer text.now answer.status answer.text.items) }
+    ensures err { IfErr result (λ refusal. refusal ≡ Refusal.Memory) }
+{
+    match states(rt, alloc, text, cutting_of(options)) {
+        Ok(text) => Ok(Answer { status: 0, text }),
+        Err(RunFault::Memory) => Err(Refusal::Memory),
+        Err(RunFault::Trace(fault)) => fault_answer(alloc, &fault),
+    }
+}
+
+// How the options cut the sweeps.
+fn cutting_of(options: Options) -> Cutting
+    requires { AreWithinLimits options }
+    ensures { result ≡ record { workers = options.workers; pages_per_task = options.pages_per_task } }
+{
+    Cutting::new(options.workers, options.pages_per_task).unwrap()
+}

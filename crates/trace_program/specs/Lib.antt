@@ -1,0 +1,3 @@
+pub mod Answer
+pub mod Device
+pub mod Laws
