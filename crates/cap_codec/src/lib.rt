@@ -12,8 +12,6 @@ mod permissions;
 pub mod plain;
 mod rounded;
 mod rounding;
-#[cfg(test)]
-mod tests;
 mod word;
 
 pub use crate::bytes::{from_bytes, to_bytes};

@@ -3,8 +3,6 @@
 
 mod asked;
 mod process;
-#[cfg(test)]
-mod tests;
 
 pub use crate::asked::{Asked, Options, Refusal, asked_by, states_options_by};
 pub use crate::process::arguments;

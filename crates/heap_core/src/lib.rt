@@ -9,8 +9,6 @@ mod painting;
 mod rows;
 mod shadow;
 mod table;
-#[cfg(test)]
-mod tests;
 
 pub use crate::block::{Block, Freed};
 pub use crate::fault::HeapFault;

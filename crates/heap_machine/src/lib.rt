@@ -5,8 +5,6 @@ mod fault;
 mod laws;
 mod machine;
 mod parts;
-#[cfg(test)]
-mod tests;
 
 pub use crate::fault::MachineFault;
 pub use crate::laws::steps;

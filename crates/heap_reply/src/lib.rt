@@ -4,8 +4,6 @@
 mod answer;
 mod display;
 mod reply;
-#[cfg(test)]
-mod tests;
 
 pub use crate::display::{Hexadecimal, Place, bit};
 pub use crate::reply::{Reply, Shown, Trap};

@@ -5,8 +5,6 @@ mod board;
 mod fault;
 mod rule;
 mod seat;
-#[cfg(test)]
-mod tests;
 
 pub use crate::board::Board;
 pub use crate::fault::BoardFault;

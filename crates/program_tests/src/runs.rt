@@ -1,11 +1,11 @@
 //! Traces that the program runs.
 
-use trace_program::{Failed, Source};
-use heap_command::tool;
 use crate::devices::{Fixed, Short, Slow};
+use heap_command::tool;
 use std::alloc::Global;
 use std::process::Abort;
 use std::thread::Threads;
+use trace_program::{Failed, Source};
 
 const WORDS: &[&str] = &["heap_tool", "run"];
 

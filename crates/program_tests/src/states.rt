@@ -1,0 +1,119 @@
+//! Traces whose states are told, words that are refused, and devices that fail.
+
+use crate::devices::{Fixed, Short, Slow};
+use states_command::states_tool;
+use std::alloc::Global;
+use std::thread::Threads;
+
+// What the program writes for these words and this text, read in pieces of so many bytes, to a writer with this room, after
+// its status.
+fn answer<R: Threads + Sync>(
+    rt: &R,
+    alloc: Global,
+    words: &[&str],
+    text: &[u8],
+    pieces: (usize, usize),
+) -> (u8, Vec<u8>) {
+    let (step, room) = pieces;
+    let mut reader = Slow {
+        rest: text,
+        step: step.max(1),
+        breaks: false,
+        has_failed: false,
+    };
+    let mut writer = Short {
+        taken: Vec::new(alloc),
+        step: 100,
+        room,
+        has_failed: false,
+    };
+    let status = states_tool(rt, alloc, words, &mut reader, &mut writer);
+    (status, writer.taken)
+}
+
+const EMPTY: &str = "{\"heap\":{\"base\":\"0x40000000\",\"pages\":1}}
+{\"end\":{\"live\":0,\"held\":0,\"free\":4096,\"tags\":0}}
+";
+
+const USAGE: &str = "usage: heap_states [--workers N] [--cut N]\n";
+
+#[test]
+fn words_are_judged(rt: HostRuntime) {
+    let rows: [(&[&str], u8, &str); 8] = [
+        (&["heap_states"], 0, EMPTY),
+        (&["heap_states", "--workers", "64", "--cut=1"], 0, EMPTY),
+        (&["heap_states", "--image"], 2, USAGE),
+        (&["heap_states", "run"], 2, USAGE),
+        (&["heap_states", "word", "00"], 2, USAGE),
+        (&["heap_states", "--workers", "65"], 2, USAGE),
+        (&["heap_states", "--help"], 2, USAGE),
+        (&[], 0, EMPTY),
+    ];
+    for (words, wanted, text) in rows {
+        let (status, told) = answer(&rt, rt.alloc(), words, b"heap 0x40000000 1", (7, 1000));
+        assert_eq!(rt; status, wanted);
+        assert_eq!(rt; told.as_slice(), text.as_bytes());
+    }
+}
+
+#[test]
+fn faults_are_named_as_by_a_run(rt: HostRuntime) {
+    let rows = [
+        ("", "fault no-heap 1\n"),
+        ("heap 0x40000001 1", "fault bad-heap 1\n"),
+        ("heap 0x40000000 1\nfrob", "fault bad-command 2\n"),
+        ("heap 0x40000000 1\n\nshow c32", "fault bad-register 3\n"),
+    ];
+    for (text, line) in rows {
+        let (status, told) = answer(
+            &rt,
+            rt.alloc(),
+            &["heap_states"],
+            text.as_bytes(),
+            (100, 1000),
+        );
+        assert_eq!(rt; status, 3);
+        assert_eq!(rt; told.as_slice(), line.as_bytes());
+    }
+}
+
+#[test]
+fn a_writer_without_room_is_status_4(rt: HostRuntime) {
+    let text = b"heap 0x40000000 1";
+    let (status, told) = answer(&rt, rt.alloc(), &["heap_states"], text, (100, 20));
+    assert_eq!(rt; status, 4);
+    assert_eq!(rt; told.as_slice(), &EMPTY.as_bytes()[..20]);
+}
+
+#[test]
+fn a_reader_that_breaks_is_status_4(rt: HostRuntime) {
+    let mut reader = Slow {
+        rest: b"heap 0x40000000 1\n",
+        step: 5,
+        breaks: true,
+        has_failed: false,
+    };
+    let mut writer = Fixed::new();
+    let status = states_tool(&rt, rt.alloc(), &["heap_states"], &mut reader, &mut writer);
+    assert_eq!(rt; status, 4);
+    assert!(rt; writer.text().is_empty());
+}
+
+// Run with each allocation refused in turn, too: the whole data, or want of memory and nothing of the data.
+#[test]
+fn a_refused_allocation_of_told_states_is_told(rt: HostRuntime) {
+    let mut reader = Slow {
+        rest: b"heap 0x40000000 1\n",
+        step: 100,
+        breaks: false,
+        has_failed: false,
+    };
+    let mut writer = Fixed::new();
+    let status = states_tool(&rt, rt.alloc(), &["heap_states"], &mut reader, &mut writer);
+    if status == 0 {
+        assert_eq!(rt; writer.text(), EMPTY.as_bytes());
+    } else {
+        assert_eq!(rt; status, 1);
+        assert_eq!(rt; writer.text(), b"fault memory\n".as_slice());
+    }
+}

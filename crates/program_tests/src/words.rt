@@ -1,7 +1,7 @@
 //! Words that the program is called with. It reads nothing for them.
 
-use heap_command::tool;
 use crate::devices::{Broken, Fixed, Short};
+use heap_command::tool;
 use std::alloc::Global;
 use std::thread::Threads;
 

@@ -11,8 +11,6 @@ mod painting;
 mod pool;
 mod sweep;
 mod task;
-#[cfg(test)]
-mod tests;
 mod workers;
 
 pub use crate::claims::sweep_next;

@@ -6,8 +6,6 @@ mod memory;
 mod pages;
 mod registers;
 mod span;
-#[cfg(test)]
-mod tests;
 
 pub use crate::bits::{WORD_GRANULES, bit, with_bit};
 pub use crate::memory::{Memory, MemoryFault, PAGE_WORDS};

@@ -5,8 +5,6 @@ mod fault;
 mod laws;
 mod line;
 mod operand;
-#[cfg(test)]
-mod tests;
 mod text;
 mod trace;
 mod words;

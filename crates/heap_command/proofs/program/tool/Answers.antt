@@ -5,7 +5,7 @@ use Rattle.trace_program.specs.Answer.{refusal_line, refusal_status, status_of, 
 use Rattle.trace_program.specs.Laws.{BeginsAnswer-told, BeginsAnswer-unwritten, HasAnswered-told}
 use Rattle.heap_command.specs.Answer.{IsAnswer, lacks_memory}
 use Rattle.heap_command.specs.Text.{usage_line}
-use Rattle.heap_command.proofs.AnswerLaws.{IsAnswer-refusal, IsAnswer-run, IsAnswer-word}
+use Rattle.heap_command.proofs.AnswerLaws.{IsAnswer-refusal, IsAnswer-run, IsAnswer-word, IsRunAnswer-status}
 use Rattle.heap_command.proofs.program.tool.Given.{Over}
 use Rattle.heap_command.proofs.program.tool.Goals as goal
 
@@ -26,6 +26,9 @@ returns-in-Ok-Word-clause-part g c = λ e. BeginsAnswer-told _ _ _ _ _ (word_is 
 
 pub run_answer-requires-clause-limits : goal.run_answer-requires-clause-limits
 run_answer-requires-clause-limits g c = λ lifetimes outlives. NamesRun-limits (texts c.args.words.now) c.in-Ok-Run.options (search rules)
+
+pub tell-requires-in-Ok-clause-status : goal.tell-requires-in-Ok-clause-status
+tell-requires-in-Ok-clause-status g c = IsRunAnswer-status _ c.in-Ok-Run.options c.run_answer.result c.run_answer.ensures.ok
 
 run_is : (g : Over) (c : goal.After-drop-text g) → IsAnswer (texts c.args.words.now) (g.I.Source.remaining c.args.reader.now) (g.I.Source.remaining c.read_text.new.reader) (status_of c.run_answer.result) (text_of usage_line c.run_answer.result)
 run_is g c =

@@ -6,6 +6,7 @@ use Rattle.trace_program.specs.Laws.{BeginsAnswer-told, BeginsAnswer-unwritten, 
 use Rattle.states_command.specs.Answer.{IsAnswer, lacks_memory, usage_line}
 use Rattle.states_command.proofs.AnswerLaws.{IsAnswer-refusal, IsAnswer-states}
 use Rattle.states_command.proofs.program.states_tool.Given.{Over}
+use Rattle.states_command.proofs.program.states_tool.Goals.{After-drop-text}
 use Rattle.states_command.proofs.program.states_tool.Goals as goal
 
 -- ---- the states of a trace
@@ -13,16 +14,16 @@ use Rattle.states_command.proofs.program.states_tool.Goals as goal
 pub states_answer-requires-clause-limits : goal.states_answer-requires-clause-limits
 states_answer-requires-clause-limits g c = λ lifetimes outlives. NamesStates-limits (texts c.args.words.now) c.in-Ok.options (search rules)
 
-states_are : (g : Over) (c : goal.After-drop-text g) → IsAnswer (texts c.args.words.now) (g.I.Source.remaining c.args.reader.now) (g.I.Source.remaining c.read_text.new.reader) (status_of c.states_answer.result) (text_of usage_line c.states_answer.result)
+states_are : (g : Over) (c : After-drop-text g) → IsAnswer (texts c.args.words.now) (g.I.Source.remaining c.args.reader.now) (g.I.Source.remaining c.read_text.new.reader) (status_of c.states_answer.result) (text_of usage_line c.states_answer.result)
 states_are g c =
     let named : NamesStates (texts c.args.words.now) c.in-Ok.options = search rules in
-    IsAnswer-states (texts c.args.words.now) _ _ c.in-Ok-2.text.items c.in-Ok.options c.states_answer.result named c.in-Ok-2.ensures.ok (search rules) c.states_answer.ensures.err
+    IsAnswer-states (texts c.args.words.now) _ _ c.in-Ok-read_text.text.items c.in-Ok.options c.states_answer.result named c.in-Ok-read_text.ensures.ok (search rules) c.states_answer.ensures.err
 
-pub returns-in-Ok-clause-whole : goal.returns-in-Ok-clause-whole
-returns-in-Ok-clause-whole g c = λ e. HasAnswered-told _ _ _ _ _ _ (states_are g c) (c.tell.ensures.whole e)
+pub returns-in-Ok-read_text-clause-whole : goal.returns-in-Ok-read_text-clause-whole
+returns-in-Ok-read_text-clause-whole g c = λ e. HasAnswered-told _ _ _ _ _ _ (states_are g c) (c.tell.ensures.whole e)
 
-pub returns-in-Ok-clause-part : goal.returns-in-Ok-clause-part
-returns-in-Ok-clause-part g c = λ e. BeginsAnswer-told _ _ _ _ _ (states_are g c) (c.tell.ensures.part e)
+pub returns-in-Ok-read_text-clause-part : goal.returns-in-Ok-read_text-clause-part
+returns-in-Ok-read_text-clause-part g c = λ e. BeginsAnswer-told _ _ _ _ _ (states_are g c) (c.tell.ensures.part e)
 
 -- ---- a text that wasn't read
 

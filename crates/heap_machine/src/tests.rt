@@ -1,6 +1,0 @@
-//! Machines, command by command.
-
-mod epochs;
-mod machine;
-mod sweeps;
-mod workers;

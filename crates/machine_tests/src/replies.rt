@@ -1,0 +1,86 @@
+//! Replies with the texts that the report gives them.
+
+use cap_codec::{Word, and_perms, block_capability};
+use heap_reply::{Reply, Shown, Trap};
+
+#[test]
+fn replies_by_their_texts(rt: HostRuntime) {
+    let block = Reply::Block {
+        base: 0x4000_0000,
+        top: 0x4000_0020,
+    };
+    let last = Reply::Block {
+        base: 0xffff_ffff_ffff_f000,
+        top: 1 << 64,
+    };
+    let after = Reply::BlockAfter {
+        base: 0x4000_0000,
+        top: 0x4000_0020,
+        cleared: 1,
+    };
+    let swept = Reply::Swept {
+        cleared: 3,
+        released: 32,
+    };
+    let texts = [
+        (block, "block 0x40000000 0x40000020"),
+        (last, "block 0xfffffffffffff000 0x10000000000000000"),
+        (after, "block 0x40000000 0x40000020 swept 1"),
+        (Reply::NoSpace, "nospace"),
+        (Reply::NoSpaceAfter { cleared: 2 }, "nospace swept 2"),
+        (Reply::Held(32), "held 32"),
+        (Reply::Done, "ok"),
+        (Reply::Cleared, "cleared"),
+        (swept, "cleared 3 released 32"),
+        (Reply::Begun { cleared: 4 }, "cleared 4"),
+    ];
+    for (reply, text) in texts {
+        let printed = format!(in rt.alloc(); "{reply}").expect(&rt, "there is memory");
+        assert_eq!(rt; printed.as_str(), text);
+    }
+}
+
+#[test]
+fn traps_by_their_names(rt: HostRuntime) {
+    let names = [
+        (Trap::Tag, "trap tag"),
+        (Trap::Perm, "trap perm"),
+        (Trap::Bounds, "trap bounds"),
+        (Trap::Align, "trap align"),
+        (Trap::Empty, "trap empty"),
+        (Trap::Inexact, "trap inexact"),
+        (Trap::Freed, "trap freed"),
+        (Trap::NotBlock, "trap notblock"),
+        (Trap::Open, "trap open"),
+        (Trap::NotOpen, "trap notopen"),
+    ];
+    for (trap, text) in names {
+        let reply = Reply::Trap(trap);
+        let printed = format!(in rt.alloc(); "{reply}").expect(&rt, "there is memory");
+        assert_eq!(rt; printed.as_str(), text);
+    }
+}
+
+#[test]
+fn registers_are_shown(rt: HostRuntime) {
+    let block = block_capability(0x4000_0000, 0x4000_0020);
+    let shown = [
+        (
+            Shown::of(Word::NULL, false),
+            "tag 0 address 0x0 base 0x0 top 0x10000000000000000 perms 0x0 type 0x3ffff exponent 52",
+        ),
+        (
+            Shown::of(block, true),
+            "tag 1 address 0x40000000 base 0x40000000 top 0x40000020 perms 0x3d type 0x3ffff exponent 0",
+        ),
+        (
+            Shown::of(and_perms(block, 0xfff7), true),
+            "tag 1 address 0x40000000 base 0x40000000 top 0x40000020 perms 0x35 type 0x3ffff exponent 0",
+        ),
+    ];
+    for (shown, text) in shown {
+        let reply = Reply::Shown(shown);
+        let printed = format!(in rt.alloc(); "{reply}").expect(&rt, "there is memory");
+        assert_eq!(rt; printed.as_str(), text);
+    }
+}

@@ -1,6 +1,0 @@
-use Rattle.std.proofs.Common.{◌≡◌}
-use Rattle.mark_board.specs.Board.{IsOf}
-use Rattle.mark_board.proofs.tests.threads.meet.Given as goal
-
-abbrev pub invariant-loop : goal.invariant-loop
-invariant-loop l = IsOf l.board l.seat × (l.seat.parts ≡ l.initial.seat.parts)

@@ -1,0 +1,12 @@
+//! Tests of words, memory, boards and heaps. They are a crate of their own, so
+//! that no crate of the product is proved once more for them.
+#![tactic(auto)]
+
+#[cfg(test)]
+mod board;
+#[cfg(test)]
+mod heap;
+#[cfg(test)]
+mod memory;
+#[cfg(test)]
+mod words;
