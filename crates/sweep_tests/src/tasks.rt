@@ -59,7 +59,7 @@ fn tasks_are_counted(rt: HostRuntime) {
     Open.pass(0);
 }
 
-const BASE: u64 = 0x4000_0000;
+pub const BASE: u64 = 0x4000_0000;
 
 // A heap of one page whose first two granules are held, and whose next two are live.
 fn held_heap(alloc: Global) -> Result<Heap, HeapFault> {
@@ -70,12 +70,12 @@ fn held_heap(alloc: Global) -> Result<Heap, HeapFault> {
     Ok(heap)
 }
 
-fn held_shadow(alloc: Global) -> Result<Shadow, HeapFault> {
+pub fn held_shadow(alloc: Global) -> Result<Shadow, HeapFault> {
     held_heap(alloc)?.shadow(alloc)
 }
 
 // A word with these bounds, counted from the heap's base, and this address.
-fn word(from: u64, to: u64, address: u64) -> Word
+pub fn word(from: u64, to: u64, address: u64) -> Word
     requires order { from ≤ to }
     requires limit { to ≤ 4096 }
     requires small { address ≤ 4096 }
