@@ -18,18 +18,23 @@ function show(before) {
   draw(false);
 }
 
-// To what the step is about: the granule or the register that it wrote, or else the register that it names.
+// What a step is about: the granule or the register that it wrote, or whose tag it took, or else the register that it names.
+function subjectOf(step) {
+  const named = step.words.slice(1).filter(word => /^c[0-9]+$/.test(word));
+  if (step.granules.length && !step.taken) return { kind: 'granule', place: step.granules[0].place };
+  if (step.registers.length) return { kind: 'register', place: step.registers[0].place };
+  if (step.taken && step.taken.rows.length) return { kind: step.taken.rows[0].kind, place: step.taken.rows[0].place };
+  if (!named.length) return null;
+  const acting = step.words[0] === 'narrow' || step.words[0] === 'loadcap' ? named[1] : named[0];
+  return { kind: 'register', place: Number(acting.slice(1)) };
+}
+
+// To what the step is about, or the last step before it that is about something.
 function follow() {
-  const step = run.steps[view.step], named = step.words.slice(1).filter(word => /^c[0-9]+$/.test(word));
+  let index = view.step;
+  while (index > 0 && !subjectOf(run.steps[index])) index--;
+  view.chosen = index > 0 ? subjectOf(run.steps[index]) : null;
   view.probe = null;
-  if (step.words[0] === 'heap') view.chosen = null;
-  else if (step.granules.length && !step.taken) view.chosen = { kind: 'granule', place: step.granules[0].place };
-  else if (step.registers.length) view.chosen = { kind: 'register', place: step.registers[0].place };
-  else if (step.taken && step.taken.rows.length) view.chosen = { kind: step.taken.rows[0].kind, place: step.taken.rows[0].place };
-  else if (named.length) {
-    const acts = step.words[0] === 'narrow' || step.words[0] === 'loadcap' ? named[1] : named[0];
-    view.chosen = { kind: 'register', place: Number(acts.slice(1)) };
-  }
 }
 
 // By hand: then the inspector stays with it, and a second time lets it go.
@@ -65,10 +70,10 @@ function drawStep() {
 }
 
 function takenTable(taken) {
-  const heads = ['Tag taken from', 'Its word’s base', 'lies in the block'].map(text => element('th', { scope: 'col' }, text));
+  const heads = ['Tag taken from', 'Its address', 'Its base', 'lies in the block'].map(text => element('th', { scope: 'col' }, text));
   const lines = taken.rows.slice(0, 200).map(row => {
     const block = reasonOf(taken, row);
-    return element('tr', {}, element('td', {}, code(row.name)), element('td', {}, code(hex(row.cell.meaning.base))),
+    return element('tr', {}, element('td', {}, code(row.name)), element('td', {}, code(hex(row.cell.meaning.address))), element('td', {}, code(hex(row.cell.meaning.base))),
       element('td', {}, block ? [code(rangeOf(block)), ', which was held'] : 'none'));
   });
   const more = taken.rows.length > 200 ? `and ${plural(taken.rows.length - 200, 'tag')} more` : taken.rows.length > 64 ? 'The map has lines for the first 64.' : null;

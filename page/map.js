@@ -51,11 +51,16 @@ function labelOf(L, block, name) {
   return shape('text', { x: x + 4, y: y + L.height - 5 }, name);
 }
 
+// The pattern over the colour; a block just set free has a faint one, since it is the reason for the tags that went.
+function overOf(name, d) {
+  const pattern = { waiting: 'waiting', painted: 'painted', released: 'waiting' }[name];
+  return pattern ? shape('path', { class: 'over', fill: `url(#${pattern}-pattern)`, d }) : null;
+}
+
 function blockShape(L, block, name) {
   const d = areaOf(L, block.start, block.end, 1.5);
   return shape('g', { class: 'block ' + name, 'data-block': block.key, 'data-state': name }, shape('path', { class: 'fill', d }),
-    name === 'waiting' || name === 'painted' ? shape('path', { class: 'over', fill: `url(#${name}-pattern)`, d }) : null,
-    labelOf(L, block, name === 'released' ? 'free' : stateName(name)));
+    overOf(name, d), labelOf(L, block, name === 'released' ? 'was held' : stateName(name)));
 }
 
 function drawBlock(block) {
@@ -122,7 +127,7 @@ function ringOf(L, place) {
   return shape('rect', { class: 'changed', x: x + 1.5, y: y + 1.5, width, height, rx: 2, 'data-changed': place });
 }
 
-// A line from each word whose tag went, a chip for a register, to its base in the block that is the reason. Answers how many chips.
+// A line from each word whose tag went, a chip for a register, to its base in the block that is the reason. Answers how many chips there are.
 function drawReasons(L, taken) {
   const shown = taken.rows.slice(0, 64), chipCount = shown.filter(row => row.kind === 'register').length;
   const top = Math.ceil(chipCount / L.chipsInRow) * CHIP.height + 38;
@@ -146,7 +151,7 @@ function drawReasons(L, taken) {
     map.layers.reasons.append(shape('path', { class: 'reason', d: `M${start}C${bend.slice(0, 2)} ${bend.slice(2)} ${end}`,
       'marker-end': 'url(#arrow)', 'data-reason': `${row.name} ${block.key}` }));
   }
-  return chips;
+  return chipCount;
 }
 
 function chipOf(row, x, y) {
@@ -215,11 +220,11 @@ function drawDetail() {
 function drawLegend() {
   const sample = (text, ...marks) => element('li', {}, shape('svg', { width: 26, height: 18, 'aria-hidden': 'true' }, ...marks), text);
   const box = name => shape('g', { class: 'block ' + name }, shape('path', { class: 'fill', d: 'M1 1H25V17H1Z' }),
-    name === 'waiting' || name === 'painted' ? shape('path', { class: 'over', fill: `url(#${name}-pattern)`, d: 'M1 1H25V17H1Z' }) : null);
+    overOf(name, 'M1 1H25V17H1Z'));
   const used = new Set(run.steps.flatMap(step => step.blocks.map(change => change.now)));
   byId('legend').replaceChildren(sample('live', box('live')), sample('held: waits in quarantine', box('waiting')),
     ...(used.has('painted') ? [sample('painted: held, and this epoch is about it', box('painted'))] : []),
-    sample('just set free', box('released')), sample('tagged', tagMark(13, 9, 6, true)), sample('tag just taken', tagMark(13, 9, 6, false)),
+    sample('was held, and is free now', box('released')), sample('tagged', tagMark(13, 9, 6, true)), sample('tag just taken', tagMark(13, 9, 6, false)),
     sample('data, no tag', shape('rect', { class: 'data', x: 9, y: 5, width: 8, height: 8 })),
     sample('changed by this step', shape('rect', { class: 'changed', x: 4, y: 2, width: 18, height: 14, rx: 2 })),
     sample('bounds of what is chosen', shape('rect', { class: 'pick', x: 3, y: 3, width: 20, height: 12 })));
