@@ -21,6 +21,7 @@ function drawList(own) {
     pieces[pieces.length - 1].append(rowOf(step, index));
   });
   const { live, held, free, tags } = run.end;
+  byId('lines').classList.toggle('long', run.steps[run.steps.length - 1].line > 999);
   byId('lines').append(...pieces, element('div', { class: 'end' }, ...notesOf(own.after),
     `At the end: ${plural(live, 'byte')} live, ${grouped(held)} held, ${grouped(free)} free, ${plural(tags, 'tag')}.`));
   byId('lines').addEventListener('click', event => {

@@ -219,7 +219,7 @@ function summarize() {
   run.written = new Set(steps.flatMap(step => step.registers.map(change => change.place)));
   run.most = most(steps, step => (step.taken ? step.taken.rows.filter(row => row.kind === 'register').length : 0));
   run.reach = most([...run.known.values()], block => block.end) || 4;
-  run.used = Math.min(run.granules, 2 ** Math.ceil(Math.log2(run.reach)));
+  run.used = Math.min(run.granules, Math.max(16, 2 ** Math.ceil(Math.log2(run.reach)))); // what the small bars show
   view.columns = run.reach > 1024 ? 64 : run.reach > 64 ? 32 : 16;
 }
 

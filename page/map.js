@@ -164,16 +164,17 @@ function drawChosen(L, meaning) {
   const layer = map.layers.chosen, end = addressOf(L.shown), inside = clippedTo(end, meaning.base, meaning.top);
   if (inside) layer.append(shape('path', { class: 'pick', d: areaOf(L, ...inside, 0), 'data-bounds': `${hex(meaning.base)} ${hex(meaning.top)}` }));
   const note = (text, x, y) => {
-    const late = x > L.right - 70;
+    const late = x > L.right - 100;
     layer.append(shape('text', { class: 'pinned', x: late ? x - 8 : x + 8, y, 'text-anchor': late ? 'end' : 'start' }, text));
   };
   const within = address => run.base <= address && address < end;
+  const isBoth = meaning.base === meaning.address;
   if (within(meaning.base)) {
     const [x, y] = spotOf(L, granulesTo(meaning.base));
     layer.append(shape('path', { class: 'pin', d: `M${x + 1} ${y + 3}l-6 -10h12Z` }));
-    note('base', x, y - 2);
+    note(isBoth ? 'base, address' : 'base', x, y - 2);
   }
-  if (within(meaning.address)) {
+  if (!isBoth && within(meaning.address)) {
     const [x, y] = spotOf(L, granulesTo(meaning.address)), low = y + L.height;
     layer.append(shape('path', { class: 'pin', d: `M${x + 1} ${low - 3}l-6 10h12Z` }));
     note('address', x, low + 11);

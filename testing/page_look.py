@@ -66,8 +66,8 @@ TIMING = r"""(async () => {
   const timed = to => { const begin = performance.now(); go(to); layout(); return performance.now() - begin; };
   const last = run.steps.length - 1, times = [], open = performance.getEntriesByType('navigation')[0].loadEventEnd;
   const blocks = Math.max(...[1, 2, 3, 4].map(part => { go(Math.floor(last * part / 4)); return state.blocks.size; }));
-  for (const by of [-1, 1]) for (let count = 0; count < 60; count++) { times.push(timed(view.step + by)); await frame(); }
-  for (let part = 1; part < 40; part++) { go(Math.floor(last * part / 40)); await frame(); times.push(timed(view.step + 1)); await frame(); }
+  for (const by of [-1, 1]) for (let count = 0; count < 30; count++) { times.push(timed(view.step + by)); await frame(); }
+  for (let part = 1; part < 20; part++) { go(Math.floor(last * part / 20)); await frame(); times.push(timed(view.step + 1)); await frame(); }
   go(last); await frame();
   const jump = timed(0);
   times.sort((one, other) => one - other);
@@ -217,7 +217,8 @@ class Expected:
         hidden = self.run.taken(index) is not None
         self.check(f"{name}: its bounds on the map", seen["bounds"],
                    f"{word.base:#x} {word.top:#x}" if not hidden and max(word.base, self.run.base) < min(word.top, end) else None)
-        pins = [] if hidden else [(pin, address) for pin, address in (("base", word.base), ("address", word.address)) if self.run.base <= address < end]
+        both = [("base, address", word.base)] if word.base == word.address else [("base", word.base), ("address", word.address)]
+        pins = [] if hidden else [(pin, address) for pin, address in both if self.run.base <= address < end]
         self.check(f"{name}: base and address on the map", [pin for pin, _ in seen["pins"]], [pin for pin, _ in pins])
         for (pin, address), (_, at) in zip(pins, seen["pins"]):
             shape, place = seen["shape"], (address - self.run.base) / 16

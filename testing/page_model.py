@@ -176,7 +176,7 @@ class Run:
             self.states.append(self.states[-1].after(value))
         self.written = sorted({entry["r"] for value in self.values for entry in value["registers"]})
         reach = max([(block[1] - self.base) // 16 for state in self.states for block in state.blocks], default=4)
-        self.used = min(256 * self.pages, 1 << (reach - 1).bit_length())
+        self.used = min(256 * self.pages, max(16, 1 << (reach - 1).bit_length()))
 
     def before(self, index):
         return self.states[max(index - 1, 0)]

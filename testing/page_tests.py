@@ -3,6 +3,7 @@
 import json
 import os
 import pathlib
+import random
 import shutil
 import subprocess
 import time
@@ -78,6 +79,9 @@ class Tests:
         for index in range(last - 1, -1, -1):
             self.browser.key(("ArrowUp", "ArrowLeft")[index % 2])
             expected.compare(f"{name} back at step {index}", index, self.look())
+        for index in random.Random(last).sample(range(last + 1), min(last + 1, 25)):
+            self.browser.run(f"document.querySelector('[data-step=\"{index}\"]').click()")
+            expected.compare(f"{name} at once at step {index}", index, self.look())
         for index in range(last + 1):
             if run.taken(index) is not None:
                 self.before_a_pass(expected, name, index)
@@ -307,7 +311,7 @@ class Tests:
     # Time
 
     def timing(self, root):
-        """A page of 5,000 commands, and the largest one: the best of three, since other work may go on beside this."""
+        """A page of 5,000 commands, and the largest one: at most three times, since other work may go on beside this."""
         for commands, most_open, most_step in ((5000, 1000, 50), (20000, 4000, 200)):
             path = self.page(root, page_model.random_trace(commands, 64, 5), f"commands_{commands}")
             best = None
@@ -315,6 +319,8 @@ class Tests:
                 self.open(path)
                 got = json.loads(self.browser.run(page_look.TIMING))
                 best = got if best is None else {name: min(best[name], got[name]) for name in got}
+                if best["open"] < most_open and best["most"] < most_step:
+                    break
             print(f"tried: a page of {grouped(commands)} commands, {path.stat().st_size / 1e6:.1f} MB, {best['blocks']} blocks: opens in {best['open']:.0f} ms, "
                   f"a step takes {best['middle']:.1f} ms, 19 of 20 at most {best['most']:.1f} ms, the whole way back {best['jump']:.0f} ms")
             self.check(f"{commands} commands open in {most_open} ms", best["open"] < most_open, True)
@@ -383,7 +389,7 @@ class Tests:
         folder.mkdir(parents=True, exist_ok=True)
         for name, lesson, step, dark, size, extra in page_look.PICTURES:
             path = self.page(self.root, (self.root / "examples" / lesson / "stdin").read_bytes(), lesson)
-            self.open(path, *size, dark=dark)
+            self.open(path, width=size[0], height=size[1], dark=dark)
             self.browser.run(f"document.querySelector('[data-step=\"{step}\"]').click(); document.activeElement.blur(); {extra}; void 0")
             self.settle()
             self.browser.picture(folder / f"{name}.png")
