@@ -37,7 +37,7 @@ function drawGrid(L) {
   }
   const every = L.width >= 12 ? 4 : 16;
   for (let column = every; column < n; column += every) {
-    grid.append(shape('text', { x: L.gutter + column * L.width, y: -6 }, '+' + (column * 16).toString(16)));
+    grid.append(shape('text', { x: L.gutter + column * L.width, y: -17 }, '+' + (column * 16).toString(16)));
   }
   if (L.shown < run.granules) grid.append(shape('text', { x: L.right, y: L.bottom + 16, class: 'row' }, `… free up to ${hex(heapEnd())}`));
 }
@@ -113,12 +113,12 @@ function drawOverlays(L) {
   }
   const chips = step.taken ? drawReasons(L, step.taken) : 0;
   const bands = Math.max(Math.ceil(chips / L.chipsInRow), run.most ? 1 : 0); // one is kept, so that the map stays in its place
-  map.top = (bands ? CHIP.height * bands + 14 : 0) + 24;
+  map.top = (bands ? CHIP.height * bands + 8 : 0) + 32;
   map.body.setAttribute('transform', `translate(0 ${map.top})`);
   const height = map.top + L.bottom + 24;
   build(map.box, { height, viewBox: `0 0 ${L.full} ${height}` }, []);
   const shown = chosenCell();
-  if (shown && !(view.follow && step.taken)) drawChosen(L, shown.cell.meaning);
+  if (shown && !(view.follow && step.taken)) drawChosen(L, shown.cell);
   placeCursor();
 }
 
@@ -130,7 +130,7 @@ function ringOf(L, place) {
 // A line from each word whose tag went, a chip for a register, to its base in the block that is the reason. Answers how many chips there are.
 function drawReasons(L, taken) {
   const shown = taken.rows.slice(0, 64), chipCount = shown.filter(row => row.kind === 'register').length;
-  const top = Math.ceil(chipCount / L.chipsInRow) * CHIP.height + 38;
+  const top = Math.ceil(chipCount / L.chipsInRow) * CHIP.height + 40;
   let chips = 0;
   for (const row of shown) {
     const block = reasonOf(taken, row);
@@ -159,10 +159,13 @@ function chipOf(row, x, y) {
     shape('text', { class: 'name', x: x + 7, y: y + 16 }, row.name), tagMark(x + 41, y + 12, 5, view.before));
 }
 
-// The bounds of the capability that is chosen, with its base and its address.
-function drawChosen(L, meaning) {
+// The bounds of the word that is chosen, with its base and its address: broken lines where it has no tag.
+function drawChosen(L, { tag, meaning }) {
   const layer = map.layers.chosen, end = addressOf(L.shown), inside = clippedTo(end, meaning.base, meaning.top);
-  if (inside) layer.append(shape('path', { class: 'pick', d: areaOf(L, ...inside, 0), 'data-bounds': `${hex(meaning.base)} ${hex(meaning.top)}` }));
+  if (inside) {
+    const told = `${hex(meaning.base)} ${hex(meaning.top)}`;
+    layer.append(shape('path', { class: tag ? 'pick' : 'pick off', d: areaOf(L, ...inside, 0), 'data-bounds': told }));
+  }
   const note = (text, x, y) => {
     const late = x > L.right - 100;
     layer.append(shape('text', { class: 'pinned', x: late ? x - 8 : x + 8, y, 'text-anchor': late ? 'end' : 'start' }, text));
@@ -202,12 +205,17 @@ function placeOfBase(base) {
   return isInHeap(base) ? 'in free bytes' : 'outside of the heap';
 }
 
+function aboutChosen() {
+  const shown = chosenCell();
+  if (!shown || shown.cell.isNull) return [];
+  const { base } = shown.cell.meaning, name = element('b', {}, shown.name);
+  return shown.cell.tag ? [name, `: the base ${hex(base)} lies ${placeOfBase(base)}. `] : [name, ' has no tag: 16 bytes of data. '];
+}
+
 function drawDetail() {
   const box = byId('detail'), place = view.cursor;
   if (place === null) {
-    const shown = chosenCell(), { base } = shown ? shown.cell.meaning : {};
-    const about = shown && !shown.cell.isNull ? [element('b', {}, shown.name), `: the base ${hex(base)} lies ${placeOfBase(base)}. `] : [];
-    box.replaceChildren(...about, element('span', { class: 'muted' }, 'Point at a granule, or go there by the arrow keys, to see what it holds.'));
+    box.replaceChildren(...aboutChosen(), element('span', { class: 'muted' }, 'Point at a granule, or go there by the arrow keys, to see what it holds.'));
     return;
   }
   const cell = state.granules[place], block = state.owners[place], { meaning } = cell;

@@ -47,13 +47,16 @@ const sentences = {
   storecap(step, [, authority, source]) {
     const { tag } = registerCell(source);
     return ['The granule where ', code(authority), ' points gets the bits of ', code(source), tag ? ' and its tag.' : ', which has no tag.',
-      tag && step.open ? ' An epoch is open: the page is dirty now, and its end will look there.' : ''];
+      tag && step.open ? ' An epoch is open: the page is dirty now, and its end will look there.' : '', ...stale(authority)];
   },
 
-  loadcap: (step, [, target, authority]) => lost(target) || [code(target), ' gets the bits of the granule where ', code(authority),
-    ' pointed', registerCell(target).tag ? ', and its tag.' : '; it has no tag.'],
+  loadcap(step, [, target, authority]) {
+    const gets = [code(target), ' gets the bits of the granule where ', code(authority), ' pointed',
+      registerCell(target).tag ? ', and its tag.' : '; it has no tag.'];
+    return [...(lost(target) || gets), ...(target === authority ? [] : stale(authority))];
+  },
 
-  write: (step, [, authority]) => ['The granule where ', code(authority), ' points gets 16 bytes of data. Data has no tag.'],
+  write: (step, [, authority]) => ['The granule where ', code(authority), ' points gets 16 bytes of data, and no tag.', ...stale(authority)],
 
   show: (step, [, source]) => [code(source), registerCell(source).tag ? ' is shown. It is tagged.' : ' is shown. It has no tag.', ' Nothing changes.'],
 
@@ -69,6 +72,13 @@ const sentences = {
 
 // Of the state after the step.
 const registerCell = name => state.registers[Number(name.slice(1))] || NULL_CELL;
+
+// Said where an access went to a held block: that is the point of a quarantine.
+function stale(authority) {
+  const { tag, meaning } = registerCell(authority), block = ownerOf(meaning.base);
+  return tag && block && block.state !== 'live' ? [' The block is held: ', code(authority), ' is stale, and still works, but nobody else has these bytes.'] : [];
+}
+
 const lost = target => (target === 'c0' ? [code('c0'), ' stays null: what is written to it is lost.'] : null);
 
 function explain(step) {

@@ -29,6 +29,7 @@ LOOK = r"""(() => {
     chips: all('#map [data-taken]').map(node => [node.dataset.taken, box(node.querySelector('rect')), node.querySelector('path').getAttribute('class')]),
     taken: all('#taken tbody tr').map(line => [...line.cells].map(text)), shape: { ...map.shape, columns: view.columns, top: map.top },
     bounds: document.querySelector('#map [data-bounds]')?.dataset.bounds ?? null,
+    broken: document.querySelector('#map [data-bounds]')?.classList.contains('off') ?? null,
     pins: all('#map .pinned').map((node, index) => [text(node), middle(all('#map .pin')[index])]),
     shown: text(document.querySelector('#shown')), meaning: all('.meaning tr').map(line => [...line.cells].map(text)),
     steps: all('.steps li').map(text).join(' '), fields: all('.fields code').map(text), bytes: all('#word p code').map(text),
@@ -106,7 +107,7 @@ class Expected:
         check(f"{name}: the row is in view", seen["inView"], True)
         check(f"{name}: the step", [seen["command"], seen["count"], seen["slider"]],
               [text + (f" → {value['reply']}" if value["reply"] else ""), f"step {grouped(index)} of {grouped(len(run.values) - 1)}", str(index)])
-        self.compare_sentence(name, value, seen["sentence"])
+        self.compare_sentence(name, value, state, seen["sentence"])
         self.compare_state(name, index, state, seen, True)
         self.compare_taken(name, index, seen, True)
         check(f"{name}: changed granules", [place for place, _ in sorted(seen["rings"])], run.changes(index, "granules"))
@@ -115,12 +116,17 @@ class Expected:
         check(f"{name}: no fault", seen["fault"], "")
         self.compare_shown(name, index, state, seen)
 
-    def compare_sentence(self, name, value, sentence):
+    def compare_sentence(self, name, value, state, sentence):
         answer = value["reply"].split()
         is_trap = answer[:1] == ["trap"]
         self.check(f"{name}: the sentence says whether it was refused", sentence.startswith("Refused: "), is_trap)
         numbers = [part if part.startswith("0x") else grouped(int(part)) for part in answer if part[0].isdigit()]
-        if not is_trap and value["text"].split()[0] != "show":
+        name_of, *words = value["text"].split()
+        if not is_trap and name_of in ("write", "storecap", "loadcap") and words[0] != words[1]:
+            authority = words[name_of == "loadcap"]
+            block = state.block_of(Word(state.register(int(authority[1:]))[1]).base)
+            self.check(f"{name}: a stale capability is told", f"{authority} is stale" in sentence, state.blocks[block] != "live")
+        if not is_trap and name_of != "show":
             self.check(f"{name}: the sentence has the numbers of the reply", [number for number in numbers if number not in sentence], [])
 
     def compare_state(self, name, index, state, seen, is_after):
@@ -211,10 +217,12 @@ class Expected:
         self.check(f"{name}: shown", seen["shown"], f"Shown is {called}, {'tagged' if tag else 'without a tag'}.")
         compare_word(self.check, name, word, seen)
         compare_try(self.check, name, word, word.address, seen)
-        if text != NULL_WORD:
-            self.check(f"{name}: where its base lies", f"{called}: the base {word.base:#x} lies {self.place(state, word.base)}. " in seen["detail"], True)
+        about = f"{called}: the base {word.base:#x} lies {self.place(state, word.base)}. " if tag else f"{called} has no tag: 16 bytes of data. "
+        self.check(f"{name}: where its base lies", seen["detail"].startswith(about), text != NULL_WORD)
+        if not hidden_by(self.run, index):
+            self.check(f"{name}: broken lines where it has no tag", seen["broken"], None if seen["bounds"] is None else not tag)
         end = self.run.base + 16 * seen["shape"]["shown"]
-        hidden = self.run.taken(index) is not None
+        hidden = hidden_by(self.run, index)
         self.check(f"{name}: its bounds on the map", seen["bounds"],
                    f"{word.base:#x} {word.top:#x}" if not hidden and max(word.base, self.run.base) < min(word.top, end) else None)
         both = [("base, address", word.base)] if word.base == word.address else [("base", word.base), ("address", word.address)]
@@ -239,6 +247,11 @@ class Expected:
         shape, (x, y, width, height) = seen["shape"], box
         left, top = shape["gutter"] + place % shape["columns"] * shape["width"], place // shape["columns"] * shape["height"]
         return left <= x and x + width <= left + shape["width"] and top <= y and y + height <= top + shape["height"]
+
+
+def hidden_by(run, index):
+    """Whether the map shows a pass, and so no bounds of what is followed."""
+    return run.taken(index) is not None
 
 
 def rounded(rows):

@@ -79,7 +79,7 @@ class Tests:
         for index in range(last - 1, -1, -1):
             self.browser.key(("ArrowUp", "ArrowLeft")[index % 2])
             expected.compare(f"{name} back at step {index}", index, self.look())
-        for index in random.Random(last).sample(range(last + 1), min(last + 1, 25)):
+        for index in [step for seed in (2, 7) for step in random.Random(seed).sample(range(last + 1), min(last + 1, 25))]:
             self.browser.run(f"document.querySelector('[data-step=\"{index}\"]').click()")
             expected.compare(f"{name} at once at step {index}", index, self.look())
         for index in range(last + 1):
