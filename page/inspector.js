@@ -33,7 +33,8 @@ function bytesOf(text, word) {
   return [
     element('p', {}, 'Bytes in memory: ', code(bytes.slice(0, 8).join(' ')), note(' (the address, its lowest byte first) '),
       code(bytes.slice(8).join(' ')), note(' (the metadata)')),
-    element('p', {}, 'Metadata: ', code(digits(word.stored, 16)), ' ⊕ ', code(digits(NULL_METADATA, 16)), ' = ', code(digits(word.metadata, 16)),
+    element('p', {}, 'Metadata: ', code(digits(word.stored, 16)), ' ⊕ ', code(digits(NULL_METADATA, 16)), ' = ',
+      code(digits(word.metadata, 16)),
       note(' (so the null capability is all zeros in memory)'))];
 }
 
@@ -42,7 +43,8 @@ function fieldTable(word) {
   return element('div', { class: 'fields', role: 'group', 'aria-label': 'Fields of the metadata' },
     field('permissions', hex(word.permissions), 'bits 63 to 48'), field('reserved', String(word.reserved), '47, 46'),
     field('flag', String(word.flag), '45'), field('type', hex(word.type), '44 to 27' + (word.type === 0x3ffffn ? ', not sealed' : '')),
-    field('I', String(word.internal), '26'), field('top field', hex(word.topField), '25 to 14'), field('base field', hex(word.baseField), '13 to 0'));
+    field('I', String(word.internal), '26'), field('top field', hex(word.topField), '25 to 14'),
+    field('base field', hex(word.baseField), '13 to 0'));
 }
 
 function derivation(word) {
@@ -62,7 +64,8 @@ function derivation(word) {
 function meaningTable(word) {
   const names = [...Array(16).keys()].filter(bit => word.permissions >> BigInt(bit) & 1n).map(bit => PERMISSIONS[bit] || 'bit ' + bit);
   const entries = [['address', hex(word.address)], ['base', hex(word.base)], ['top', hex(word.top)],
-    ['length', word.top >= word.base ? grouped(word.top - word.base) : 'none: the top is below the base'], ['exponent', String(word.exponent)],
+    ['length', word.top >= word.base ? grouped(word.top - word.base) : 'none: the top is below the base'],
+    ['exponent', String(word.exponent)],
     ['permissions', names.join(', ') || 'none']];
   return element('div', {}, element('h3', {}, 'What they mean'), element('table', { class: 'meaning' }, element('tbody', {},
     entries.map(([name, value]) => element('tr', {}, element('th', { scope: 'row' }, name), element('td', {}, code(value)))))));

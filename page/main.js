@@ -71,13 +71,15 @@ function drawStep() {
 
 function takenTable(taken) {
   const heads = ['Tag taken from', 'Its address', 'Its base', 'lies in the block'].map(text => element('th', { scope: 'col' }, text));
-  const lines = taken.rows.slice(0, 200).map(row => {
+  const lines = taken.rows.slice(0, TOLD_TAGS).map(row => {
     const block = reasonOf(taken, row);
-    return element('tr', {}, element('td', {}, code(row.name)), element('td', {}, code(hex(row.cell.meaning.address))), element('td', {}, code(hex(row.cell.meaning.base))),
-      element('td', {}, block ? [code(rangeOf(block)), ', which was held'] : 'none'));
+    const { address, base } = row.cell.meaning, reason = block ? [code(rangeOf(block)), ', which was held'] : 'none';
+    return element('tr', {}, [code(row.name), code(hex(address)), code(hex(base)), reason].map(content => element('td', {}, content)));
   });
-  const more = taken.rows.length > 200 ? `and ${plural(taken.rows.length - 200, 'tag')} more` : taken.rows.length > 64 ? 'The map has lines for the first 64.' : null;
-  return element('table', {}, more ? element('caption', {}, more) : null, element('thead', {}, element('tr', {}, heads)), element('tbody', {}, lines));
+  const more = taken.rows.length > TOLD_TAGS ? `and ${plural(taken.rows.length - TOLD_TAGS, 'tag')} more` : null;
+  const first = taken.rows.length > DRAWN_REASONS ? `The map has lines for the first ${DRAWN_REASONS}.` : null;
+  return element('table', {}, element('caption', {}, [more, first].filter(Boolean).join('. ')),
+    element('thead', {}, element('tr', {}, heads)), element('tbody', {}, lines));
 }
 
 function stopPlaying() {
@@ -145,7 +147,8 @@ function zoom(cell) {
 }
 
 function showAll() { // by the row at which the cells come out largest
-  const sizes = [16, 32, 64, 128, 256].map(n => [Math.min((view.mapWidth - map.shape.gutter - 8) / n, innerHeight * .55 * n / run.granules), n]);
+  const room = view.mapWidth - map.shape.gutter - 8;
+  const sizes = [16, 32, 64, 128, 256].map(n => [Math.min(room / n, innerHeight * .55 * n / run.granules), n]);
   const [cell, columns] = sizes.reduce((best, size) => (size[0] > best[0] ? size : best));
   view.whole = true;
   view.columns = columns;
@@ -182,7 +185,8 @@ function listenToMap() {
 }
 
 function listen() {
-  const actions = { first: () => go(0), back: () => go(view.step - 1), next: () => go(view.step + 1), last: () => go(run.steps.length - 1), play };
+  const actions = { first: () => go(0), back: () => go(view.step - 1), next: () => go(view.step + 1),
+    last: () => go(run.steps.length - 1), play };
   for (const [name, action] of Object.entries(actions)) byId(name).onclick = action;
   byId('slider').addEventListener('input', () => go(Number(byId('slider').value)));
   byId('follow').addEventListener('change', () => {
@@ -232,7 +236,8 @@ function compareCells() {
     const until = performance.now() + 8;
     while (next < cells.length && performance.now() < until) compareCell(cells[next++], differing);
     if (next < cells.length) return setTimeout(some, 30);
-    if (differing.length) tellFault(`The data and this page decode ${plural(differing.length, 'value')} differently, first ${differing[0]}.`);
+    const count = plural(differing.length, 'value');
+    if (differing.length) tellFault(`The data and this page decode ${count} differently, first ${differing[0]}.`);
     byId('main').dataset.compared = cells.length;
   };
   some();

@@ -2,6 +2,7 @@
 
 const map = { shape: null, box: null, layers: {}, blocks: new Map(), marks: new Map(), fresh: [], struck: [] };
 
+const DRAWN_REASONS = 64, TOLD_TAGS = 200; // of the tags that a pass took: on the map, and in the table below it
 const LAYERS = ['grid', 'released', 'blocks', 'pages', 'marks', 'changes', 'reasons', 'chosen', 'cursors'];
 
 function remakeMap() {
@@ -28,7 +29,9 @@ function drawGrid(L) {
   let lines = `M${L.gutter} 0H${L.right}V${L.bottom}H${L.gutter}Z`, pageLines = '';
   if (L.height >= 7) for (let row = 0; row <= L.rowCount; row++) lines += `M${L.gutter} ${row * L.height}H${L.right}`;
   if (L.width >= 7) for (let column = 0; column <= n; column++) lines += `M${L.gutter + column * L.width} 0V${L.bottom}`;
-  if (L.height * 256 / n > 12) for (let place = 256; place < L.shown; place += 256) pageLines += `M${L.gutter} ${spotOf(L, place)[1]}H${L.right}`;
+  for (let place = 256; place < L.shown && L.height * 256 / n > 12; place += 256) {
+    pageLines += `M${L.gutter} ${spotOf(L, place)[1]}H${L.right}`;
+  }
   grid.append(shape('path', { d: lines }));
   pages.append(shape('path', { d: pageLines }));
   for (let row = 0; row < L.rowCount; row += Math.ceil(13 / L.height)) {
@@ -39,7 +42,8 @@ function drawGrid(L) {
   for (let column = every; column < n; column += every) {
     grid.append(shape('text', { x: L.gutter + column * L.width, y: -17 }, '+' + (column * 16).toString(16)));
   }
-  if (L.shown < run.granules) grid.append(shape('text', { x: L.right, y: L.bottom + 16, class: 'row' }, `… free up to ${hex(heapEnd())}`));
+  const rest = shape('text', { x: L.right, y: L.bottom + 16, class: 'row' }, `… free up to ${hex(heapEnd())}`);
+  if (L.shown < run.granules) grid.append(rest);
 }
 
 function labelOf(L, block, name) {
@@ -127,9 +131,10 @@ function ringOf(L, place) {
   return shape('rect', { class: 'changed', x: x + 1.5, y: y + 1.5, width, height, rx: 2, 'data-changed': place });
 }
 
-// A line from each word whose tag went, a chip for a register, to its base in the block that is the reason. Answers how many chips there are.
+// A line from each word whose tag went, a chip for a register, to its base in the block that is the reason.
+// Answers how many chips there are.
 function drawReasons(L, taken) {
-  const shown = taken.rows.slice(0, 64), chipCount = shown.filter(row => row.kind === 'register').length;
+  const shown = taken.rows.slice(0, DRAWN_REASONS), chipCount = shown.filter(row => row.kind === 'register').length;
   const top = Math.ceil(chipCount / L.chipsInRow) * CHIP.height + 40;
   let chips = 0;
   for (const row of shown) {
@@ -215,7 +220,8 @@ function aboutChosen() {
 function drawDetail() {
   const box = byId('detail'), place = view.cursor;
   if (place === null) {
-    box.replaceChildren(...aboutChosen(), element('span', { class: 'muted' }, 'Point at a granule, or go there by the arrow keys, to see what it holds.'));
+    const hint = 'Point at a granule, or go there by the arrow keys, to see what it holds.';
+    box.replaceChildren(...aboutChosen(), element('span', { class: 'muted' }, hint));
     return;
   }
   const cell = state.granules[place], block = state.owners[place], { meaning } = cell;
@@ -233,7 +239,8 @@ function drawLegend() {
   const used = new Set(run.steps.flatMap(step => step.blocks.map(change => change.now)));
   byId('legend').replaceChildren(sample('live', box('live')), sample('held: waits in quarantine', box('waiting')),
     ...(used.has('painted') ? [sample('painted: held, and this epoch is about it', box('painted'))] : []),
-    sample('was held, and is free now', box('released')), sample('tagged', tagMark(13, 9, 6, true)), sample('tag just taken', tagMark(13, 9, 6, false)),
+    sample('was held, and is free now', box('released')), sample('tagged', tagMark(13, 9, 6, true)),
+    sample('tag just taken', tagMark(13, 9, 6, false)),
     sample('data, no tag', shape('rect', { class: 'data', x: 9, y: 5, width: 8, height: 8 })),
     sample('changed by this step', shape('rect', { class: 'changed', x: 4, y: 2, width: 18, height: 14, rx: 2 })),
     sample('bounds of what is chosen', shape('rect', { class: 'pick', x: 3, y: 3, width: 20, height: 12 })));

@@ -8,7 +8,8 @@ const barPlace = place => 3 + Math.min(place / run.used, 1) * (BAR - 6);
 function heldBands() {
   const held = new Uint8Array(BAR);
   for (const block of state.blocks.values()) {
-    if (block.state !== 'live') held.fill(1, Math.floor(barPlace(block.start)), Math.max(Math.ceil(barPlace(block.end)), barPlace(block.start) + 2));
+    const x = barPlace(block.start);
+    if (block.state !== 'live') held.fill(1, Math.floor(x), Math.max(Math.ceil(barPlace(block.end)), x + 2));
   }
   let d = '';
   for (let x = 0; x < BAR; x++) {
@@ -43,7 +44,7 @@ function makeRegisterRows() {
   const others = run.written.size < 31 ? ' The other registers stay null.' : '';
   const part = run.used < run.granules ? ', the part of the heap that is used' : '';
   byId('idle').textContent = `c0 is always null.${others} The bars go from ${hex(run.base)} to ${hex(addressOf(run.used))}${part}: ` +
-    'shaded is what is held, black the bounds, and the thin line is the address.';
+    'shaded is what is held, thick the bounds, and the thin line is the address.';
 }
 
 function drawRegisters() {
@@ -52,7 +53,7 @@ function drawRegisters() {
   const taken = new Set(now && step.taken ? step.taken.rows.filter(row => row.kind === 'register').map(row => row.place) : []);
   for (const [register, kept] of registerRows) {
     const cell = state.registers[register], chosen = view.chosen && view.chosen.kind === 'register' && view.chosen.place === register;
-    const told = cell.isNull ? 'null' : `bounds ${hex(cell.meaning.base)} to ${hex(cell.meaning.top)}, base ${placeOfBase(cell.meaning.base)}`;
+    const { base, top } = cell.meaning, told = cell.isNull ? 'null' : `bounds ${hex(base)} to ${hex(top)}, base ${placeOfBase(base)}`;
     const drawn = [cell.tag, cell.word, changed.has(register), taken.has(register), bands, told].join('\n');
     kept.button.setAttribute('aria-pressed', String(Boolean(chosen)));
     if (kept.drawn === drawn) continue;
@@ -91,8 +92,8 @@ function drawBlocks() {
       blockRows.delete(block);
     } else if (old) old.cells[3].textContent = stateName(block.state);
     else {
-      const row = element('tr', {}, ...[code(hex(block.base)), code(hex(block.top)), grouped(block.top - block.base), stateName(block.state)]
-        .map(content => element('td', {}, content)));
+      const contents = [code(hex(block.base)), code(hex(block.top)), grouped(block.top - block.base), stateName(block.state)];
+      const row = element('tr', {}, contents.map(content => element('td', {}, content)));
       byId('blocks').insertBefore(row, rowBehind(block));
       blockRows.set(block, row);
     }

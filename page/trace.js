@@ -4,7 +4,8 @@
 function textOf(encoded) {
   const bytes = Uint8Array.from(atob(encoded), character => character.charCodeAt(0));
   const text = new TextDecoder('utf-8', { ignoreBOM: true }).decode(bytes);
-  return text.replace(/[\0-\x08\x0b\x0c\x0e-\x1f]/g, control => String.fromCharCode(0x2400 + control.charCodeAt(0))).replace(/\x7f/g, '\u2421');
+  const pictureOf = control => String.fromCharCode(0x2400 + control.charCodeAt(0));
+  return text.replace(/[\0-\x08\x0b\x0c\x0e-\x1f]/g, pictureOf).replace(/\x7f/g, '\u2421');
 }
 
 const withoutBlanks = text => text.replace(/^[ \t\r]+|[ \t\r]+$/g, '');

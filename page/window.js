@@ -20,8 +20,8 @@ function drawWindow() {
   if (document.activeElement !== byId('exact')) byId('exact').value = hex(tried);
   byId('verdict').setAttribute('aria-live', byId('inspector').contains(document.activeElement) ? 'polite' : 'off');
   const end = keeps ? (cell.tag ? 'setaddr keeps the tag.' : 'setaddr would keep a tag, but here is none.') : 'So setaddr takes the tag.';
-  byId('verdict').replaceChildren(keeps ? element('b', { class: 'kept' }, '✓ The bounds stay') : element('b', { class: 'gone' }, '✗ The bounds would change'),
-    ' at ', code(hex(tried)), ': ', code(hex(there.base)), ' to ', code(hex(there.top)), '. ', end);
+  const said = element('b', { class: keeps ? 'kept' : 'gone' }, keeps ? '✓ The bounds stay' : '✗ The bounds would change');
+  byId('verdict').replaceChildren(said, ' at ', code(hex(tried)), ': ', code(hex(there.base)), ' to ', code(hex(there.top)), '. ', end);
   drawJumps(word);
 }
 
@@ -64,7 +64,8 @@ function drawJumps(word) {
       ['end − 1', word.low + word.size - 1n], ['end', word.low + word.size]];
   const buttons = [...byId('jumps').children];
   if (buttons.length !== edges.length) {
-    byId('jumps').replaceChildren(...edges.map(([name]) => element('button', { 'data-jump': name, onclick: event => tryAddress(event.currentTarget.to) }, name)));
+    const onclick = event => tryAddress(event.currentTarget.to);
+    byId('jumps').replaceChildren(...edges.map(([name]) => element('button', { 'data-jump': name, onclick }, name)));
   }
   edges.forEach(([name, address], index) => { byId('jumps').children[index].to = address; });
 }

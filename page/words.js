@@ -28,15 +28,15 @@ const sentences = {
       ...(lost(target) || [code(target), ' gets its capability, tagged, with just these bounds.'])];
   },
 
-  free: (step, [, source], answer) => ['The block goes into quarantine, where it is held: its ', grouped(answer[1]), ' bytes are not handed out. ',
-    'No tag is taken, so ', code(source), ' and its copies still work.',
+  free: (step, [, source], answer) => ['The block goes into quarantine, where it is held: its ', grouped(answer[1]), ' bytes are not ',
+    'handed out. No tag is taken, so ', code(source), ' and its copies still work.',
     step.open ? ' It waits for the next epoch, since one is open.' : ''],
 
   copy: (step, [, target, source]) => lost(target) || [code(target), ' gets the bits and the tag of ', code(source), '.'],
 
-  setaddr: (step, [, target, source, address], answer) => lost(target) || [code(target), ' gets the bits of ', code(source), ' with the address ',
-    code(address), answer[0] === 'cleared' ? '. That is past the window, where the same bits mean other bounds: the tag is lost.'
-      : '. The bounds stay as they are.'],
+  setaddr: (step, [, target, source, address], answer) => lost(target) || [code(target), ' gets the bits of ', code(source),
+    ' with the address ', code(address), answer[0] !== 'cleared' ? '. The bounds stay as they are.'
+      : '. That is past the window, where the same bits mean other bounds: the tag is lost.'],
 
   narrow: (step, [, target, source, length]) => lost(target) || [code(target), ' gets ', code(source), ' with narrower bounds: ',
     plural(length, 'byte'), ' from its address on.'],
@@ -56,9 +56,11 @@ const sentences = {
     return [...(lost(target) || gets), ...(target === authority ? [] : stale(authority))];
   },
 
-  write: (step, [, authority]) => ['The granule where ', code(authority), ' points gets 16 bytes of data, and no tag.', ...stale(authority)],
+  write: (step, [, authority]) => ['The granule where ', code(authority), ' points gets 16 bytes of data, and no tag.',
+    ...stale(authority)],
 
-  show: (step, [, source]) => [code(source), registerCell(source).tag ? ' is shown. It is tagged.' : ' is shown. It has no tag.', ' Nothing changes.'],
+  show: (step, [, source]) => [code(source), ' is shown. It ', registerCell(source).tag ? 'is tagged.' : 'has no tag.',
+    ' Nothing changes.'],
 
   sweep: (step, words, answer) => ['The sweep looks at every tagged granule and register, and takes ', plural(answer[1], 'tag'),
     ': just where the base lies in a held block. Then ', plural(answer[3], 'held byte'), ' are free again.'],
@@ -66,8 +68,9 @@ const sentences = {
   begin: (step, words, answer) => ['An epoch begins. The held blocks are painted, and ', plural(answer[1], 'tag'),
     ' in memory whose base lies in one of them ', answer[1] === '1' ? 'is' : 'are', ' taken. Registers keep theirs until the end.'],
 
-  end: (step, words, answer) => ['The epoch ends: ', plural(answer[1], 'tag'), ' in registers and in dirty pages whose base lies in a painted block ',
-    answer[1] === '1' ? 'is' : 'are', ' taken, and ', plural(answer[3], 'painted byte'), ' are free again. Other held blocks wait on.'],
+  end: (step, words, answer) => ['The epoch ends: ', plural(answer[1], 'tag'), ' in registers and in dirty pages ',
+    'whose base lies in a painted block ', answer[1] === '1' ? 'is' : 'are', ' taken, and ',
+    plural(answer[3], 'painted byte'), ' are free again. Other held blocks wait on.'],
 };
 
 // Of the state after the step.
@@ -76,14 +79,17 @@ const registerCell = name => state.registers[Number(name.slice(1))] || NULL_CELL
 // Said where an access went to a held block: that is the point of a quarantine.
 function stale(authority) {
   const { tag, meaning } = registerCell(authority), block = ownerOf(meaning.base);
-  return tag && block && block.state !== 'live' ? [' The block is held: ', code(authority), ' is stale, and still works, but nobody else has these bytes.'] : [];
+  if (!tag || !block || block.state === 'live') return [];
+  return [' The block is held: ', code(authority), ' is stale, and still works, but nobody else has these bytes.'];
 }
 
 const lost = target => (target === 'c0' ? [code('c0'), ' stays null: what is written to it is lost.'] : null);
 
 function explain(step) {
   const answer = step.reply.split(' ');
-  if (answer[0] === 'trap') return [element('b', { class: 'refused' }, 'Refused: '), TRAPS[answer[1]] || answer[1], '. A trap changes nothing.'];
+  if (answer[0] === 'trap') {
+    return [element('b', { class: 'refused' }, 'Refused: '), TRAPS[answer[1]] || answer[1], '. A trap changes nothing.'];
+  }
   const sentence = sentences[step.words[0]];
   return sentence ? sentence(step, step.words, answer) : [step.reply];
 }
