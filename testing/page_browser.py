@@ -43,6 +43,7 @@ class Browser:
         self.session = self.call("Target.attachToTarget", targetId=target, flatten=True)["sessionId"]
         for domain in ("Page", "Runtime", "Log", "Network"):
             self.call(domain + ".enable")
+        self.call("Performance.enable", timeDomain="threadTicks")
 
     def message(self):
         while b"\0" not in self.buffer:
@@ -81,6 +82,18 @@ class Browser:
         common = {"key": key, "code": "Space" if key == " " else key, "windowsVirtualKeyCode": KEYS[key]}
         self.call("Input.dispatchKeyEvent", type="keyDown" if text else "rawKeyDown", **common, **({"text": text} if text else {}))
         self.call("Input.dispatchKeyEvent", type="keyUp", **common)
+
+    def worked(self, act):
+        """The milliseconds of script, style and layout that an act took, by the processor and by the clock."""
+        names = ("ScriptDuration", "RecalcStyleDuration", "LayoutDuration")
+
+        def spent():
+            return sum(each["value"] for each in self.call("Performance.getMetrics")["metrics"] if each["name"] in names)
+
+        before, begun = spent(), time.monotonic()
+        act()
+        ended, after = time.monotonic(), spent()
+        return (after - before if after >= before else after) * 1000, (ended - begun) * 1000
 
     def mouse(self, kind, x, y, **more):
         self.call("Input.dispatchMouseEvent", type=kind, x=x, y=y, **more)

@@ -61,21 +61,9 @@ HARM = """JSON.stringify([window.evil ?? null, document.images.length, document.
   document.querySelectorAll('#title *, #lines :not(ol, li, p, div, button, span, code), #what :not(p, code, b), a, iframe, plaintext').length])"""
 NO_HARM = "[null,0,3,0]"
 
-TIMING = r"""(async () => {
-  const frame = () => new Promise(done => requestAnimationFrame(() => setTimeout(done)));
-  const layout = () => [document.documentElement, map.box, currentRow].map(node => node.getBoundingClientRect());
-  const timed = to => { const begin = performance.now(); go(to); layout(); return performance.now() - begin; };
-  const last = run.steps.length - 1, times = [], open = performance.getEntriesByType('navigation')[0].loadEventEnd;
-  const blocks = Math.max(...[1, 2, 3, 4].map(part => { go(Math.floor(last * part / 4)); return state.blocks.size; }));
-  for (const by of [-1, 1]) for (let count = 0; count < 30; count++) { times.push(timed(view.step + by)); await frame(); }
-  for (let part = 1; part < 20; part++) { go(Math.floor(last * part / 20)); await frame(); times.push(timed(view.step + 1)); await frame(); }
-  go(last); await frame();
-  const jump = timed(0);
-  times.sort((one, other) => one - other);
-  const painted = performance.getEntriesByName('first-contentful-paint');
-  return JSON.stringify({ open: Math.max(open, ...painted.map(entry => entry.startTime)), middle: times[times.length >> 1],
-    most: times[Math.floor(times.length * .95)], jump, blocks });
-})()"""
+# How long the page took to open by the clock, and how many blocks it has at most at four places of the trace.
+OPENED = r"""JSON.stringify([performance.getEntriesByType('navigation')[0].loadEventEnd,
+  Math.max(...[1, 2, 3, 4].map(part => { go(Math.floor((run.steps.length - 1) * part / 4)); return state.blocks.size; }))])"""
 
 PICTURES = [
     ("sweep_light", "lesson_a_derived_pointer_goes_by_its_base", 9, False, (1440, 900), ""),
