@@ -70,10 +70,10 @@ function drawStep() {
 }
 
 function takenTable(taken) {
-  const heads = ['Tag taken from', 'Its address', 'Its base', 'lies in the block'].map(text => element('th', { scope: 'col' }, text));
+  const heads = ['Tag taken from', 'Its address', 'Its base', 'lies in the held block'].map(text => element('th', { scope: 'col' }, text));
   const lines = taken.rows.slice(0, TOLD_TAGS).map(row => {
     const block = reasonOf(taken, row);
-    const { address, base } = row.cell.meaning, reason = block ? [code(rangeOf(block)), ', which was held'] : 'none';
+    const { address, base } = row.cell.meaning, reason = block ? code(rangeOf(block)) : 'none';
     return element('tr', {}, [code(row.name), code(hex(address)), code(hex(base)), reason].map(content => element('td', {}, content)));
   });
   const more = taken.rows.length > TOLD_TAGS ? `and ${plural(taken.rows.length - TOLD_TAGS, 'tag')} more` : null;

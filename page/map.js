@@ -50,7 +50,7 @@ function labelOf(L, block, name) {
   const n = view.columns, second = Math.ceil(block.start / n) * n;
   const longer = second < block.end && Math.min(block.end, second + n) - second > second - block.start;
   const place = longer ? second : block.start, room = Math.min(block.end - place, n - place % n) * L.width;
-  if (L.height < 20 || room <= name.length * 7 + 6) return null;
+  if (L.height < 20 || room <= name.length * 6.7 + 5) return null;
   const [x, y] = spotOf(L, place);
   return shape('text', { x: x + 4, y: y + L.height - 5 }, name);
 }

@@ -15,7 +15,8 @@ LOOK = r"""(() => {
     step: Number(row.dataset.step), currents: current.length, line: text(row.querySelector('.number')), text: text(row.querySelector('code')),
     reply: text(row.querySelector('.reply')) ?? '', notes: [...item.querySelectorAll('.note')].map(text),
     inView: seen.top >= list.top - 1 && seen.bottom <= list.bottom + 1, command: text(document.querySelector('#what .command')),
-    sentence: text(document.querySelector('#what p:last-child')), count: text(document.querySelector('#count')), slider: document.querySelector('#slider').value,
+    sentence: text(document.querySelector('#what p:last-child')), count: text(document.querySelector('#count')),
+    slider: document.querySelector('#slider').value,
     blocks: all('#map [data-block]').map(node => [node.dataset.block, node.dataset.state, paint(node.querySelector('.fill'), 'fill'),
       paint(node.querySelector('.over'), 'fill'), text(node.querySelector('text')), node.classList.contains('new')]),
     table: all('#blocks tr').map(line => [...line.cells].map(text)),
@@ -91,7 +92,8 @@ class Expected:
     def compare(self, name, index, seen):
         run, check, value, state = self.run, self.check, self.run.values[index], self.run.states[index]
         line, text, notes = run.trace.counted[index]
-        check(f"{name}: the row", [seen[key] for key in ("step", "currents", "line", "text", "reply", "notes")], [index, 1, str(line), text, value["reply"], notes])
+        check(f"{name}: the row", [seen[key] for key in ("step", "currents", "line", "text", "reply", "notes")],
+              [index, 1, str(line), text, value["reply"], notes])
         check(f"{name}: the row is in view", seen["inView"], True)
         check(f"{name}: the step", [seen["command"], seen["count"], seen["slider"]],
               [text + (f" → {value['reply']}" if value["reply"] else ""), f"step {grouped(index)} of {grouped(len(run.values) - 1)}", str(index)])
@@ -143,8 +145,9 @@ class Expected:
         for number in self.run.written:
             tag, text = state.register(number)
             word, is_null, has_lost = Word(text), not tag and text == NULL_WORD, number in lost and not tag
-            wanted.append([str(number), str(int(tag)), text, number in changed, str(int(tag)), "tag taken" if has_lost else "changed" if number in changed else "",
-                           "tag" if tag else "lost", None if is_null else hexadecimal(word.address),
+            told = "tag taken" if has_lost else "changed" if number in changed else ""
+            wanted.append([str(number), str(int(tag)), text, number in changed, str(int(tag)), told, "tag" if tag else "lost",
+                           None if is_null else hexadecimal(word.address),
                            None if is_null else f"{word.base:#x} to {word.top:#x}",
                            None if is_null else f"bounds {word.base:#x} to {word.top:#x}, base {self.place(state, word.base)}",
                            None if is_null else self.bar(word)])
@@ -171,7 +174,7 @@ class Expected:
         self.check(f"{name}: what was taken had a tag, and its base lies in a block in quarantine",
                    [row[2] for row in rows if not row[3] or row[5] is None or self.run.before(index).blocks[row[5]] == "live"], [])
         self.check(f"{name}: tags taken, with the reasons", seen["taken"], [
-            [called, hexadecimal(word.address), hexadecimal(word.base), f"{block[0]:#x} to {block[1]:#x}, which was held"] for _, _, called, _, word, block in rows])
+            [called, hexadecimal(word.address), hexadecimal(word.base), f"{block[0]:#x} to {block[1]:#x}"] for _, _, called, _, word, block in rows])
         self.check(f"{name}: a line for each", [reason for reason, _ in seen["reasons"]], [f"{row[2]} {block_key(row[5])}" for row in rows])
         chips = {called: box for called, box, _ in seen["chips"]}
         self.check(f"{name}: a sign for each register", [[called, kind] for called, _, kind in seen["chips"]],
@@ -261,7 +264,8 @@ def compare_word(check, name, word, seen):
                                                f"{word.stored ^ page_model.NULL_METADATA:016x}"])
     told = [f"= {word.exponent}" if word.internal else "E = 0", f"B = {word.base_mantissa:#x}.", f"T = {word.top_mantissa:#x}.", f"2^{word.exponent + 14} "]
     check(f"{name}: E, B, T and the window's size", [part for part in told if part not in seen["steps"]], [])
-    edges = ["all addresses keep the bounds"] if word.exponent >= 50 else [f"low {word.low % 2**64:#x}", f"end {(word.low + (1 << word.exponent + 14)) % 2**64:#x}"]
+    low, end = word.low % 2**64, (word.low + (1 << word.exponent + 14)) % 2**64
+    edges = ["all addresses keep the bounds"] if word.exponent >= 50 else [f"low {low:#x}", f"end {end:#x}"]
     check(f"{name}: the window", seen["edges"][:len(edges) + 2], [*edges, f"base {word.base:#x}", f"top {word.top:#x}"])
 
 

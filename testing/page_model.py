@@ -16,13 +16,14 @@ PATTERNS = {"live": None, "waiting": 'url("#waiting-pattern")', "painted": 'url(
 
 # Traces of what no lesson has: edges of the address space, long blocks, blocks that come again in one command, every trap.
 TRACES = {
-    "again": ["heap 0x40000000 1", "malloc c1 4096", "storecap c1 c1", "free c1", "malloc c1 4096", "free c1", "malloc c2 4096", "free c2", "malloc c0 16", "sweep"],
+    "again": ["heap 0x40000000 1", "malloc c1 4096", "storecap c1 c1", "free c1", "malloc c1 4096", "free c1", "malloc c2 4096",
+              "free c2", "malloc c0 16", "sweep"],
     "high": ["heap 0xfffffffffffff000 1", "malloc c1 16", "malloc c2 4080", "free c2", "copy c3 c2", "setaddr c3 c3 5", "sweep", "malloc c4 0", "show c4"],
     "low": ["heap 0 64", "malloc c1 100000", "malloc c2 70000", "setaddr c3 c1 99999", "narrow c4 c1 65536", "free c1", "free c1", "sweep", "malloc c5 262144"],
     "epochs": ["heap 0x1000 2", "malloc c1 4096", "malloc c2 32", "storecap c1 c2", "end", "free c2", "begin", "begin", "sweep", "free c1", "malloc c3 8192",
                "storecap c1 c2", "end", "begin", "end", "begin"],
-    "traps": ["heap 0x40000000 1", "show c9", "free c9", "malloc c1 48", "narrow c2 c1 0", "narrow c2 c1 49", "setaddr c2 c1 0x40000001", "loadcap c3 c2", "write c2 "
-              + "0f" * 16, "free c2", "andperm c4 c1 0", "loadcap c5 c4", "free c4", "free c1", "copy c0 c1", "loadcap c0 c1"],
+    "traps": ["heap 0x40000000 1", "show c9", "free c9", "malloc c1 48", "narrow c2 c1 0", "narrow c2 c1 49", "setaddr c2 c1 0x40000001",
+              "loadcap c3 c2", "write c2 " + "0f" * 16, "free c2", "andperm c4 c1 0", "loadcap c5 c4", "free c4", "free c1", "copy c0 c1", "loadcap c0 c1"],
 }
 
 
