@@ -1,0 +1,278 @@
+// What the reader looks at, the controls and the keys, and how the page begins.
+
+const view = { step: 0, before: false, chosen: null, follow: true, probe: null, cursor: null,
+  columns: 32, cell: 0, whole: false, mapWidth: 600, mapHeight: 600, windowWidth: 600, timer: null };
+
+function go(to) {
+  view.step = clamp(to, 0, run.steps.length - 1);
+  view.before = false;
+  moveTo(view.step);
+  if (view.follow) follow();
+  draw(true);
+}
+
+// The state that is shown: that after the step, or before a pass.
+function show(before) {
+  view.before = before;
+  moveTo(before ? view.step - 1 : view.step);
+  draw(false);
+}
+
+// What a step is about: the granule or the register that it wrote, or whose tag it took, or else the register that it names.
+function subjectOf(step) {
+  const named = step.words.slice(1).filter(word => /^c[0-9]+$/.test(word));
+  if (step.granules.length && !step.taken) return { kind: 'granule', place: step.granules[0].place };
+  if (step.registers.length) return { kind: 'register', place: step.registers[0].place };
+  if (step.taken && step.taken.rows.length) return { kind: step.taken.rows[0].kind, place: step.taken.rows[0].place };
+  if (!named.length) return null;
+  const acting = step.words[0] === 'narrow' || step.words[0] === 'loadcap' ? named[1] : named[0];
+  return { kind: 'register', place: Number(acting.slice(1)) };
+}
+
+// To what the step is about, or the last step before it that is about something.
+function follow() {
+  let index = view.step;
+  while (index > 0 && !subjectOf(run.steps[index])) index--;
+  view.chosen = index > 0 ? subjectOf(run.steps[index]) : null;
+  view.probe = null;
+}
+
+// By hand: then the inspector stays with it, and a second time lets it go.
+function choose(kind, place) {
+  const same = view.chosen && view.chosen.kind === kind && view.chosen.place === place && !view.follow;
+  view.chosen = same ? null : { kind, place };
+  view.probe = null;
+  view.follow = false;
+  draw(false);
+}
+
+function draw(scroll) {
+  drawStep();
+  drawRegisters();
+  drawBlocks();
+  drawMap(scroll);
+  drawInspector();
+  drawPosition();
+  for (const set of Object.values(touched)) set.clear();
+}
+
+function drawStep() {
+  const step = run.steps[view.step];
+  byId('what').replaceChildren(element('p', { class: 'command' }, code(step.text), step.reply ? [' → ', code(step.reply)] : null),
+    element('p', {}, ...explain(step)));
+  byId('epoch').hidden = !state.open;
+  const side = before => element('button', { 'aria-pressed': String(view.before === before), 'data-before': String(before), onclick() {
+    show(before);
+    byId('sides').querySelector(`[data-before=${before}]`).focus();
+  } }, before ? 'before' : 'after');
+  byId('sides').replaceChildren(...(step.taken ? [side(true), side(false)] : []));
+  byId('taken').replaceChildren(...(step.taken && step.taken.rows.length ? [takenTable(step.taken)] : []));
+}
+
+function takenTable(taken) {
+  const heads = ['Tag taken from', 'Its address', 'Its base', 'lies in the held block'].map(text => element('th', { scope: 'col' }, text));
+  const lines = taken.rows.slice(0, TOLD_TAGS).map(row => {
+    const block = reasonOf(taken, row);
+    const { address, base } = row.cell.meaning, reason = block ? code(rangeOf(block)) : 'none';
+    return element('tr', {}, [code(row.name), code(hex(address)), code(hex(base)), reason].map(content => element('td', {}, content)));
+  });
+  const more = taken.rows.length > TOLD_TAGS ? `and ${plural(taken.rows.length - TOLD_TAGS, 'tag')} more` : null;
+  const first = taken.rows.length > DRAWN_REASONS ? `The map has lines for the first ${DRAWN_REASONS}.` : null;
+  return element('table', {}, element('caption', {}, [more, first].filter(Boolean).join('. ')),
+    element('thead', {}, element('tr', {}, heads)), element('tbody', {}, lines));
+}
+
+function stopPlaying() {
+  clearInterval(view.timer);
+  view.timer = null;
+  byId('play').textContent = 'Play';
+  byId('play').setAttribute('aria-pressed', 'false');
+}
+
+function play() {
+  if (view.timer !== null) return stopPlaying();
+  if (view.step === run.steps.length - 1) go(0);
+  view.timer = setInterval(() => go(view.step + 1), 1800);
+  byId('play').textContent = 'Pause';
+  byId('play').setAttribute('aria-pressed', 'true');
+}
+
+function keyOnPage(event) {
+  const own = 'input:not([type=checkbox]), select';
+  if (event.ctrlKey || event.metaKey || event.altKey || event.target.closest('#map') || event.target.matches(own)) return;
+  const to = { ArrowUp: view.step - 1, ArrowLeft: view.step - 1, ArrowDown: view.step + 1, ArrowRight: view.step + 1,
+    PageUp: view.step - 10, PageDown: view.step + 10, Home: 0, End: run.steps.length - 1 }[event.key];
+  if (to !== undefined) {
+    event.preventDefault();
+    go(to);
+  } else if (event.key === ' ' && !event.target.matches('button, summary, input')) {
+    event.preventDefault();
+    play();
+  }
+}
+
+function keyOnMap(event) {
+  if (event.ctrlKey || event.metaKey || event.altKey) return;
+  const place = view.cursor ?? 0, n = view.columns;
+  const to = { ArrowLeft: place - 1, ArrowRight: place + 1, ArrowUp: place - n, ArrowDown: place + n,
+    Home: place - place % n, End: place - place % n + n - 1 }[event.key];
+  if (to !== undefined) view.cursor = clamp(to, 0, map.shape.shown - 1);
+  else if (event.key === 'Escape') view.cursor = null;
+  else if (event.key !== 'Enter') return;
+  event.preventDefault();
+  if (event.key === 'Enter') return choose('granule', place);
+  if (event.key === 'Escape') {
+    view.chosen = null;
+    return draw(false);
+  }
+  const y = spotOf(map.shape, view.cursor)[1] + map.top, box = byId('map');
+  if (y < box.scrollTop || y + map.shape.height > box.scrollTop + box.clientHeight) box.scrollTop = y - box.clientHeight / 2;
+  byId('detail').setAttribute('aria-live', 'polite'); // only the part in use speaks
+  placeCursor();
+}
+
+function placeUnder(event) {
+  const L = map.shape, frame = byId('map').getBoundingClientRect();
+  const column = Math.floor((event.clientX - frame.left + byId('map').scrollLeft - L.gutter) / L.width);
+  const row = Math.floor((event.clientY - frame.top + byId('map').scrollTop - map.top) / L.height);
+  const place = row * view.columns + column;
+  return column >= 0 && column < view.columns && row >= 0 && place < L.shown ? place : null;
+}
+
+// The size of a cell; 0 fits the row into the width.
+function zoom(cell) {
+  view.cell = cell ? clamp(Math.round(cell), 2, 60) : 0;
+  remakeMap();
+  scrollMap(map.shape);
+}
+
+function showAll() { // by the row at which the cells come out largest
+  const room = view.mapWidth - map.shape.gutter - 8;
+  const sizes = [16, 32, 64, 128, 256].map(n => [Math.min(room / n, innerHeight * .55 * n / run.granules), n]);
+  const [cell, columns] = sizes.reduce((best, size) => (size[0] > best[0] ? size : best));
+  view.whole = true;
+  view.columns = columns;
+  byId('columns').value = columns;
+  zoom(Math.max(Math.floor(cell), 2));
+}
+
+function listenToMap() {
+  const box = byId('map'), move = place => {
+    if (place === view.cursor) return;
+    view.cursor = place;
+    placeCursor();
+  };
+  box.addEventListener('keydown', keyOnMap);
+  box.addEventListener('focus', () => { if (box.matches(':focus-visible')) move(view.cursor ?? 0); });
+  box.addEventListener('blur', () => byId('detail').setAttribute('aria-live', 'off'));
+  box.addEventListener('pointermove', event => move(placeUnder(event)));
+  box.addEventListener('pointerleave', () => move(null));
+  box.addEventListener('click', event => {
+    const place = placeUnder(event);
+    if (place !== null) choose('granule', place);
+  });
+  byId('columns').addEventListener('change', () => {
+    view.columns = Number(byId('columns').value);
+    zoom(view.cell);
+  });
+  byId('bigger').onclick = () => zoom(map.shape.width * 1.3);
+  byId('smaller').onclick = () => zoom(map.shape.width / 1.3);
+  byId('all').onclick = showAll;
+  byId('used').onclick = () => {
+    view.whole = false;
+    zoom(0);
+  };
+}
+
+function listen() {
+  const actions = { first: () => go(0), back: () => go(view.step - 1), next: () => go(view.step + 1),
+    last: () => go(run.steps.length - 1), play };
+  for (const [name, action] of Object.entries(actions)) byId(name).onclick = action;
+  byId('slider').addEventListener('input', () => go(Number(byId('slider').value)));
+  byId('follow').addEventListener('change', () => {
+    view.follow = byId('follow').checked;
+    if (view.follow) go(view.step);
+  });
+  byId('typed').addEventListener('input', () => {
+    const word = byId('typed').value.trim().toLowerCase(), good = /^[0-9a-f]{32}$/.test(word);
+    byId('typed').setAttribute('aria-invalid', String(word !== '' && !good));
+    if (!good) return;
+    view.chosen = null;
+    choose('word', word);
+  });
+  listenToMap();
+  listenToWindow();
+  document.addEventListener('keydown', keyOnPage);
+  addEventListener('resize', () => {
+    measure();
+    remakeMap();
+    draw(false);
+  });
+}
+
+function measure() {
+  view.mapWidth = byId('map').clientWidth;
+  view.mapHeight = byId('map').clientHeight;
+  view.windowWidth = Math.max(byId('window').clientWidth, 320);
+}
+
+// What does not change from step to step.
+function summarize() {
+  const { steps } = run;
+  const most = (list, measureOf) => list.reduce((greatest, each) => Math.max(greatest, measureOf(each)), 0);
+  run.written = new Set(steps.flatMap(step => step.registers.map(change => change.place)));
+  run.most = most(steps, step => (step.taken ? step.taken.rows.filter(row => row.kind === 'register').length : 0));
+  run.reach = most([...run.known.values()], block => block.end) || 4;
+  run.used = Math.min(run.granules, Math.max(16, 2 ** Math.ceil(Math.log2(run.reach)))); // what the small bars show
+  view.columns = run.reach > 1024 ? 64 : run.reach > 64 ? 32 : 16;
+}
+
+// This page's decoder is no proved one: each cell of the data is compared with it, bit by bit while nothing else is to do.
+function compareCells() {
+  const cells = run.steps.flatMap(step => [...step.registers, ...step.granules].map(change => change.now));
+  const differing = [];
+  let next = 0;
+  const some = () => {
+    const until = performance.now() + 8;
+    while (next < cells.length && performance.now() < until) compareCell(cells[next++], differing);
+    if (next < cells.length) return setTimeout(some, 30);
+    const count = plural(differing.length, 'value');
+    if (differing.length) tellFault(`The data and this page decode ${count} differently, first ${differing[0]}.`);
+    byId('main').dataset.compared = cells.length;
+  };
+  some();
+}
+
+function compareCell({ told, word, meaning }, differing) {
+  const mine = { address: hex(meaning.address), base: hex(meaning.base), top: hex(meaning.top), perms: Number(meaning.permissions),
+    type: Number(meaning.type), exponent: meaning.exponent };
+  for (const [name, value] of Object.entries(mine)) {
+    if (told[name] !== value) differing.push(`${word}: ${name} is ${told[name]} in the data and ${value} here`);
+  }
+}
+
+function begin() {
+  const own = readTrace(textOf(byId('trace-text').textContent));
+  try {
+    readStates(byId('states').textContent, own);
+  } catch (problem) {
+    return tellFault(problem.message);
+  }
+  document.title = byId('title').textContent = own.title;
+  byId('subtitle').textContent = `A heap of ${plural(run.pages, 'page')}, ${hex(run.base)} to ${hex(heapEnd())}`;
+  summarize();
+  byId('columns').value = view.columns;
+  byId('slider').max = run.steps.length - 1;
+  byId('main').hidden = false;
+  drawList(own);
+  drawLegend();
+  makeRegisterRows();
+  measure();
+  moveTo(0);
+  remakeMap();
+  listen();
+  go(0);
+  compareCells();
+}
+
+begin();

@@ -1,0 +1,59 @@
+// Where things lie on the map: a row has so many granules, and places are counted in granules from the heap's base on.
+
+const CHIP = { width: 62, height: 30 }; // a register beside the map, with the room around it
+
+function shapeOfMap() {
+  const room = view.mapWidth, gutter = hex(heapEnd()).length * 6.9 + 10;
+  const fit = clamp(Math.floor((room - gutter - 8) / view.columns), 4, 44);
+  const width = view.cell || fit;
+  const height = width < 14 ? width : width < 24 ? Math.max(20, Math.round(width * 1.3)) : Math.max(30, Math.round(width * .75));
+  const all = Math.ceil(run.granules / view.columns);
+  const rowCount = view.whole ? all : Math.min(all, Math.max(6, Math.ceil(run.reach / view.columns) + 2));
+  return { width, height, gutter, rowCount, shown: Math.min(rowCount * view.columns, run.granules),
+    right: gutter + view.columns * width, bottom: rowCount * height, full: gutter + view.columns * width + 8,
+    chipsInRow: Math.max(1, Math.floor(view.columns * width / CHIP.width)) };
+}
+
+const spotOf = (L, place) => [L.gutter + (place % view.columns) * L.width, Math.floor(place / view.columns) * L.height];
+
+// The outline from one place to another along the rows of the map.
+function areaOf(L, start, end, inset) {
+  const n = view.columns, first = Math.floor(start / n), last = Math.ceil(end / n) - 1;
+  const y = first * L.height, Y = (last + 1) * L.height;
+  const a = L.gutter + (start - first * n) * L.width + inset, b = L.gutter + (end - last * n) * L.width - inset;
+  if (first === last) return `M${a} ${y + inset}H${Math.max(b, a + 2)}V${Y - inset}H${a}Z`;
+  if (last === first + 1 && b <= a) { // two rows that do not touch: open where they are cut
+    return `M${L.right} ${y + inset}H${a}V${y + L.height - inset}H${L.right}` +
+      `M${L.gutter} ${Y - L.height + inset}H${b}V${Y - inset}H${L.gutter}`;
+  }
+  const left = L.gutter + inset, right = L.right - inset;
+  return `M${a} ${y + inset}H${right}` + (end % n === 0 ? `V${Y - inset}` : `V${Y - L.height - inset}H${b}V${Y - inset}`) +
+    `H${left}` + (start % n === 0 ? 'Z' : `V${y + L.height + inset}H${a}Z`);
+}
+
+// Bounds in granules, cut to the heap up to an end; null where nothing is left.
+function clippedTo(end, base, top) {
+  const low = base > run.base ? base : run.base, high = top < end ? top : end;
+  return low < high ? [granulesTo(low), granulesTo(high)] : null;
+}
+
+const DIAMOND = (x, y, size) => `M${x} ${y - size}L${x + size} ${y}L${x} ${y + size}L${x - size} ${y}Z`;
+const STROKE = (x, y, size) => `M${x - size - 1} ${y + size + 1}L${x + size + 1} ${y - size - 1}`;
+
+// A tag is a full diamond, and one just taken a hollow one, struck out.
+function tagMark(x, y, size, tag, attributes = {}) {
+  return shape('path', { class: tag ? 'tag' : 'lost', d: DIAMOND(x, y, size) + (tag ? '' : STROKE(x, y, size)), ...attributes });
+}
+
+function tagSign(tag, wasTaken) {
+  const mark = wasTaken || tag ? tagMark(9, 8, 5.5, tag) : shape('path', { class: 'lost', d: DIAMOND(9, 8, 5.5) });
+  return element('span', { class: 'sign' }, shape('svg', { width: 18, height: 16, 'aria-hidden': 'true' }, mark), tag ? ' 1' : ' 0');
+}
+
+function patterns() {
+  const pattern = (name, size, d) => shape('pattern', { id: name, width: size, height: size, patternUnits: 'userSpaceOnUse' },
+    shape('path', { class: name, d }));
+  return shape('defs', {}, pattern('waiting-pattern', 7, 'M-1 8L8 -1M-1 1L1 -1M6 8L8 6'), pattern('painted-pattern', 6, 'M0 0L6 6M6 0L0 6'),
+    shape('marker', { id: 'arrow', viewBox: '0 0 8 8', refX: 7, refY: 4, markerWidth: 7, markerHeight: 7, orient: 'auto' },
+      shape('path', { class: 'arrow', d: 'M0 0L8 4L0 8Z' })));
+}

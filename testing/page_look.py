@@ -1,0 +1,276 @@
+"""What testing/page_tests.py asks the page, and what the answer has to be."""
+
+import page_model
+from page_model import NAMES, COLOURS, PATTERNS, NULL_WORD, Word, block_key, grouped, hexadecimal
+
+# All that the page shows of a step, as its document has it.
+LOOK = r"""(() => {
+  const all = selector => [...document.querySelectorAll(selector)], text = node => (node ? node.textContent : null);
+  const middle = node => { const box = node.getBBox(); return [box.x + box.width / 2, box.y + box.height / 2]; };
+  const box = node => { const { x, y, width, height } = node.getBBox(); return [x, y, width, height]; };
+  const ends = path => [0, path.getTotalLength()].map(length => { const { x, y } = path.getPointAtLength(length); return [x, y]; });
+  const current = all('#lines [aria-current]'), row = current[0], item = row.parentNode, list = document.querySelector('#lines').getBoundingClientRect();
+  const seen = row.getBoundingClientRect(), paint = (node, name) => (node ? getComputedStyle(node)[name] : null);
+  return JSON.stringify({
+    step: Number(row.dataset.step), currents: current.length, line: text(row.querySelector('.number')), text: text(row.querySelector('code')),
+    reply: text(row.querySelector('.reply')) ?? '', notes: [...item.querySelectorAll('.note')].map(text),
+    inView: seen.top >= list.top - 1 && seen.bottom <= list.bottom + 1, command: text(document.querySelector('#what .command')),
+    sentence: text(document.querySelector('#what p:last-child')), count: text(document.querySelector('#count')),
+    slider: document.querySelector('#slider').value,
+    blocks: all('#map [data-block]').map(node => [node.dataset.block, node.dataset.state, paint(node.querySelector('.fill'), 'fill'),
+      paint(node.querySelector('.over'), 'fill'), text(node.querySelector('text')), node.classList.contains('new')]),
+    table: all('#blocks tr').map(line => [...line.cells].map(text)),
+    marks: all('#map [data-granule]').map(node => [Number(node.dataset.granule), node.dataset.tag, node.getAttribute('class'), middle(node)]),
+    rings: all('#map [data-changed]').map(node => [Number(node.dataset.changed), box(node)]),
+    registers: all('#rows tr').map(line => [line.dataset.register, line.dataset.tag, line.dataset.word, line.classList.contains('new'),
+      text(line.querySelector('.sign')).trim(), text(line.querySelector('.newmark')) ?? '', line.querySelector('.sign path').getAttribute('class'),
+      text(line.cells[1].querySelector('code')), text(line.querySelector('.bounds')), line.cells[1].querySelector('svg')?.getAttribute('aria-label') ?? null,
+      line.querySelector('.bound') ? box(line.querySelector('.bound')).filter((_, index) => index % 2 === 0) : null]),
+    reasons: all('#map [data-reason]').map(path => [path.dataset.reason, ends(path)]),
+    chips: all('#map [data-taken]').map(node => [node.dataset.taken, box(node.querySelector('rect')), node.querySelector('path').getAttribute('class')]),
+    taken: all('#taken tbody tr').map(line => [...line.cells].map(text)), shape: { ...map.shape, columns: view.columns, top: map.top },
+    bounds: document.querySelector('#map [data-bounds]')?.dataset.bounds ?? null,
+    broken: document.querySelector('#map [data-bounds]')?.classList.contains('off') ?? null,
+    pins: all('#map .pinned').map((node, index) => [text(node), middle(all('#map .pin')[index])]),
+    shown: text(document.querySelector('#shown')), meaning: all('.meaning tr').map(line => [...line.cells].map(text)),
+    steps: all('.steps li').map(text).join(' '), fields: all('.fields code').map(text), bytes: all('#word p code').map(text),
+    window: document.querySelector('#window svg').getAttribute('aria-label'), edges: all('#window text').map(text),
+    verdict: text(document.querySelector('#verdict')), exact: document.querySelector('#exact').value, detail: text(document.querySelector('#detail')),
+    epoch: !document.querySelector('#epoch').hidden, sides: all('#sides [aria-pressed=true]').map(text), fault: text(document.querySelector('#fault')) });
+})()"""
+
+# For each granule that the map shows, the blocks in whose drawn area its middle lies, and whether it is in the bounds chosen.
+AREAS = r"""(() => {
+  const areas = [...document.querySelectorAll('#map [data-block]:not(.released)')].map(node => [node.dataset.block, node.querySelector('.fill')]);
+  const pick = document.querySelector('#map [data-bounds]'), point = map.box.createSVGPoint(), L = map.shape, n = view.columns, found = [];
+  for (let place = 0; place < L.shown; place++) {
+    point.x = L.gutter + (place % n + .5) * L.width;
+    point.y = (Math.floor(place / n) + .5) * L.height;
+    found.push([areas.filter(area => area[1].isPointInFill(point)).map(area => area[0]), Boolean(pick && pick.isPointInFill(point))]);
+  }
+  return JSON.stringify([pick ? pick.dataset.bounds : null, found]);
+})()"""
+
+DECODED = r"""JSON.stringify(%s.map(([text, address]) => {
+  const word = decode(bitsOf(text)), there = decode(bitsOf(text), BigInt(address));
+  return [hex(word.base), hex(word.top), hex(word.baseMantissa), hex(word.topMantissa), hex(word.topField), hex(word.baseField), hex(word.type),
+    word.exponent, Number(word.permissions), String(word.low), keepsBounds(word, BigInt(address)), hex(there.base), hex(there.top)];
+}))"""
+
+NOTES = "JSON.stringify([...document.querySelectorAll('#lines .note')].map(note => note.textContent))"
+HARM = """JSON.stringify([window.evil ?? null, document.images.length, document.scripts.length,
+  document.querySelectorAll('#title *, #lines :not(ol, li, p, div, button, span, code), #what :not(p, code, b), a, iframe, plaintext').length])"""
+NO_HARM = "[null,0,3,0]"
+
+# How long the page took to open by the clock, and how many blocks it has at most at four places of the trace.
+OPENED = r"""JSON.stringify([performance.getEntriesByType('navigation')[0].loadEventEnd,
+  Math.max(...[1, 2, 3, 4].map(part => { go(Math.floor((run.steps.length - 1) * part / 4)); return state.blocks.size; }))])"""
+
+PICTURES = [
+    ("sweep_light", "lesson_a_derived_pointer_goes_by_its_base", 9, False, (1440, 900), ""),
+    ("sweep_dark", "lesson_a_derived_pointer_goes_by_its_base", 9, True, (1440, 900), ""),
+    ("sweep_before", "lesson_contents_stay", 5, False, (1280, 800), "show(true)"),
+    ("use_after_free", "lesson_use_after_free", 4, False, (1280, 800), ""),
+    ("epoch_light", "lesson_an_epoch_with_a_store", 6, False, (1440, 900), ""),
+    ("epoch_dark", "lesson_an_epoch_with_a_store", 9, True, (1440, 900), ""),
+    ("hidden", "lesson_a_copy_hidden_in_memory", 6, False, (1280, 800), ""),
+    ("hostile", "lesson_text_that_is_not_markup", 5, False, (1280, 800), ""),
+    ("narrow", "lesson_permissions", 4, False, (700, 1200), ""),
+    ("inspector_light", "lesson_edges_of_a_window", 4, False, (1280, 800), "byId('inspector').scrollIntoView()"),
+    ("inspector_dark", "lesson_edges_of_a_window", 7, True, (1280, 800), "byId('inspector').scrollIntoView(); tryAddress(0x40003900n)"),
+    ("grey", "lesson_an_epoch_with_a_store", 8, False, (1440, 900), "document.documentElement.style.filter = 'grayscale(1)'"),
+    ("paper", "lesson_an_epoch_with_a_store", 9, False, (1000, 900), ""),
+]
+
+
+class Expected:
+    """Compares what the page shows of a run with the states of page_model."""
+
+    def __init__(self, run, check):
+        self.run, self.check = run, check
+
+    def compare(self, name, index, seen):
+        run, check, value, state = self.run, self.check, self.run.values[index], self.run.states[index]
+        line, text, notes = run.trace.counted[index]
+        check(f"{name}: the row", [seen[key] for key in ("step", "currents", "line", "text", "reply", "notes")],
+              [index, 1, str(line), text, value["reply"], notes])
+        check(f"{name}: the row is in view", seen["inView"], True)
+        check(f"{name}: the step", [seen["command"], seen["count"], seen["slider"]],
+              [text + (f" → {value['reply']}" if value["reply"] else ""), f"step {grouped(index)} of {grouped(len(run.values) - 1)}", str(index)])
+        self.compare_sentence(name, value, state, seen["sentence"])
+        self.compare_state(name, index, state, seen, True)
+        self.compare_taken(name, index, seen, True)
+        check(f"{name}: changed granules", [place for place, _ in sorted(seen["rings"])], run.changes(index, "granules"))
+        check(f"{name}: their rings stand in their cells", [place for place, ring in seen["rings"] if not self.is_in_cell(seen, place, ring)], [])
+        check(f"{name}: an open epoch is told", seen["epoch"], state.open)
+        check(f"{name}: no fault", seen["fault"], "")
+        self.compare_shown(name, index, state, seen)
+
+    def compare_sentence(self, name, value, state, sentence):
+        answer = value["reply"].split()
+        is_trap = answer[:1] == ["trap"]
+        self.check(f"{name}: the sentence says whether it was refused", sentence.startswith("Refused: "), is_trap)
+        numbers = [part if part.startswith("0x") else grouped(int(part)) for part in answer if part[0].isdigit()]
+        name_of, *words = value["text"].split()
+        if not is_trap and name_of in ("write", "storecap", "loadcap") and words[0] != words[1]:
+            authority = words[name_of == "loadcap"]
+            block = state.block_of(Word(state.register(int(authority[1:]))[1]).base)
+            self.check(f"{name}: a stale capability is told", f"{authority} is stale" in sentence, state.blocks[block] != "live")
+        if not is_trap and name_of != "show":
+            self.check(f"{name}: the sentence has the numbers of the reply", [number for number in numbers if number not in sentence], [])
+
+    def compare_state(self, name, index, state, seen, is_after):
+        check, run = self.check, self.run
+        blocks = {key: rest for key, *rest in seen["blocks"] if rest[0] != "released"}
+        new = {block for block in state.blocks if is_after and run.before(index).blocks.get(block) != state.blocks[block]}
+        check(f"{name}: blocks, with colour and pattern", {key: [of[0], of[1], of[2], of[4]] for key, of in blocks.items()},
+              {block_key(block): [of, COLOURS[of], PATTERNS[of], block in new] for block, of in state.blocks.items()})
+        check(f"{name}: names on blocks", [key for key, of in blocks.items() if of[3] not in (None, NAMES[of[0]])], [])
+        ended = {block for block in run.before(index).blocks if block not in state.blocks} if is_after else set()
+        check(f"{name}: blocks that ended", sorted(key for key, of, *_ in seen["blocks"] if of == "released"), sorted(map(block_key, ended)))
+        check(f"{name}: the table of blocks", seen["table"], [
+            [hexadecimal(base), hexadecimal(top), grouped(top - base), NAMES[of]] for (base, top), of in sorted(state.blocks.items())])
+        lost = {row[1] for row in run.taken(index) or [] if row[0] == "granule"} if is_after else set()
+        wanted = {place: ["1", "tag"] if tag else ["0", "lost"] if place in lost else ["0", "data"]
+                  for place, (tag, word) in state.granules.items() if tag or word != NULL_WORD}
+        check(f"{name}: tags and data in memory", {place: [tag, kind] for place, tag, kind, _ in seen["marks"]}, wanted)
+        check(f"{name}: each mark stands once, in its cell", [place for place, *_, at in seen["marks"] if not self.is_in_cell(seen, place, [*at, 0, 0])]
+              + [len(seen["marks"]) - len(wanted)], [0])
+        self.compare_registers(name, index, state, seen["registers"], is_after)
+
+    def compare_registers(self, name, index, state, rows, is_after):
+        changed = self.run.changes(index, "registers") if is_after else []
+        lost = {row[1] for row in self.run.taken(index) or [] if row[0] == "register"} if is_after else set()
+        wanted = []
+        for number in self.run.written:
+            tag, text = state.register(number)
+            word, is_null, has_lost = Word(text), not tag and text == NULL_WORD, number in lost and not tag
+            told = "tag taken" if has_lost else "changed" if number in changed else ""
+            wanted.append([str(number), str(int(tag)), text, number in changed, str(int(tag)), told, "tag" if tag else "lost",
+                           None if is_null else hexadecimal(word.address),
+                           None if is_null else f"{word.base:#x} to {word.top:#x}",
+                           None if is_null else f"bounds {word.base:#x} to {word.top:#x}, base {self.place(state, word.base)}",
+                           None if is_null else self.bar(word)])
+        self.check(f"{name}: registers", rounded(rows), rounded(wanted))
+
+    def bar(self, word):
+        """Where the bounds stand in a register's small bar, which shows the part of the heap that is used."""
+        low, high = max(word.base, self.run.base), min(word.top, self.run.base + 16 * self.run.used)
+        if low >= high:
+            return None
+        x, end = (3 + (address - self.run.base) / 16 / self.run.used * 159 for address in (low, high))
+        return [x, max(end - x, 3)]
+
+    def place(self, state, base):
+        block = state.block_of(base)
+        if block:
+            return f"in the {NAMES[state.blocks[block]]} block {block[0]:#x} to {block[1]:#x}"
+        return "in free bytes" if self.run.base <= base < self.run.base + 4096 * self.run.pages else "outside of the heap"
+
+    def compare_taken(self, name, index, seen, is_after):
+        rows = self.run.taken(index)
+        self.check(f"{name}: before and after", seen["sides"], [] if rows is None else ["after" if is_after else "before"])
+        rows = rows or []
+        self.check(f"{name}: what was taken had a tag, and its base lies in a block in quarantine",
+                   [row[2] for row in rows if not row[3] or row[5] is None or self.run.before(index).blocks[row[5]] == "live"], [])
+        self.check(f"{name}: tags taken, with the reasons", seen["taken"], [
+            [called, hexadecimal(word.address), hexadecimal(word.base), f"{block[0]:#x} to {block[1]:#x}"] for _, _, called, _, word, block in rows])
+        self.check(f"{name}: a line for each", [reason for reason, _ in seen["reasons"]], [f"{row[2]} {block_key(row[5])}" for row in rows])
+        chips = {called: box for called, box, _ in seen["chips"]}
+        self.check(f"{name}: a sign for each register", [[called, kind] for called, _, kind in seen["chips"]],
+                   [[row[2], "lost" if is_after else "tag"] for row in rows if row[0] == "register"])
+        for row, (_, (start, end)) in zip(rows, seen["reasons"]):
+            base = (row[4].base - self.run.base) / 16
+            shape = seen["shape"]
+            x, y = shape["gutter"] + base % shape["columns"] * shape["width"], base // shape["columns"] * shape["height"]
+            self.check(f"{name}: the line of {row[2]} ends at the base", [abs(end[0] - x) < 3, -1 < end[1] - y < shape["height"] / 2], [True, True])
+            if row[0] == "granule":
+                self.check(f"{name}: the line of {row[2]} begins at the word", self.is_in_cell(seen, row[1], [*start, 0, 0]), True)
+            else:
+                left, top, width, height = chips[row[2]]
+                at = start[0], start[1] + shape["top"]
+                self.check(f"{name}: the line of {row[2]} begins at its sign", left <= at[0] <= left + width and top <= at[1] <= top + height + 1, True)
+
+    def before(self, name, index, seen):
+        self.compare_state(name, index, self.run.before(index), seen, False)
+        self.compare_taken(name, index, seen, False)
+        self.check(f"{name}: nothing has changed yet", seen["rings"], [])
+
+    def compare_shown(self, name, index, state, seen):
+        """What the inspector and the map show of the word that the step is about."""
+        followed = self.run.followed(index)
+        if followed is None:
+            self.check(f"{name}: shown", seen["shown"], "Shown is null, as nothing is chosen, without a tag.")
+            return
+        kind, number = followed
+        tag, text = state.register(number) if kind == "register" else state.granule(number)
+        called, word = f"c{number}" if kind == "register" else f"the granule at {self.run.base + 16 * number:#x}", Word(text)
+        self.check(f"{name}: shown", seen["shown"], f"Shown is {called}, {'tagged' if tag else 'without a tag'}.")
+        compare_word(self.check, name, word, seen)
+        compare_try(self.check, name, word, word.address, seen)
+        about = f"{called}: the base {word.base:#x} lies {self.place(state, word.base)}. " if tag else f"{called} has no tag: 16 bytes of data. "
+        self.check(f"{name}: where its base lies", seen["detail"].startswith(about), text != NULL_WORD)
+        if not hidden_by(self.run, index):
+            self.check(f"{name}: broken lines where it has no tag", seen["broken"], None if seen["bounds"] is None else not tag)
+        end = self.run.base + 16 * seen["shape"]["shown"]
+        hidden = hidden_by(self.run, index)
+        self.check(f"{name}: its bounds on the map", seen["bounds"],
+                   f"{word.base:#x} {word.top:#x}" if not hidden and max(word.base, self.run.base) < min(word.top, end) else None)
+        both = [("base, address", word.base)] if word.base == word.address else [("base", word.base), ("address", word.address)]
+        pins = [] if hidden else [(pin, address) for pin, address in both if self.run.base <= address < end]
+        self.check(f"{name}: base and address on the map", [pin for pin, _ in seen["pins"]], [pin for pin, _ in pins])
+        for (pin, address), (_, at) in zip(pins, seen["pins"]):
+            shape, place = seen["shape"], (address - self.run.base) / 16
+            x, y = shape["gutter"] + place % shape["columns"] * shape["width"], place // shape["columns"] * shape["height"]
+            self.check(f"{name}: the {pin} stands in its place", [abs(at[0] - x) < 3, -10 < at[1] - y < shape["height"] + 10], [True, True])
+
+    def areas(self, name, index, found):
+        """Each granule lies in the area of its own block and in no other, and in the bounds chosen where they have it."""
+        state, (bounds, granules) = self.run.states[index], found
+        wanted = [[block_key(block) for block in state.blocks if block[0] <= self.run.base + 16 * place < block[1]] for place in range(len(granules))]
+        self.check(f"{name}: areas", [(place, got, want) for place, ((got, _), want) in enumerate(zip(granules, wanted)) if got != want], [])
+        if bounds:
+            base, top = (int(bound, 16) for bound in bounds.split())
+            whole = [place for place in range(len(granules)) if not any(0 < edge - self.run.base - 16 * place < 16 for edge in (base, top))]
+            self.check(f"{name}: the area of the bounds", [place for place in whole if granules[place][1] != (base <= self.run.base + 16 * place < top)], [])
+
+    def is_in_cell(self, seen, place, box):
+        shape, (x, y, width, height) = seen["shape"], box
+        left, top = shape["gutter"] + place % shape["columns"] * shape["width"], place // shape["columns"] * shape["height"]
+        return left <= x and x + width <= left + shape["width"] and top <= y and y + height <= top + shape["height"]
+
+
+def hidden_by(run, index):
+    """Whether the map shows a pass, and so no bounds of what is followed."""
+    return run.taken(index) is not None
+
+
+def rounded(rows):
+    """With the last item, two places on a bar, as whole tenths."""
+    return [[*row[:-1], row[-1] and [round(number, 1) for number in row[-1]]] for row in rows]
+
+
+def compare_word(check, name, word, seen):
+    names = {0: "GLOBAL", 2: "LOAD", 3: "STORE", 4: "LOAD_CAPABILITY", 5: "STORE_CAPABILITY"}
+    permissions = ", ".join(names.get(bit, f"bit {bit}") for bit in range(16) if word.permissions >> bit & 1) or "none"
+    check(f"{name}: what its word means", seen["meaning"], [
+        ["address", hexadecimal(word.address)], ["base", hexadecimal(word.base)], ["top", hexadecimal(word.top)],
+        ["length", grouped(word.top - word.base) if word.top >= word.base else "none: the top is below the base"],
+        ["exponent", str(word.exponent)], ["permissions", permissions]])
+    check(f"{name}: its fields", seen["fields"], [hexadecimal(word.permissions), str(word.reserved), str(word.flag), hexadecimal(word.type), str(word.internal),
+                                                  hexadecimal(word.top_field), hexadecimal(word.base_field)])
+    pieces = [word.text[at:at + 2] for at in range(0, 32, 2)]
+    check(f"{name}: its bytes", seen["bytes"], [" ".join(pieces[:8]), " ".join(pieces[8:]), f"{word.stored:016x}", f"{page_model.NULL_METADATA:016x}",
+                                               f"{word.stored ^ page_model.NULL_METADATA:016x}"])
+    told = [f"= {word.exponent}" if word.internal else "E = 0", f"B = {word.base_mantissa:#x}.", f"T = {word.top_mantissa:#x}.", f"2^{word.exponent + 14} "]
+    check(f"{name}: E, B, T and the window's size", [part for part in told if part not in seen["steps"]], [])
+    low, end = word.low % 2**64, (word.low + (1 << word.exponent + 14)) % 2**64
+    edges = ["all addresses keep the bounds"] if word.exponent >= 50 else [f"low {low:#x}", f"end {end:#x}"]
+    check(f"{name}: the window", seen["edges"][:len(edges) + 2], [*edges, f"base {word.base:#x}", f"top {word.top:#x}"])
+
+
+def compare_try(check, name, word, address, seen):
+    there, keeps = Word(word.text, address), word.keeps_bounds_at(address)
+    begin = f"{'✓ The bounds stay' if keeps else '✗ The bounds would change'} at {address:#x}: {there.base:#x} to {there.top:#x}. "
+    check(f"{name}: its bounds at {address:#x}", [seen["verdict"][:len(begin)], seen["exact"], seen["edges"][-1], "bounds there" in seen["edges"]],
+          [begin, hexadecimal(address), f"address {address:#x}", not keeps])

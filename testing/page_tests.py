@@ -1,0 +1,414 @@
+"""The tests of testing/page."""
+
+import json
+import os
+import pathlib
+import random
+import shutil
+import subprocess
+import time
+
+import page_look
+import page_model
+from page_model import Word, block_key, grouped, hexadecimal
+
+PICTURED = "lesson_use_after_free"
+EVIL = "\"'><img src=x onerror=\"window.evil=1\"><script>window.evil=2</script><!-- <b>bold</b> ]]> \u2028"
+
+
+class Tests:
+    def __init__(self, root, scratch, browser):
+        self.root, self.scratch, self.browser = root, scratch, browser
+        self.passed = self.failed = 0
+        self.quiet = False  # for a wrong page, of which one fault is enough
+
+    def check(self, what, got, wanted):
+        if got == wanted:
+            self.passed += 1
+            return
+        self.failed += 1
+        if not self.quiet:
+            print(f"FAILED: {what}\n  page    {str(got)[:500]}\n  wanted  {str(wanted)[:500]}")
+
+    # Pages
+
+    def make(self, root, raw, words=()):
+        return subprocess.run([root / "heap_page", *words], input=raw, stdout=subprocess.PIPE, stderr=subprocess.PIPE)
+
+    def page(self, root, raw, name):
+        """Writes the page of a trace; it and the data that it has."""
+        made = self.make(root, raw)
+        self.check(f"{name}: ./heap_page answers with a page", (made.returncode, made.stderr), (0, b""))
+        path = self.scratch / f"{name}.html"
+        path.write_bytes(made.stdout)
+        return path
+
+    def data(self, raw):
+        return subprocess.run([self.root / "heap_states"], input=raw, stdout=subprocess.PIPE, check=True).stdout.decode()
+
+    def lessons(self):
+        return sorted(path for path in (self.root / "examples").glob("lesson_*") if not (path / "status").exists())
+
+    def open(self, path, **more):
+        self.browser.open(path, **more)
+
+    def look(self):
+        return json.loads(self.browser.run(page_look.LOOK))
+
+    def no_noise(self, name):
+        self.check(f"{name}: no message, no fault, nothing fetched", self.browser.noise(), [])
+
+    # A lesson, step by step
+
+    def lesson(self, root, name, raw=None):
+        """A lesson, or another trace, forward and backward and before each pass."""
+        raw = raw or (self.root / "examples" / name / "stdin").read_bytes()
+        run = page_model.Run(raw, self.data(raw))
+        self.open(self.page(root, raw, name))
+        expected = page_look.Expected(run, self.check)
+        check, last = self.check, len(run.values) - 1
+        expected.compare(f"{name} step 0", 0, self.look())
+        for index in range(1, last + 1):
+            self.browser.key(("ArrowDown", "ArrowRight")[index % 2])
+            expected.compare(f"{name} step {index}", index, self.look())
+            self.areas(expected, f"{name} step {index}", index, (16, 32, 64) if index == last else (None,))
+        self.browser.key("Home")
+        check(f"{name}: Home", self.look()["step"], 0)
+        self.browser.key("End")
+        check(f"{name}: End", self.look()["step"], last)
+        for index in range(last - 1, -1, -1):
+            self.browser.key(("ArrowUp", "ArrowLeft")[index % 2])
+            expected.compare(f"{name} back at step {index}", index, self.look())
+        for index in [step for seed in (2, 7) for step in random.Random(seed).sample(range(last + 1), min(last + 1, 25))]:
+            self.browser.run(f"document.querySelector('[data-step=\"{index}\"]').click()")
+            expected.compare(f"{name} at once at step {index}", index, self.look())
+        for index in range(last + 1):
+            if run.taken(index) is not None:
+                self.before_a_pass(expected, name, index)
+        self.no_noise(name)
+
+    def areas(self, expected, name, index, columns):
+        for count in columns:
+            if count is not None:
+                self.browser.run(f"(() => {{ byId('columns').value = {count}; byId('columns').dispatchEvent(new Event('change')); }})()")
+            expected.areas(f"{name}, a row of {count or 'as many as it has'}", index, json.loads(self.browser.run(page_look.AREAS)))
+
+    def before_a_pass(self, expected, name, index):
+        self.browser.run(f"document.querySelector('[data-step=\"{index}\"]').click(); document.querySelector('[data-before=true]').click()")
+        expected.before(f"{name} before step {index}", index, self.look())
+        self.browser.run("document.querySelector('[data-before=false]').click()")
+        expected.compare(f"{name} after step {index} again", index, self.look())
+
+    # Words and addresses
+
+    def words(self, root):
+        """The page's decoder and its inspector, on words of every shape."""
+        raw = (self.lessons()[0] / "stdin").read_bytes()
+        self.open(self.page(root, raw, "words"))
+        words = list(page_model.random_words(6000, 14))
+        asked = json.dumps([[word.text, str(address)] for word, address in words])
+        got = json.loads(self.browser.run(page_look.DECODED % asked))
+        for (word, address), row in zip(words, got, strict=True):
+            there = Word(word.text, address)
+            self.check(f"the word {word.text} at {address:#x}", row, [
+                *map(hexadecimal, (word.base, word.top, word.base_mantissa, word.top_mantissa, word.top_field, word.base_field, word.type)),
+                word.exponent, word.permissions, str(word.low), word.keeps_bounds_at(address), hexadecimal(there.base), hexadecimal(there.top)])
+        for word, address in words[:150]:
+            self.browser.run(f"byId('typed').value = '{word.text}'; byId('typed').dispatchEvent(new Event('input'))")
+            self.browser.run(f"byId('exact').value = '{address}'; byId('exact').dispatchEvent(new Event('change'))")
+            page_look.compare_word(self.check, f"the word typed {word.text}", word, self.look())
+            page_look.compare_try(self.check, f"the word typed {word.text} at {address:#x}", word, address, self.look())
+        self.no_noise("words")
+
+    def tries(self, root):
+        """Another address, by the pointer and by keys; the edges of a window by their buttons."""
+        self.open(self.page(root, (self.root / "examples/lesson_edges_of_a_window/stdin").read_bytes(), "tries"))
+        run, word = self.browser.run, Word("00000040000000000480090400003d00")
+        self.browser.key("ArrowRight")
+        for name, address in (("low − 1", word.low - 1), ("low", word.low), ("end − 1", word.low + 0x3FFF), ("end", word.low + 0x4000),
+                              ("base", word.base), ("top", word.top), ("address", word.address)):
+            run(f"document.querySelector('[data-jump=\"{name}\"]').click()")
+            page_look.compare_try(self.check, f"the button {name}", word, address, self.look())
+        self.browser.key("ArrowRight")
+        run("byId('window').scrollIntoView({ block: 'center' })")
+        x, y, width = json.loads(run("(() => { const b = byId('window').getBoundingClientRect(); return JSON.stringify([b.x, b.y + 40, b.width]); })()"))
+        self.browser.mouse("mousePressed", x + width / 2, y, button="left", clickCount=1)
+        self.browser.mouse("mouseMoved", x + width * 0.9, y, button="left", buttons=1)
+        self.browser.mouse("mouseReleased", x + width * 0.9, y, button="left")
+        address = int(self.look()["exact"], 16)
+        self.check("dragged past the window", address > word.low + 0x4000, True)
+        page_look.compare_try(self.check, "dragged", word, address, self.look())
+        run("document.querySelector('[data-by=\"1\"]').focus()")
+        self.browser.key("Enter")
+        page_look.compare_try(self.check, "one address up", word, address + 1, self.look())
+        run("byId('probe').focus()")
+        self.browser.key("Home")
+        page_look.compare_try(self.check, "the slider's start", word, word.low - 0x2000, self.look())
+        self.no_noise("tries")
+
+    # The controls
+
+    def controls(self, root):
+        self.open(self.page(root, (self.root / "examples/lesson_a_copy_hidden_in_memory/stdin").read_bytes(), "controls"))
+        run, check = self.browser.run, self.check
+        step = lambda: run("Number(document.querySelector('#lines [aria-current]').dataset.step)")
+        self.names()
+        for key, wanted in (("PageDown", 9), ("PageUp", 0), ("End", 9), ("Home", 0), ("ArrowRight", 1), ("ArrowDown", 2), ("ArrowRight", 3)):
+            self.browser.key(key)
+            check(f"the key {key}", step(), wanted)
+        check("tab reaches the map", self.tab_to("#map"), True)
+        self.browser.key("ArrowRight")
+        self.browser.key("ArrowLeft")
+        self.browser.key("Enter")
+        check("Enter on the map shows the granule", run("byId('shown').textContent"), "Shown is the granule at 0x40000000, tagged.")
+        check("keys of the map make no step", step(), 3)
+        for name, text in (("1", "Shown is c1, tagged."), ("2", "Shown is c2, tagged.")):
+            check(f"tab reaches c{name}", self.tab_to(f"[data-choose='{name}']"), True)
+            self.browser.key("Enter")
+            check(f"c{name} is shown", run("byId('shown').textContent"), text)
+        check("tab reaches the slider of addresses", self.tab_to("#probe"), True)
+        self.browser.key("End")
+        check("past the window the tag goes", "So setaddr takes the tag." in run("byId('verdict').textContent"), True)
+        check("tab reaches the list", self.tab_to("#lines [aria-current]"), True)
+        self.browser.key("ArrowDown")
+        check("an arrow in the list makes a step, and the keyboard stays there", (step(), run("document.activeElement.dataset.step")), (4, "4"))
+        run("document.activeElement.blur(); go(6)")
+        for side, tags in (("true", 2), ("false", 1)):
+            check(f"tab reaches the state before or after a sweep, {side}", self.tab_to(f"[data-before={side}]"), True)
+            self.browser.key("Enter")
+            check(f"it is shown, {side}", run("document.querySelectorAll('#rows [data-tag=\"1\"], #map [data-tag=\"1\"]').length"), tags)
+            check(f"the keyboard stays there, {side}", run("document.activeElement.dataset.before"), side)
+        self.pointer(step)
+        run("byId('slider').focus()")
+        self.browser.key("ArrowRight")
+        check("the slider", step(), 4)
+        run("document.activeElement.blur(); go(0)")
+        self.browser.key(" ")
+        time.sleep(2.4)
+        self.browser.key(" ")
+        check("play went one step and stopped", (step(), run("byId('play').textContent")), (1, "Play"))
+        self.no_noise("controls")
+        run("window.blocked = 0; addEventListener('securitypolicyviolation', () => blocked++);"
+            "fetch('http://127.0.0.1:9/').catch(() => 0); new Image().src = 'http://127.0.0.1:9/x.png'; void 0")
+        time.sleep(0.5)
+        check("nothing may be fetched", run("blocked"), 2)
+
+    def names(self):
+        """By the browser's own tree for screen readers: what can have the keyboard has a name, and no other has the same."""
+        nodes = [node for node in self.browser.call("Accessibility.getFullAXTree")["nodes"] if not node.get("ignored")
+                 and any(each["name"] == "focusable" and each["value"]["value"] for each in node.get("properties", []))]
+        called = [(node["role"]["value"], node["name"]["value"].strip()) for node in nodes if node["role"]["value"] != "RootWebArea"]
+        self.check("there are controls", len(called) > 30, True)
+        self.check("every control has a name", [role for role, name in called if not name], [])
+        self.check("no two controls have the same name", sorted({each for each in called if called.count(each) > 1}), [])
+
+    def tab_to(self, selector):
+        for _ in range(80):
+            self.browser.key("Tab")
+            if self.browser.run(f"document.activeElement.matches({json.dumps(selector)})"):
+                return True
+        return False
+
+    def pointer(self, step):
+        middle = "(() => { const b = document.querySelector(%s).getBoundingClientRect(); return JSON.stringify([b.x + b.width / 2, b.y + b.height / 2]); })()"
+        self.browser.run("go(3); byId('map').blur(); scrollTo(0, 0)")
+        x, y = json.loads(self.browser.run(middle % "'#map [data-granule]'"))
+        self.browser.mouse("mouseMoved", x, y)
+        self.check("the pointer tells the granule", "Granule 0 at 0x40000000" in self.browser.run("byId('detail').textContent"), True)
+        self.browser.click(x, y)
+        self.check("a click shows it", "the granule at 0x40000000" in self.browser.run("byId('shown').textContent"), True)
+        x, y = json.loads(self.browser.run(middle % "'[data-step=\"2\"]'"))
+        self.browser.click(x, y)
+        self.check("a click in the list", step(), 2)
+        for name, wanted in (("next", 3), ("back", 2), ("last", 9), ("first", 0), ("next", 1), ("next", 2), ("next", 3)):
+            x, y = json.loads(self.browser.run(middle % f"'#{name}'"))
+            self.browser.click(x, y)
+            self.check(f"the button {name}", step(), wanted)
+
+    # Texts and data that mean harm
+
+    def hostile(self, root):
+        """All bytes in comments; and data that no heap_states writes, put into a page by hand."""
+        lesson = self.root / "examples/lesson_text_that_is_not_markup"
+        everything = b"".join(b"# %d: %c <i>%c\n" % (byte, byte, byte) for byte in range(256) if byte != 10)
+        for name, raw in ((lesson.name, (lesson / "stdin").read_bytes()), ("all bytes", everything + b"heap 0 1\nmalloc c1 1 \r\nsweep\n" + everything)):
+            self.open(self.page(root, raw, name.replace(" ", "_")))
+            trace = page_model.Trace(raw)
+            self.check(f"{name}: the title is text", self.browser.run("byId('title').textContent"), trace.title)
+            notes = [note for *_, notes in trace.counted for note in notes] + trace.after
+            self.check(f"{name}: the notes are text", json.loads(self.browser.run(page_look.NOTES)), notes)
+            self.browser.key("End")
+            self.check(f"{name}: nothing came of it", self.browser.run(page_look.HARM), page_look.NO_HARM)
+            self.no_noise(name)
+        good = (self.scratch / f"{lesson.name}.html").read_text()
+        head, rest = good.split('id="states">', 1)
+        lines, tail = rest.split("</script>", 1)
+        lines = lines.split("\n")
+        cell = lines[1].split('{"r":1,', 1)[1].split("}", 1)[0]
+        value = json.loads(lines[1])
+        evil = json.dumps({**value, "reply": "trap " + EVIL, "text": "malloc " + EVIL})
+        self.faulty("a reply that is markup", head, [lines[0], evil, *lines[2:]], tail, False)
+        shown = self.browser.run("go(1); document.querySelector('[data-step=\"1\"] .reply').textContent")
+        self.check("a reply that is markup: it is text", shown, "trap " + EVIL)
+        self.check("a reply that is markup: nothing came of it", self.browser.run(page_look.HARM), page_look.NO_HARM)
+        for name, change in {
+            "no data": lambda: [], "no JSON": lambda: ["{", *lines[1:]], "cut": lambda: lines[:-2],
+            "no heap": lambda: lines[1:], "two heaps": lambda: [lines[0], *lines],
+            "a line too many": lambda: [*lines[:3], lines[2], *lines[3:]], "a line too few": lambda: [*lines[:2], *lines[3:]],
+            "an unknown state": lambda: [lines[0], lines[1].replace('"live"', '"<b>"'), *lines[2:]],
+            "a word that is none": lambda: [lines[0], lines[1].replace("00000040000000000480090400003d00", "zz"), *lines[2:]],
+            "another base": lambda: [lines[0], lines[1].replace(cell, cell.replace('"base":"0x40000000"', '"base":"0x1"')), *lines[2:]],
+            "a granule past the heap": lambda: [lines[0], lines[1].replace('"granules":[]', '"granules":[{"i":256,%s}]' % cell), *lines[2:]],
+            "a block past the heap": lambda: [lines[0], lines[1].replace('"top":"0x40000020","state"', '"top":"0x50000000","state"'), *lines[2:]],
+        }.items():
+            self.faulty(name, head, change(), tail, True)
+
+    def faulty(self, name, head, lines, tail, is_told):
+        path = self.scratch / "faulty.html"
+        path.write_text(head + 'id="states">' + "\n".join(lines).replace("<", "\\u003c") + "</script>" + tail)
+        self.open(path)
+        self.check(f"faulty data, {name}: the page says so", self.browser.run("byId('fault').hidden"), not is_told)
+        self.check(f"faulty data, {name}: and no more comes of it", (self.browser.noise(), self.browser.run(page_look.HARM)), ([], page_look.NO_HARM))
+
+    # What ./heap_page answers
+
+    def answers(self):
+        check, raw = self.check, (self.root / "examples/lesson_use_after_free/stdin").read_bytes()
+        states = lambda text, words=(): subprocess.run([self.root / "heap_states", *words], input=text, capture_output=True)
+        for name, text, words in (("a fault", b"heap 0 1\ncopy c1 c99\n", ()), ("no heap", b"", ()), ("too long", b"#" * 4_194_305, ()),
+                                  ("a word that is none", raw, ("--nothing",))):
+            wanted, made = states(text, words), self.make(self.root, text, words)
+            check(f"{name}: the answer is that of ./heap_states", (made.returncode, made.stdout), (wanted.returncode, wanted.stdout))
+            check(f"{name}: that is no page", made.returncode in (2, 3) and made.stdout != b"", True)
+        for name, text, commands, pages in (("20,001 commands", b"heap 0 1\n" + b"sweep\n" * 20001, 20001, 1), ("65 pages", b"heap 0 65\nsweep\n", 1, 65)):
+            made = self.make(self.root, text)
+            told = f"heap_page: a page shows at most 20000 commands and 64 pages, and this trace has {commands} commands and {pages} pages\n"
+            check(f"{name}: told with the limit", (made.returncode, made.stdout, made.stderr.decode()), (5, b"", told))
+        check("20,000 commands and 64 pages have a page", self.make(self.root, b"heap 0 64\n" + b"sweep\n" * 20000).returncode, 0)
+        with open("/dev/full", "wb") as full:
+            check("a page that can't be written", subprocess.run([self.root / "heap_page"], input=raw, stdout=full, stderr=subprocess.DEVNULL).returncode, 4)
+        folder = os.open(self.scratch, os.O_RDONLY)
+        check("a trace that can't be read", subprocess.run([self.root / "heap_page"], stdin=folder, capture_output=True).returncode, 4)
+        os.close(folder)
+        self.stand_ins(raw)
+
+    def stand_ins(self, raw):
+        """In a copy where another program stands for ./heap_states, and from a link elsewhere."""
+        copy = self.copy("a copy & its '100%'")
+        kept = self.scratch / "kept"
+        kept.mkdir(exist_ok=True)
+        for status, text in ((0, ""), (1, "fault memory\n"), (2, "usage: a\n"), (4, '{"heap":\n'), (125, "")):
+            body = f"cat <<'END'\n{text}END\nexit {status}" if status else f'exec {json.dumps(str(self.root / "heap_states"))} "$@"'
+            (copy / "heap_states").unlink()
+            (copy / "heap_states").write_text(f"#!/bin/sh\n{body}\n")
+            (copy / "heap_states").chmod(0o755)
+            made = subprocess.run([copy / "heap_page"], input=raw, capture_output=True, env={**os.environ, "TMPDIR": str(kept)})
+            wanted = self.make(self.root, raw).stdout if status == 0 else text.encode()
+            self.check(f"status {status} of ./heap_states", (made.returncode, made.stdout), (status, wanted))
+        self.check("no temporary file is left", list(kept.iterdir()), [])
+        (self.scratch / "link").symlink_to(self.root / "heap_page")
+        made = subprocess.run([self.scratch / "link"], input=raw, capture_output=True, cwd="/")
+        self.check("by a link from elsewhere", (made.returncode, made.stdout), (0, self.make(self.root, raw).stdout))
+
+    def copy(self, name):
+        copy = self.scratch / name
+        shutil.rmtree(copy, ignore_errors=True)
+        copy.mkdir()
+        shutil.copytree(self.root / "page", copy / "page")
+        shutil.copy(self.root / "heap_page", copy)
+        (copy / "heap_states").symlink_to(self.root / "heap_states")
+        return copy
+
+    # Time
+
+    def timing(self, root):
+        """A page of 5,000 commands, and the largest one: script, style and layout, by the processor time of the page's own thread,
+        since other work may go on beside this; the clock's time is told too."""
+        for commands, most_open, most_step in ((5000, 1000, 50), (20000, 4000, 200)):
+            path = self.page(root, page_model.random_trace(commands, 64, 5), f"commands_{commands}")
+            opened, _ = self.browser.worked(lambda: self.open(path))
+            clock, blocks = json.loads(self.browser.run(page_look.OPENED))
+            steps = []
+            for start in (commands, commands // 2, commands // 4):
+                self.browser.run(f"go({start})")
+                for key in ["ArrowLeft"] * 20 + ["ArrowRight"] * 20:
+                    steps.append(self.browser.worked(lambda key=key: self.browser.key(key)))
+            times, clocks = sorted(time for time, _ in steps), sorted(time for _, time in steps)
+            most = times[len(times) * 95 // 100]
+            print(f"tried: a page of {grouped(commands)} commands, {path.stat().st_size / 1e6:.1f} MB, {blocks} blocks: opens in {opened:.0f} ms, a step takes "
+                  f"{times[len(times) // 2]:.1f} ms, 19 of 20 at most {most:.1f} ms (by the clock {clock:.0f} and {clocks[len(clocks) // 2]:.1f} ms)")
+            self.check(f"{commands} commands open in {most_open} ms", opened < most_open, True)
+            self.check(f"{commands} commands step in {most_step} ms, 19 of 20 times", most < most_step, True)
+            self.check(f"{commands} commands: the keys made the steps, and they were measured", [self.look()["step"], times[0] > 0], [commands // 4, True])
+            self.no_noise(f"{commands} commands")
+
+    # Light, dark and paper
+
+    def looks(self, root):
+        path = self.page(root, (self.root / "examples" / PICTURED / "stdin").read_bytes(), PICTURED)
+        for dark in (False, True):
+            for width in (1440, 1100, 700):
+                self.open(path, width=width, dark=dark)
+                self.browser.key("End")
+                self.check(f"{width} wide, dark {dark}: nothing is wider than the page",
+                           self.browser.run("document.documentElement.scrollWidth <= innerWidth"), True)
+                self.no_noise(f"{width} wide, dark {dark}")
+        self.check("on paper", len(self.browser.call("Page.printToPDF", printBackground=True)["data"]) > 10000, True)
+        self.no_noise("on paper")
+
+    def all(self):
+        for folder in self.lessons():
+            self.lesson(self.root, folder.name)
+        for name, lines in page_model.TRACES.items():
+            self.lesson(self.root, name, "\n".join(lines).encode())
+        for seed in range(1, 7):
+            self.lesson(self.root, f"random_{seed}", page_model.random_trace(60, 1, seed))
+        for test in (self.words, self.tries, self.controls, self.hostile, self.timing, self.looks):
+            test(self.root)
+        self.answers()
+        print(f"tried: the page in a browser, with {len(self.lessons())} lessons, {len(page_model.TRACES)} traces of edges and 6 random ones")
+
+    # Wrong pages
+
+    def wrong_pages(self):
+        for edit in json.loads((self.root / "testing/page_wrong.json").read_text()):
+            copy = self.copy("wrong")
+            source = copy / "page" / edit["file"]
+            text = source.read_text()
+            self.check(f"{edit['name']}: the old text stands once in page/{edit['file']}", text.count(edit["old"]), 1)
+            source.write_text(text.replace(edit["old"], edit["new"]))
+            told, self.quiet, self.failed, self.passed = (self.passed, self.failed), True, 0, 0
+            try:
+                if "lesson" in edit:
+                    self.lesson(copy, edit["lesson"])
+                else:
+                    getattr(self, edit["test"])(copy)
+                faults = self.failed
+            except RuntimeError as problem:
+                faults = str(problem)
+            (self.passed, self.failed), self.quiet = told, False
+            self.check(f"the wrong page is found: {edit['name']}", faults != 0, True)
+
+    # Pictures
+
+    def picture_of_readme(self, file):
+        self.open(self.page(self.root, (self.root / "examples/lesson_a_derived_pointer_goes_by_its_base/stdin").read_bytes(), "readme"), width=1360, height=800)
+        self.browser.run("document.querySelector('[data-step=\"9\"]').click(); document.activeElement.blur()")
+        self.settle()
+        self.browser.picture(file)
+
+    def settle(self):
+        self.browser.run("new Promise(done => requestAnimationFrame(() => requestAnimationFrame(() => setTimeout(done, 100))))")
+
+    def pictures(self, folder):
+        folder.mkdir(parents=True, exist_ok=True)
+        for name, lesson, step, dark, size, extra in page_look.PICTURES:
+            path = self.page(self.root, (self.root / "examples" / lesson / "stdin").read_bytes(), lesson)
+            self.open(path, width=size[0], height=size[1], dark=dark)
+            self.browser.run(f"document.querySelector('[data-step=\"{step}\"]').click(); document.activeElement.blur(); {extra}; void 0")
+            self.settle()
+            self.browser.picture(folder / f"{name}.png")
+        self.browser.media("print")
+        self.settle()
+        self.browser.picture(folder / "print.png", captureBeyondViewport=True)
+        self.browser.media("")
