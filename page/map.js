@@ -3,6 +3,7 @@
 const map = { shape: null, box: null, layers: {}, blocks: new Map(), marks: new Map(), fresh: [], struck: [] };
 
 const DRAWN_REASONS = 64, TOLD_TAGS = 200; // of the tags that a pass took: on the map, and in the table below it
+const SMALL = 14; // cells narrower than this have finer lines
 const LAYERS = ['grid', 'released', 'blocks', 'pages', 'marks', 'changes', 'reasons', 'chosen', 'cursors'];
 
 function remakeMap() {
@@ -14,7 +15,7 @@ function remakeMap() {
   map.chips = shape('g');
   for (const name of LAYERS) map.layers[name] = shape('g', { class: name });
   map.body = shape('g', {}, ...Object.values(map.layers));
-  map.box = shape('svg', { width: L.full, 'aria-hidden': 'true' }, patterns(), map.body, map.chips);
+  map.box = shape('svg', { width: L.full, class: L.width < SMALL ? 'small' : null, 'aria-hidden': 'true' }, patterns(), map.body, map.chips);
   map.cursor = shape('rect', { class: 'cursor', width: L.width - 1, height: L.height - 1 });
   map.layers.cursors.append(map.cursor);
   drawGrid(L);
@@ -62,7 +63,7 @@ function overOf(name, d) {
 }
 
 function blockShape(L, block, name) {
-  const d = areaOf(L, block.start, block.end, 1.5);
+  const d = areaOf(L, block.start, block.end, L.width < SMALL ? .5 : 1.5);
   return shape('g', { class: 'block ' + name, 'data-block': block.key, 'data-state': name }, shape('path', { class: 'fill', d }),
     overOf(name, d), labelOf(L, block, name === 'released' ? 'was held' : stateName(name)));
 }
