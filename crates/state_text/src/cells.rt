@@ -8,14 +8,14 @@ ghost use Rattle.heap_reply.specs.Display.{hexadecimal_text};
 ghost use Rattle.state_text.specs.Cells.{cell_tokens, place_tokens, rights_tokens};
 ghost use Rattle.state_text.specs.Line.{added};
 
-use crate::line::Line;
+use crate::data_line::DataLine;
 use cap_codec::{Word, to_bytes};
 use heap_reply::{Hexadecimal, Shown};
 use std::alloc::{AllocError, Global};
 
 /// An address, as a member of this name.
 pub fn put_address(
-    line: &mut Line,
+    line: &mut DataLine,
     alloc: Global,
     name: &str,
     address: u128,
@@ -26,7 +26,7 @@ pub fn put_address(
     line.text(name, text.as_str())
 }
 
-fn put_place(line: &mut Line, alloc: Global, shown: Shown) -> Result<(), AllocError>
+fn put_place(line: &mut DataLine, alloc: Global, shown: Shown) -> Result<(), AllocError>
     ensures { OnOk result (line.new ≡ added line.old (place_tokens shown)) }
 {
     put_address(line, alloc, "address", u128::from(shown.address))?;
@@ -34,7 +34,7 @@ fn put_place(line: &mut Line, alloc: Global, shown: Shown) -> Result<(), AllocEr
     put_address(line, alloc, "top", shown.top)
 }
 
-fn put_rights(line: &mut Line, shown: Shown) -> Result<(), AllocError>
+fn put_rights(line: &mut DataLine, shown: Shown) -> Result<(), AllocError>
     ensures { OnOk result (line.new ≡ added line.old (rights_tokens shown)) }
 {
     line.count("perms", u64::from(shown.perms))?;
@@ -42,7 +42,7 @@ fn put_rights(line: &mut Line, shown: Shown) -> Result<(), AllocError>
     line.count("exponent", u64::from(shown.exponent))
 }
 
-fn put_word(line: &mut Line, alloc: Global, word: Word, tag: bool) -> Result<(), AllocError>
+fn put_word(line: &mut DataLine, alloc: Global, word: Word, tag: bool) -> Result<(), AllocError>
     ensures { OnOk result (line.new ≡ added line.old
         (key (codes "tag") ∷ boolean tag ∷ key (codes "word") ∷ string (encode_lower (bytes_of word.bits)) ∷ [])) }
 {
@@ -52,7 +52,7 @@ fn put_word(line: &mut Line, alloc: Global, word: Word, tag: bool) -> Result<(),
 }
 
 /// The members of a cell: its tag, its word, and what the word decodes to.
-pub fn put_cell(line: &mut Line, alloc: Global, word: Word, tag: bool) -> Result<(), AllocError>
+pub fn put_cell(line: &mut DataLine, alloc: Global, word: Word, tag: bool) -> Result<(), AllocError>
     ensures { OnOk result (line.new ≡ added line.old (cell_tokens (word, tag))) }
 {
     let shown = Shown::of(word, tag);

@@ -10,14 +10,14 @@ ghost use Rattle.state_text.specs.Line.{added};
 ghost use Rattle.tag_memory.specs.Cells.{register_count};
 
 use crate::cells::put_cell;
-use crate::line::Line;
+use crate::data_line::DataLine;
 use cap_codec::Word;
 use std::alloc::{AllocError, Global};
 use tag_memory::{REGISTERS, Registers};
 
 // The object of a cell: its number under this name, and its members.
 fn put_numbered(
-    line: &mut Line,
+    line: &mut DataLine,
     alloc: Global,
     name: &str,
     number: u64,
@@ -40,7 +40,7 @@ fn is_same(old: (Word, bool), new: (Word, bool)) -> bool
 
 /// The same where the cell changed, and nothing where it didn't.
 pub fn put_change(
-    line: &mut Line,
+    line: &mut DataLine,
     alloc: Global,
     name: &str,
     number: u64,
@@ -57,7 +57,7 @@ pub fn put_change(
 
 /// The registers that changed: `old` has all 32 as they were.
 pub fn put_registers(
-    line: &mut Line,
+    line: &mut DataLine,
     alloc: Global,
     old: &[(Word, bool)],
     new: &Registers,

@@ -6,14 +6,14 @@ ghost use Rattle.state_text.specs.Line.{LineState, added};
 ghost use Rattle.tag_memory.specs.Cells.{cell_of};
 
 use crate::changes::put_change;
-use crate::line::Line;
+use crate::data_line::DataLine;
 use cap_codec::Word;
 use std::alloc::{AllocError, Global};
 use tag_memory::{Memory, WORD_GRANULES, bit};
 
 /// Granule `i` where it changed: before it had these bytes, and this tag.
 pub fn put_granule(
-    line: &mut Line,
+    line: &mut DataLine,
     alloc: Global,
     memory: &Memory,
     i: usize,
@@ -37,7 +37,7 @@ pub fn put_granule(
 
 // Granule `i` where its tag changed.
 fn put_tag(
-    line: &mut Line,
+    line: &mut DataLine,
     alloc: Global,
     memory: &Memory,
     tags: &[u64],
@@ -54,7 +54,7 @@ fn put_tag(
 
 // The granules of word `w` of the tags whose tags changed, where those before are told.
 fn put_tags_of_word(
-    line: &mut Line,
+    line: &mut DataLine,
     alloc: Global,
     memory: &Memory,
     tags: &[u64],
@@ -77,7 +77,7 @@ fn put_tags_of_word(
 
 /// The granules whose tags changed: before they had those of these words. Their bytes are as before.
 pub fn put_tags(
-    line: &mut Line,
+    line: &mut DataLine,
     alloc: Global,
     memory: &Memory,
     tags: &[u64],

@@ -4,8 +4,8 @@
 mod blocks;
 mod cells;
 mod changes;
+mod data_line;
 mod granules;
-mod line;
 mod recording;
 mod replies;
 mod seen;

@@ -13,7 +13,7 @@ ghost use Rattle.trace_text.specs.Reading.{script_of, trace_of};
 ghost use Rattle.trace_text.specs.declared.fault.TraceFault.{TraceFault as TheTraceFault};
 
 use crate::cells::put_address;
-use crate::line::Line;
+use crate::data_line::DataLine;
 use crate::seen::{Before, Seen, read_before};
 use crate::telling::put_command;
 use heap_machine::Machine;
@@ -25,7 +25,7 @@ use sweep_pool::{Cutting, Open};
 use trace_text::{Command, Trace, TraceFault, parse};
 
 // The line's JSON after the text, and a line feed.
-fn ended(line: Line) -> Result<Vec<u8>, AllocError>
+fn ended(line: DataLine) -> Result<Vec<u8>, AllocError>
     ensures { IfOk result (λ text. text.items ≡ line.before ++ line_text line.tokens) }
 {
     let mut text = line.finish();
@@ -50,7 +50,7 @@ fn told(
     requires order { HasOrder of.2 }
     ensures { IfOk result (λ told. told.items ≡ text.items ++ line_text (told_tokens of.0 of.1 of.2 seen.now before machine.now.state.registers machine.now.state.cells)) }
 {
-    let mut line = Line::after(text);
+    let mut line = DataLine::after(text);
     put_command(&mut line, alloc, seen, before, machine, of)?;
     ended(line)
 }
@@ -110,7 +110,7 @@ fn tell_commands<R: Threads + Sync>(
 fn tell_heap(alloc: Global, text: Vec<u8>, base: u64, pages: u32) -> Result<Vec<u8>, AllocError>
     ensures { IfOk result (λ told. told.items ≡ text.items ++ line_text (heap_tokens base pages)) }
 {
-    let mut line = Line::after(text);
+    let mut line = DataLine::after(text);
     line.open()?;
     line.open_object("heap")?;
     put_address(&mut line, alloc, "base", u128::from(base))?;
@@ -129,7 +129,7 @@ fn tagged(machine: &Machine) -> u64
     (machine.memory().tagged() + machine.registers().tagged()) as u64
 }
 
-fn put_end(line: &mut Line, machine: &Machine) -> Result<(), AllocError>
+fn put_end(line: &mut DataLine, machine: &Machine) -> Result<(), AllocError>
     ensures { OnOk result (line.new ≡ added line.old (end_numbers machine.now.state)) }
 {
     line.count("live", machine.live_bytes())?;
@@ -142,7 +142,7 @@ fn put_end(line: &mut Line, machine: &Machine) -> Result<(), AllocError>
 fn tell_end(text: Vec<u8>, machine: &Machine) -> Result<Vec<u8>, AllocError>
     ensures { IfOk result (λ told. told.items ≡ text.items ++ line_text (end_tokens machine.now.state)) }
 {
-    let mut line = Line::after(text);
+    let mut line = DataLine::after(text);
     line.open()?;
     line.open_object("end")?;
     put_end(&mut line, machine)?;

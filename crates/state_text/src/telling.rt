@@ -10,14 +10,14 @@ ghost use Rattle.state_text.specs.States.{head_tokens};
 ghost use Rattle.state_text.specs.Told.{HasOrder, blocks_told, granules_told, pass_told, told_tokens};
 ghost use Rattle.tag_memory.specs.Cells.{null_cell};
 
-use crate::blocks::{Block, put_block, put_blocks, put_span};
+use crate::blocks::{HeldBlock, put_block, put_blocks, put_span};
 use crate::changes::put_registers;
+use crate::data_line::DataLine;
 use crate::granules::{put_granule, put_tags};
-use crate::line::Line;
-use crate::replies::{tells_pass, tells_registers};
+use crate::replies::{takes_tags, tells_pass, tells_registers};
 use crate::seen::{Before, Seen};
 use crate::spelling::spelled;
-use crate::taken::put_taken;
+use crate::taken::{put_none_taken, put_taken};
 use heap_machine::Machine;
 use heap_reply::Reply;
 use std::alloc::{AllocError, Global};
@@ -25,7 +25,7 @@ use tag_memory::{Memory, Registers};
 use trace_text::Command;
 
 fn put_head(
-    line: &mut Line,
+    line: &mut DataLine,
     alloc: Global,
     number: u32,
     command: Command,
@@ -42,7 +42,7 @@ fn put_head(
 }
 
 fn put_register_part(
-    line: &mut Line,
+    line: &mut DataLine,
     alloc: Global,
     seen: &Seen,
     registers: &Registers,
@@ -55,7 +55,7 @@ fn put_register_part(
 }
 
 fn put_changed_tags(
-    line: &mut Line,
+    line: &mut DataLine,
     alloc: Global,
     seen: &Seen,
     reply: Reply,
@@ -64,14 +64,14 @@ fn put_changed_tags(
     requires { 64 * length seen.now.tags.items ≡ length memory.now.cells }
     ensures { OnOk result (line.new ≡ added line.old (granules_told None reply seen.now.tags.items memory.now.cells)) }
 {
-    if !tells_pass(reply) {
+    if !takes_tags(reply) {
         return Ok(());
     }
     put_tags(line, alloc, memory, &seen.tags)
 }
 
 fn put_changed_granules(
-    line: &mut Line,
+    line: &mut DataLine,
     alloc: Global,
     seen: &Seen,
     before: Before,
@@ -89,7 +89,7 @@ fn put_changed_granules(
 }
 
 fn put_granule_part(
-    line: &mut Line,
+    line: &mut DataLine,
     alloc: Global,
     seen: &Seen,
     before: Before,
@@ -107,9 +107,9 @@ fn put_granule_part(
 
 // The blocks that ended, of those that were due: all but one with these bounds, which lives now.
 fn put_ended(
-    line: &mut Line,
+    line: &mut DataLine,
     alloc: Global,
-    due: &[Block],
+    due: &[HeldBlock],
     base: u64,
     top: u128,
 ) -> Result<(), AllocError>
@@ -124,9 +124,9 @@ fn put_ended(
 }
 
 fn put_block_after(
-    line: &mut Line,
+    line: &mut DataLine,
     alloc: Global,
-    due: &[Block],
+    due: &[HeldBlock],
     base: u64,
     top: u128,
 ) -> Result<(), AllocError>
@@ -139,10 +139,10 @@ fn put_block_after(
 }
 
 fn put_changed_blocks(
-    line: &mut Line,
+    line: &mut DataLine,
     alloc: Global,
     reply: Reply,
-    due: &[Block],
+    due: &[HeldBlock],
     start: u64,
 ) -> Result<(), AllocError>
     requires { HasOrder reply }
@@ -155,7 +155,7 @@ fn put_changed_blocks(
         Reply::Swept { .. } => put_blocks(line, alloc, "free", due),
         Reply::Begun { .. } => put_blocks(line, alloc, "painted", due),
         Reply::Held(length) => {
-            let block = Block {
+            let block = HeldBlock {
                 base: start,
                 length,
             };
@@ -166,10 +166,10 @@ fn put_changed_blocks(
 }
 
 fn put_block_part(
-    line: &mut Line,
+    line: &mut DataLine,
     alloc: Global,
     reply: Reply,
-    due: &[Block],
+    due: &[HeldBlock],
     start: u64,
 ) -> Result<(), AllocError>
     requires { HasOrder reply }
@@ -180,13 +180,21 @@ fn put_block_part(
     line.close_list()
 }
 
-fn put_pass(line: &mut Line, seen: &Seen, reply: Reply, memory: &Memory) -> Result<(), AllocError>
+fn put_pass(
+    line: &mut DataLine,
+    seen: &Seen,
+    reply: Reply,
+    memory: &Memory,
+) -> Result<(), AllocError>
     requires zero { slice_index_or seen.now.registers 0 null_cell ≡ null_cell }
     requires tags { 64 * length seen.now.tags.items ≡ length memory.now.cells }
     ensures { OnOk result (line.new ≡ added line.old (pass_told reply seen.now memory.now.cells)) }
 {
     if !tells_pass(reply) {
         return Ok(());
+    }
+    if !takes_tags(reply) {
+        return put_none_taken(line);
     }
     put_taken(
         line,
@@ -200,7 +208,7 @@ fn put_pass(line: &mut Line, seen: &Seen, reply: Reply, memory: &Memory) -> Resu
 
 /// The object of a command at this line, by what was seen before it, its reply, and the machine after it.
 pub fn put_command(
-    line: &mut Line,
+    line: &mut DataLine,
     alloc: Global,
     seen: &Seen,
     before: Before,

@@ -11,11 +11,11 @@ use std::marker::Model;
 
 /// A line of data, after what a text holds.
 #[derive(Drop)]
-pub struct Line {
+pub struct DataLine {
     writer: Writer,
 }
 
-impl Model for Line {
+impl Model for DataLine {
     ghost use Rattle.state_text.specs.Line.{LineState};
 
     ghost Value = { LineState };
@@ -23,12 +23,12 @@ impl Model for Line {
     ghost view = { λ line. record { before = line.writer.before; tokens = line.writer.tokens } };
 }
 
-impl Line {
+impl DataLine {
     /// An empty line after this text.
-    pub fn after(text: Vec<u8>) -> Line
+    pub fn after(text: Vec<u8>) -> DataLine
         ensures { result ≡ record { before = text.items; tokens = [] } }
     {
-        Line {
+        DataLine {
             writer: Writer::new(text),
         }
     }
