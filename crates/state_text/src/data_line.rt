@@ -9,7 +9,7 @@ use json::Writer;
 use std::alloc::AllocError;
 use std::marker::Model;
 
-/// A line of data, after what a text holds.
+/// A line of data.
 #[derive(Drop)]
 pub struct DataLine {
     writer: Writer,
@@ -24,16 +24,18 @@ impl Model for DataLine {
 }
 
 impl DataLine {
-    /// An empty line after this text.
-    pub fn after(text: Vec<u8>) -> DataLine
-        ensures { result ≡ record { before = text.items; tokens = [] } }
+    /// An empty line, in the room of what this holds.
+    pub fn within(room: Vec<u8>) -> DataLine
+        ensures { result ≡ record { before = []; tokens = [] } }
     {
+        let mut room = room;
+        room.clear();
         DataLine {
-            writer: Writer::new(text),
+            writer: Writer::new(room),
         }
     }
 
-    /// The text with the line's JSON after it.
+    /// The line's JSON, after the text before it.
     pub fn finish(self) -> Vec<u8>
         ensures { result.items ≡ self.before ++ print self.tokens }
     {

@@ -229,6 +229,20 @@ impl Seen {
 }
 
 impl Seen {
+    // The registers as they are now.
+    fn follow_registers(&mut self, registers: &Registers)
+        ensures registers { self.new.registers ≡ registers.now }
+        ensures tags { self.new.tags ≡ self.old.tags }
+        ensures waiting { self.new.waiting ≡ self.old.waiting }
+        ensures painted { self.new.painted ≡ self.old.painted }
+        ensures is_open { self.new.is_open ≡ self.old.is_open }
+    {
+        registers.whole();
+        for r in 0..REGISTERS {
+            self.registers[usize::from(r)] = registers.get(r);
+        }
+    }
+
     // The tags after a command that may have written this granule, and was answered so: all but those that may be stale are
     // right already.
     fn follow_tags(&mut self, memory: &Memory, granule: Option<(usize, (u128, bool))>, reply: Reply)
@@ -315,7 +329,7 @@ impl Seen {
     {
         self.follow_blocks(reply, before.base)?;
         self.follow_tags(machine.memory(), before.granule, reply);
-        self.registers = copied_registers(machine.registers());
+        self.follow_registers(machine.registers());
         Ok(())
     }
 }

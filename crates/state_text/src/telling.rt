@@ -10,6 +10,7 @@ ghost use Rattle.state_text.specs.States.{head_tokens};
 ghost use Rattle.state_text.specs.Told.{HasOrder, blocks_told, granules_told, pass_told, told_tokens};
 ghost use Rattle.tag_memory.specs.Cells.{null_cell};
 
+use crate::answers::answered;
 use crate::blocks::{HeldBlock, put_block, put_blocks, put_span};
 use crate::changes::put_registers;
 use crate::data_line::DataLine;
@@ -20,21 +21,20 @@ use crate::spelling::spelled;
 use crate::taken::{put_none_taken, put_taken};
 use heap_machine::Machine;
 use heap_reply::Reply;
-use std::alloc::{AllocError, Global};
+use std::alloc::AllocError;
 use tag_memory::{Memory, Registers};
 use trace_text::Command;
 
 fn put_head(
     line: &mut DataLine,
-    alloc: Global,
     number: u32,
     command: Command,
     reply: Reply,
 ) -> Result<(), AllocError>
     ensures { OnOk result (line.new ≡ added line.old (head_tokens number command reply)) }
 {
-    let text = spelled(alloc, command)?;
-    let answer = format!(in alloc; "{reply}")?;
+    let text = spelled(command);
+    let answer = answered(reply);
     line.open()?;
     line.count("line", u64::from(number))?;
     line.text("text", text.as_str())?;
@@ -43,20 +43,18 @@ fn put_head(
 
 fn put_register_part(
     line: &mut DataLine,
-    alloc: Global,
     seen: &Seen,
     registers: &Registers,
 ) -> Result<(), AllocError>
     ensures { OnOk result (line.new ≡ added line.old (list_tokens (codes "registers") (registers_tokens seen.now.registers registers.now))) }
 {
     line.open_list("registers")?;
-    put_registers(line, alloc, &seen.registers, registers)?;
+    put_registers(line, &seen.registers, registers)?;
     line.close_list()
 }
 
 fn put_changed_tags(
     line: &mut DataLine,
-    alloc: Global,
     seen: &Seen,
     reply: Reply,
     memory: &Memory,
@@ -67,12 +65,11 @@ fn put_changed_tags(
     if !takes_tags(reply) {
         return Ok(());
     }
-    put_tags(line, alloc, memory, &seen.tags)
+    put_tags(line, memory, &seen.tags)
 }
 
 fn put_changed_granules(
     line: &mut DataLine,
-    alloc: Global,
     seen: &Seen,
     before: Before,
     reply: Reply,
@@ -83,14 +80,13 @@ fn put_changed_granules(
     ensures { OnOk result (line.new ≡ added line.old (granules_told before.granule reply seen.now.tags.items memory.now.cells)) }
 {
     match before.granule {
-        Some((i, (bits, tag))) => put_granule(line, alloc, memory, i, bits, tag),
-        None => put_changed_tags(line, alloc, seen, reply, memory),
+        Some((i, (bits, tag))) => put_granule(line, memory, i, bits, tag),
+        None => put_changed_tags(line, seen, reply, memory),
     }
 }
 
 fn put_granule_part(
     line: &mut DataLine,
-    alloc: Global,
     seen: &Seen,
     before: Before,
     reply: Reply,
@@ -101,23 +97,17 @@ fn put_granule_part(
     ensures { OnOk result (line.new ≡ added line.old (list_tokens (codes "granules") (granules_told before.granule reply seen.now.tags.items memory.now.cells))) }
 {
     line.open_list("granules")?;
-    put_changed_granules(line, alloc, seen, before, reply, memory)?;
+    put_changed_granules(line, seen, before, reply, memory)?;
     line.close_list()
 }
 
 // The blocks that ended, of those that were due: all but one with these bounds, which lives now.
-fn put_ended(
-    line: &mut DataLine,
-    alloc: Global,
-    due: &[HeldBlock],
-    base: u64,
-    top: u128,
-) -> Result<(), AllocError>
+fn put_ended(line: &mut DataLine, due: &[HeldBlock], base: u64, top: u128) -> Result<(), AllocError>
     ensures { OnOk result (line.new ≡ added line.old (told_blocks (codes "free") (filter (λ block. not (has_bounds base top block)) (spans_of due.now)))) }
 {
     for block in due {
         if block.base != base || block.top() != top {
-            put_block(line, alloc, "free", *block)?;
+            put_block(line, "free", *block)?;
         }
     }
     Ok(())
@@ -125,7 +115,6 @@ fn put_ended(
 
 fn put_block_after(
     line: &mut DataLine,
-    alloc: Global,
     due: &[HeldBlock],
     base: u64,
     top: u128,
@@ -134,13 +123,12 @@ fn put_block_after(
     ensures { OnOk result (line.new ≡ added line.old (told_blocks (codes "free") (filter (λ block. not (has_bounds base top block)) (spans_of due.now))
         ++ told_blocks (codes "live") ((base, top - base) ∷ []))) }
 {
-    put_ended(line, alloc, due, base, top)?;
-    put_span(line, alloc, "live", base, top)
+    put_ended(line, due, base, top)?;
+    put_span(line, "live", base, top)
 }
 
 fn put_changed_blocks(
     line: &mut DataLine,
-    alloc: Global,
     reply: Reply,
     due: &[HeldBlock],
     start: u64,
@@ -149,17 +137,17 @@ fn put_changed_blocks(
     ensures { OnOk result (line.new ≡ added line.old (blocks_told reply (spans_of due.now) start)) }
 {
     match reply {
-        Reply::Block { base, top } => put_span(line, alloc, "live", base, top),
-        Reply::BlockAfter { base, top, .. } => put_block_after(line, alloc, due, base, top),
-        Reply::NoSpaceAfter { .. } => put_blocks(line, alloc, "free", due),
-        Reply::Swept { .. } => put_blocks(line, alloc, "free", due),
-        Reply::Begun { .. } => put_blocks(line, alloc, "painted", due),
+        Reply::Block { base, top } => put_span(line, "live", base, top),
+        Reply::BlockAfter { base, top, .. } => put_block_after(line, due, base, top),
+        Reply::NoSpaceAfter { .. } => put_blocks(line, "free", due),
+        Reply::Swept { .. } => put_blocks(line, "free", due),
+        Reply::Begun { .. } => put_blocks(line, "painted", due),
         Reply::Held(length) => {
             let block = HeldBlock {
                 base: start,
                 length,
             };
-            put_block(line, alloc, "waiting", block)
+            put_block(line, "waiting", block)
         }
         Reply::NoSpace | Reply::Done | Reply::Cleared | Reply::Shown(_) | Reply::Trap(_) => Ok(()),
     }
@@ -167,7 +155,6 @@ fn put_changed_blocks(
 
 fn put_block_part(
     line: &mut DataLine,
-    alloc: Global,
     reply: Reply,
     due: &[HeldBlock],
     start: u64,
@@ -176,7 +163,7 @@ fn put_block_part(
     ensures { OnOk result (line.new ≡ added line.old (list_tokens (codes "blocks") (blocks_told reply (spans_of due.now) start))) }
 {
     line.open_list("blocks")?;
-    put_changed_blocks(line, alloc, reply, due, start)?;
+    put_changed_blocks(line, reply, due, start)?;
     line.close_list()
 }
 
@@ -209,7 +196,6 @@ fn put_pass(
 /// The object of a command at this line, by what was seen before it, its reply, and the machine after it.
 pub fn put_command(
     line: &mut DataLine,
-    alloc: Global,
     seen: &Seen,
     before: Before,
     machine: &Machine,
@@ -223,10 +209,10 @@ pub fn put_command(
 {
     let (number, command, reply) = told;
     let memory = machine.memory();
-    put_head(line, alloc, number, command, reply)?;
-    put_register_part(line, alloc, seen, machine.registers())?;
-    put_granule_part(line, alloc, seen, before, reply, memory)?;
-    put_block_part(line, alloc, reply, seen.due(), before.base)?;
+    put_head(line, number, command, reply)?;
+    put_register_part(line, seen, machine.registers())?;
+    put_granule_part(line, seen, before, reply, memory)?;
+    put_block_part(line, reply, seen.due(), before.base)?;
     put_pass(line, seen, reply, memory)?;
     line.close()
 }
