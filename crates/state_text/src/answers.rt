@@ -1,6 +1,6 @@
 //! The texts of replies.
 
-ghost use Rattle.std.specs.Prelude.{◌≡◌, ◌≤◌, ◌+◌, ◌++◌, length};
+ghost use Rattle.std.specs.Prelude.{◌≡◌, ◌≤◌, ◌+◌, ◌++◌, [], length};
 ghost use Rattle.heap_reply.specs.Answer.{answer_text, block_text, shown_text};
 
 use crate::short_text::ShortText;
@@ -79,11 +79,10 @@ fn put_reply(text: &mut ShortText, reply: Reply)
     }
 }
 
-/// The text of a reply.
-pub fn answered(reply: Reply) -> ShortText
-    ensures { result ≡ answer_text reply }
+/// Makes the text of a reply.
+pub fn answer(text: &mut ShortText, reply: Reply)
+    requires { text.old ≡ [] }
+    ensures { text.new ≡ answer_text reply }
 {
-    let mut text = ShortText::new();
-    put_reply(&mut text, reply);
-    text
+    put_reply(text, reply);
 }

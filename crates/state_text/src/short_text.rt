@@ -44,6 +44,7 @@ impl ShortText {
     }
 
     /// `0x` and the hexadecimal digits of an address.
+    #[inline(always)]
     pub fn of_address(address: u128) -> ShortText
         ensures { result ≡ hexadecimal_text address }
     {
@@ -53,6 +54,7 @@ impl ShortText {
     }
 
     /// Two hexadecimal digits for each of 16 bytes.
+    #[inline(always)]
     pub fn of_bytes(bytes: [u8; 16]) -> ShortText
         ensures { result ≡ encode_lower bytes }
     {

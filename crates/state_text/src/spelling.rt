@@ -1,6 +1,6 @@
 //! Commands as a trace could have them.
 
-ghost use Rattle.std.specs.Prelude.{◌≡◌, ◌≤◌, ◌+◌, ◌++◌, length};
+ghost use Rattle.std.specs.Prelude.{◌≡◌, ◌≤◌, ◌+◌, ◌++◌, [], length};
 ghost use Rattle.state_text.specs.Text.{command_text};
 
 use crate::short_text::ShortText;
@@ -80,11 +80,10 @@ fn put_spelled(text: &mut ShortText, command: Command)
     }
 }
 
-/// The text of a command.
-pub fn spelled(command: Command) -> ShortText
-    ensures { result ≡ command_text command }
+/// Makes the text of a command.
+pub fn spell(text: &mut ShortText, command: Command)
+    requires { text.old ≡ [] }
+    ensures { text.new ≡ command_text command }
 {
-    let mut text = ShortText::new();
-    put_spelled(&mut text, command);
-    text
+    put_spelled(text, command);
 }

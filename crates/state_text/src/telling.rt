@@ -2,6 +2,9 @@
 
 ghost use Rattle.std.specs.Prelude.{◌≡◌, ◌<◌, ◌≤◌, ◌+◌, ◌*◌, ◌-◌, ◌++◌, [], ◌∷◌, IfSome, None, OnOk, codes, filter, length, not, slice_index_or};
 ghost use Rattle.heap_core.specs.Blocks.{has_bounds};
+ghost use Rattle.heap_reply.specs.Answer.{answer_text};
+ghost use Rattle.json.specs.Token.{key, string};
+ghost use Rattle.state_text.specs.Text.{command_text};
 ghost use Rattle.state_text.specs.Blocks.{told_blocks};
 ghost use Rattle.state_text.specs.Changes.{registers_tokens};
 ghost use Rattle.state_text.specs.Line.{added, list_tokens};
@@ -10,20 +13,37 @@ ghost use Rattle.state_text.specs.States.{head_tokens};
 ghost use Rattle.state_text.specs.Told.{HasOrder, blocks_told, granules_told, pass_told, told_tokens};
 ghost use Rattle.tag_memory.specs.Cells.{null_cell};
 
-use crate::answers::answered;
+use crate::answers::answer;
 use crate::blocks::{HeldBlock, put_block, put_blocks, put_span};
 use crate::changes::put_registers;
 use crate::data_line::DataLine;
 use crate::granules::{put_granule, put_tags};
 use crate::replies::{takes_tags, tells_pass, tells_registers};
 use crate::seen::{Before, Seen};
-use crate::spelling::spelled;
+use crate::short_text::ShortText;
+use crate::spelling::spell;
 use crate::taken::{put_none_taken, put_taken};
 use heap_machine::Machine;
 use heap_reply::Reply;
 use std::alloc::AllocError;
 use tag_memory::{Memory, Registers};
 use trace_text::Command;
+
+fn put_spelled(line: &mut DataLine, command: Command) -> Result<(), AllocError>
+    ensures { OnOk result (line.new ≡ added line.old (key (codes "text") ∷ string (command_text command) ∷ [])) }
+{
+    let mut text = ShortText::new();
+    spell(&mut text, command);
+    line.text("text", text.as_str())
+}
+
+fn put_answer(line: &mut DataLine, reply: Reply) -> Result<(), AllocError>
+    ensures { OnOk result (line.new ≡ added line.old (key (codes "reply") ∷ string (answer_text reply) ∷ [])) }
+{
+    let mut text = ShortText::new();
+    answer(&mut text, reply);
+    line.text("reply", text.as_str())
+}
 
 fn put_head(
     line: &mut DataLine,
@@ -33,12 +53,10 @@ fn put_head(
 ) -> Result<(), AllocError>
     ensures { OnOk result (line.new ≡ added line.old (head_tokens number command reply)) }
 {
-    let text = spelled(command);
-    let answer = answered(reply);
     line.open()?;
     line.count("line", u64::from(number))?;
-    line.text("text", text.as_str())?;
-    line.text("reply", answer.as_str())
+    put_spelled(line, command)?;
+    put_answer(line, reply)
 }
 
 fn put_register_part(
