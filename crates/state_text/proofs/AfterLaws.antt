@@ -53,14 +53,14 @@ are_after s w start r new (gave_up base top none at is block cells heap) sound =
   painted = ap (λ (reply : Reply). painted_after reply s.heap.waiting s.heap.painted) is ∙ ap (λ (h : HeapState). h.painted) (sym heap);
   is_open = ap (λ (reply : Reply). open_after reply s.heap.is_open) is ∙ ap (λ (h : HeapState). h.is_open) (sym heap);
 }
-are_after s w start r new (freed none is cells heap) sound = freed_after s.heap.is_open s start r new sound refl is heap
-are_after s w start r new (freed_and_handed_out size base top cleared none is closed place end cells heap) sound = record {
+are_after s w start r new (freed none is tags cells heap) sound = freed_after s.heap.is_open s start r new sound refl is heap
+are_after s w start r new (freed_and_handed_out size base top cleared none is tags closed place end cells heap) sound = record {
   waiting = ap (λ (reply : Reply). waiting_after reply s.heap.is_open s.heap.waiting start) is
       ∙ (ap (λ (b : Bool). if b then s.heap.waiting else []) closed ∙ ap (λ (h : HeapState). h.waiting) (sym heap));
   painted = ap (λ (reply : Reply). painted_after reply s.heap.waiting s.heap.painted) is ∙ (sym (sound.closed closed) ∙ ap (λ (h : HeapState). h.painted) (sym heap));
   is_open = ap (λ (reply : Reply). open_after reply s.heap.is_open) is ∙ (sym closed ∙ ap (λ (h : HeapState). h.is_open) (sym heap));
 }
-are_after s w start r new (began cleared none is closed cells heap) sound = record {
+are_after s w start r new (began cleared none is tags closed cells heap) sound = record {
   waiting = ap (λ (reply : Reply). waiting_after reply s.heap.is_open s.heap.waiting start) is ∙ ap (λ (h : HeapState). h.waiting) (sym heap);
   painted = ap (λ (reply : Reply). painted_after reply s.heap.waiting s.heap.painted) is ∙ ap (λ (h : HeapState). h.painted) (sym heap);
   is_open = ap (λ (reply : Reply). open_after reply s.heap.is_open) is ∙ ap (λ (h : HeapState). h.is_open) (sym heap);

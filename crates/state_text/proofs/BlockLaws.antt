@@ -247,12 +247,12 @@ blocks_told-is s w start r new (handed_out size base top none is place end cells
 blocks_told-is s w start r new (gave_up base top none at is block cells heap) sound after =
     ap (λ (reply : Reply). blocks_told reply (due s.heap) start) is
     ∙ ((λ i. told_blocks (codes "waiting") ((at i, top - base) ∷ [])) ∙ sym (ap (blocks_tokens s.heap) heap ∙ held_heap s.heap base top sound block))
-blocks_told-is s w start r new (freed none is cells heap) sound after =
+blocks_told-is s w start r new (freed none is tags cells heap) sound after =
     is.blocks (due s.heap) start ∙ sym (ap (blocks_tokens s.heap) heap ∙ freed_heap s.heap.is_open s.heap sound refl)
-blocks_told-is s w start r new (freed_and_handed_out size base top cleared none is closed place end cells heap) sound after =
+blocks_told-is s w start r new (freed_and_handed_out size base top cleared none is tags closed place end cells heap) sound after =
     ap (λ (reply : Reply). blocks_told reply (due s.heap) start) is
     ∙ ((λ i. told_blocks (codes "free") (filter (λ c. not (has_bounds base top c)) (due-closed s.heap closed i)) ++ told_blocks (codes "live") ((base, length_is base top size end i) ∷ []))
     ∙ sym (ap (blocks_tokens s.heap) heap ∙ freed_and_live s.heap size base top sound (subst IsSound heap after) closed end place))
-blocks_told-is s w start r new (began cleared none is closed cells heap) sound after =
+blocks_told-is s w start r new (began cleared none is tags closed cells heap) sound after =
     ap (λ (reply : Reply). blocks_told reply (due s.heap) start) is
     ∙ (ap (told_blocks (codes "painted")) (due-closed s.heap closed) ∙ sym (ap (blocks_tokens s.heap) heap ∙ began_heap s.heap sound closed))

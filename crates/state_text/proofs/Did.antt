@@ -1,6 +1,8 @@
 -- What a command did to memory and to blocks, told without registers.
-use Rattle.std.proofs.Common.{◌≡◌, ◌∙◌, ◌≢◌, ◌+◌, ◌-◌, ℕ, Bool, true, false, not, cond, if◌then◌else◌, Option, Some, None, List, [], ◌∷◌, codes, length, get_or, set, length-set, refl, sym, ap, subst}
+use Rattle.std.proofs.Common.{◌≡◌, ◌∙◌, ◌≢◌, ◌+◌, ◌-◌, ◌==◌, ℕ, Bool, inl, inr, drop, arith, true, false, not, cond, if◌then◌else◌, Option, Some, None, List, [], ◌∷◌, codes, length, get_or, set, length-set, refl, sym, ap, subst}
+use Rattle.std.proofs.lemmas.Bool.{cases_eq, ne_eqb, true≢false}
 use Rattle.std.proofs.lemmas.List.{get_or-set_other}
+use Rattle.std.specs.List.{count_by}
 use Rattle.cap_codec.specs.Words.{bounds_in}
 use Rattle.heap_core.specs.Blocks.{Span, is_block}
 use Rattle.heap_core.specs.Heap.{due}
@@ -13,13 +15,13 @@ use Rattle.heap_reply.specs.declared.reply.Reply.{Reply}
 use Rattle.heap_reply.specs.declared.reply.Reply.TheVariants.{Block, BlockAfter, NoSpace, NoSpaceAfter, Held, Done, Cleared, Swept, Begun, Shown, Trap}
 use Rattle.heap_reply.specs.declared.reply.Trap.{Trap as TheTrap}
 use Rattle.heap_reply.specs.declared.reply.Trap.TheVariants.{Freed, NotBlock, NotOpen, Open, Tag}
-use Rattle.sweep_pool.specs.Sweep.{swept_granules}
-use Rattle.tag_memory.specs.Cells.{Granule}
+use Rattle.sweep_pool.specs.Sweep.{swept_granules, tags_taken, takes_tag}
+use Rattle.tag_memory.specs.Cells.{Granule, cell_of}
 use Rattle.trace_text.specs.declared.trace.Command.{Command}
 use Rattle.trace_text.specs.declared.trace.Command.TheVariants.{Malloc, Free, Copy, SetAddr, Narrow, AndPerm, StoreCap, LoadCap, Write, Show, Sweep, Begin, End}
 use Rattle.state_text.specs.Blocks.{told_blocks}
-use Rattle.state_text.specs.States.{tells_pass}
-use Rattle.state_text.specs.Told.{blocks_told, given_up, open_after, painted_after, waiting_after, written}
+use Rattle.state_text.specs.States.{tells_pass, tells_registers}
+use Rattle.state_text.specs.Told.{blocks_told, given_up, open_after, painted_after, takes_tags, waiting_after, written}
 
 -- The reply tells of no pass, and of no block.
 pub record IsQuiet (r : Reply) : Type 0 where
@@ -37,6 +39,11 @@ pub record IsFreeing (r : Reply) : Type 0 where
   pub painted : (waiting painted : List Span) → painted_after r waiting painted ≡ []
   pub is_open : (is_open : Bool) → open_after r is_open ≡ false
 
+-- Where the reply tells of no tag that a pass took, none is taken of a granule, nor of a register if it looked at registers.
+pub record TellsTags (s : State) (r : Reply) : Type 0 where
+  pub granules : takes_tags r ≡ false → count_by (λ g. takes_tag (due s.heap) (cell_of g)) s.cells ≡ 0
+  pub registers : takes_tags r ≡ false → tells_registers r ≡ true → count_by (takes_tag (due s.heap)) (drop 1 s.registers) ≡ 0
+
 -- With the granule that it may write, and the start of a block that it may give up.
 pub data Did (s : State) (w : Option ℕ) (start : ℕ) (r : Reply) (new : State) : Type 0 where
   quiet : IsQuiet r → new.cells ≡ s.cells → new.heap ≡ s.heap → Did s w start r new
@@ -46,11 +53,11 @@ pub data Did (s : State) (w : Option ℕ) (start : ℕ) (r : Reply) (new : State
       → new.cells ≡ s.cells → new.heap ≡ with_live s.heap size base → Did s w start r new
   gave_up : (base top : ℕ) → w ≡ None → start ≡ base → r ≡ Held (top - base) → is_block s.heap.live base top ≡ true
       → new.cells ≡ s.cells → new.heap ≡ with_waiting s.heap base top → Did s w start r new
-  freed : w ≡ None → IsFreeing r → new.cells ≡ swept_granules (due s.heap) s.cells → new.heap ≡ without_due s.heap → Did s w start r new
-  freed_and_handed_out : (size base top cleared : ℕ) → w ≡ None → r ≡ BlockAfter base top cleared → s.heap.is_open ≡ false
+  freed : w ≡ None → IsFreeing r → TellsTags s r → new.cells ≡ swept_granules (due s.heap) s.cells → new.heap ≡ without_due s.heap → Did s w start r new
+  freed_and_handed_out : (size base top cleared : ℕ) → w ≡ None → r ≡ BlockAfter base top cleared → TellsTags s r → s.heap.is_open ≡ false
       → IsPlace (without_waiting s.heap) size base → top ≡ base + block_length size → new.cells ≡ swept_granules s.heap.waiting s.cells
       → new.heap ≡ with_live (without_waiting s.heap) size base → Did s w start r new
-  began : (cleared : ℕ) → w ≡ None → r ≡ Begun cleared → s.heap.is_open ≡ false → new.cells ≡ swept_granules s.heap.waiting s.cells
+  began : (cleared : ℕ) → w ≡ None → r ≡ Begun cleared → TellsTags s r → s.heap.is_open ≡ false → new.cells ≡ swept_granules s.heap.waiting s.cells
       → new.heap ≡ with_epoch s.heap → Did s w start r new
 
 -- ---- replies
@@ -76,17 +83,40 @@ either_way : (b : Bool) → IsQuiet (cond b Cleared Done)
 either_way true = quiet_cleared
 either_way false = quiet_done
 
+-- ---- how many tags
+
+no_tags : (n : ℕ) → not (n == 0) ≡ false → n ≡ 0
+no_tags n none = elim (cases_eq n 0) [ inl zero ↦ zero | inr some ↦ absurd (true≢false (sym (ap not (ne_eqb n 0 some)) ∙ none)) ]
+
+-- A reply tells of the tags that a pass took over memory and registers, and one of those that a pass took over memory.
+tells_all : (s : State) (r : Reply) (cleared : ℕ) → takes_tags r ≡ not (cleared == 0) → cleared ≡ tags_taken (due s.heap) s.cells s.registers → TellsTags s r
+tells_all s r cleared is all = record {
+  granules = λ none. (let zero = no_tags cleared (sym is ∙ none) in omega (arith, zero, all));
+  registers = λ none _. (let zero = no_tags cleared (sym is ∙ none) in omega (arith, zero, all));
+}
+
+tells_memory : (s : State) (r : Reply) (cleared : ℕ) → takes_tags r ≡ not (cleared == 0) → tells_registers r ≡ false
+    → cleared ≡ count_by (λ g. takes_tag (due s.heap) (cell_of g)) s.cells → TellsTags s r
+tells_memory s r cleared is memory all = record {
+  granules = λ none. sym all ∙ no_tags cleared (sym is ∙ none);
+  registers = λ none looked. absurd (true≢false (sym looked ∙ memory));
+}
+
+closed_tags : (s : State) (cleared : ℕ) → s.heap.is_open ≡ false → cleared ≡ tags_taken s.heap.waiting s.cells s.registers → cleared ≡ tags_taken (due s.heap) s.cells s.registers
+closed_tags s cleared closed is = is ∙ ap (λ (held : List Span). tags_taken held s.cells s.registers) (sym (due-closed s.heap closed))
+
 -- ---- commands
 
 Malloc-did : (s : State) (rd size start : ℕ) (r : Reply) (new : State) → Effect s (Malloc rd size) r new → Did s None start r new
 Malloc-did s rd size start (Block base top) new e =
     handed_out size base top refl refl e.place e.end (ap (λ (x : State). x.cells) e.state) (ap (λ (x : State). x.heap) e.state)
 Malloc-did s rd size start (BlockAfter base top cleared) new e =
-    freed_and_handed_out size base top cleared refl refl e.0.may.closed e.1.place e.1.end (ap (λ (x : State). x.cells) e.1.state) (ap (λ (x : State). x.heap) e.1.state)
+    freed_and_handed_out size base top cleared refl refl (tells_all s (BlockAfter base top cleared) cleared refl (closed_tags s cleared e.0.may.closed e.0.cleared_is)) e.0.may.closed e.1.place e.1.end (ap (λ (x : State). x.cells) e.1.state) (ap (λ (x : State). x.heap) e.1.state)
 Malloc-did s rd size start NoSpace new e =
     quiet (record { pass = refl; blocks = λ blocks at. refl; waiting = λ is_open waiting start. refl; painted = λ waiting painted. refl; is_open = λ is_open. refl }) (ap (λ (x : State). x.cells) e.1.state) (ap (λ (x : State). x.heap) e.1.state)
 Malloc-did s rd size start (NoSpaceAfter cleared) new e =
     freed refl (record { pass = refl; blocks = λ blocks at. refl; waiting = λ is_open waiting start. refl; painted = λ waiting painted. refl; is_open = λ is_open. refl })
+    (tells_all s (NoSpaceAfter cleared) cleared refl (closed_tags s cleared e.0.may.closed e.0.cleared_is))
     (ap (λ (x : State). x.cells) e.1.state ∙ ap (λ (held : List Span). swept_granules held s.cells) (sym (due-closed s.heap e.0.may.closed)))
     (ap (λ (x : State). x.heap) e.1.state ∙ sym (without_due-closed s.heap e.0.may.closed))
 Malloc-did s rd size start (Held bytes) new e = absurd e
@@ -128,17 +158,22 @@ Sweep-did : (is_open : Bool) (s : State) (r : Reply) (new : State) → s.heap.is
 Sweep-did true s r new is step = trapped s None 0 r new Open step
 Sweep-did false s r new closed step =
     freed refl (subst IsFreeing (sym step.0) (record { pass = refl; blocks = λ blocks at. refl; waiting = λ is_open waiting start. refl; painted = λ waiting painted. refl; is_open = λ is_open. refl }))
+    (tells_all s r _ (ap takes_tags step.0) (closed_tags s _ closed refl))
     (ap (λ (x : State). x.cells) step.1 ∙ ap (λ (held : List Span). swept_granules held s.cells) (sym (due-closed s.heap closed)))
     (ap (λ (x : State). x.heap) step.1 ∙ sym (without_due-closed s.heap closed))
 
 Begin-did : (is_open : Bool) (s : State) (r : Reply) (new : State) → s.heap.is_open ≡ is_open → StepAfter (first_failed ((not is_open, Open) ∷ [])) s Begin r new → Did s None 0 r new
 Begin-did true s r new is step = trapped s None 0 r new Open step
-Begin-did false s r new closed step = began _ refl step.0 closed (ap (λ (x : State). x.cells) step.1) (ap (λ (x : State). x.heap) step.1)
+Begin-did false s r new closed step =
+    began _ refl step.0
+    (tells_memory s r _ (ap takes_tags step.0) (ap tells_registers step.0) (ap (λ (held : List Span). count_by (λ (g : Granule). takes_tag held (cell_of g)) s.cells) (sym (due-closed s.heap closed))))
+    closed (ap (λ (x : State). x.cells) step.1) (ap (λ (x : State). x.heap) step.1)
 
 End-did : (is_open : Bool) (s : State) (r : Reply) (new : State) → s.heap.is_open ≡ is_open → StepAfter (first_failed ((is_open, NotOpen) ∷ [])) s End r new → Did s None 0 r new
 End-did false s r new is step = trapped s None 0 r new NotOpen step
 End-did true s r new opened step =
     freed refl (subst IsFreeing (sym step.0) (record { pass = refl; blocks = λ blocks at. refl; waiting = λ is_open waiting start. refl; painted = λ waiting painted. refl; is_open = λ is_open. refl }))
+    (tells_all s r _ (ap takes_tags step.0) (ap (λ (held : List Span). tags_taken held s.cells s.registers) (sym (due-open s.heap opened))))
     (ap (λ (x : State). x.cells) step.1 ∙ ap (λ (held : List Span). swept_granules held s.cells) (sym (due-open s.heap opened)))
     (ap (λ (x : State). x.heap) step.1 ∙ sym (without_due-open s.heap opened))
 

@@ -8,7 +8,7 @@ use Rattle.heap_core.specs.Blocks.{IsApart, Span, blocks_with, blocks_without, e
 use Rattle.heap_core.specs.Laws.{has_bounds-is}
 use Rattle.state_text.specs.Blocks.{come_in, has_block}
 use Rattle.state_text.specs.Spans.{span_of, spans_of}
-use Rattle.state_text.specs.declared.blocks.Block.{Block}
+use Rattle.state_text.specs.declared.blocks.HeldBlock.{HeldBlock}
 
 -- ---- filters
 
@@ -155,7 +155,7 @@ insert_place b (x ∷ blocks) (suc i) d before after within =
     rw (le-ltb (start_of b) (start_of x) (before 0 (omega arith)))
     (ap (λ rest. x ∷ rest) (insert_place b blocks i d (λ k lt. before (suc k) (omega (arith, lt))) (λ lt. after (omega (arith, lt))) (omega (arith, within))))
 
-pub spans_insert : (blocks : List Block) (i : ℕ) (b : Block) → spans_of (insert blocks i b) ≡ insert (spans_of blocks) i (span_of b)
+pub spans_insert : (blocks : List HeldBlock) (i : ℕ) (b : HeldBlock) → spans_of (insert blocks i b) ≡ insert (spans_of blocks) i (span_of b)
 spans_insert [] zero b = refl
 spans_insert [] (suc i) b = refl
 spans_insert (x ∷ blocks) zero b = refl

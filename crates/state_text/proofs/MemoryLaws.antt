@@ -1,24 +1,27 @@
 -- What is told of memory is what changed in it.
-use Rattle.std.proofs.Common.{◌≡◌, ◌∙◌, ◌≢◌, ◌⊎◌, ◌<◌, ◌&&◌, ℕ, zero, suc, Bool, true, false, not, inl, inr, Option, Some, None, List, [], ◌∷◌, ◌++◌, if◌then◌else◌, append-nil, codes, length, get_or, refl, sym, ap, arith}
-use Rattle.std.proofs.lemmas.Bool.{cases_eq, cases_lt, eq-eqb, lt-ltb, le-ltb, true≢false}
-use Rattle.std.proofs.lemmas.List.{get_or-map, length-map}
+use Rattle.std.proofs.Common.{◌≡◌, ◌∙◌, ◌≢◌, ◌⊎◌, ◌<◌, ◌≤◌, ◌&&◌, ℕ, zero, suc, Bool, true, false, cond, drop, not, inl, inr, Option, Some, None, List, [], ◌∷◌, ◌++◌, if◌then◌else◌, append-nil, codes, length, get_or, refl, sym, ap, arith}
+use Rattle.std.specs.List.{count_by}
+use Rattle.std.proofs.lemmas.Bool.{cases_Bool, cases_eq, cases_lt, eq-eqb, lt-ltb, le-ltb, ne_eqb, true≢false}
+use Rattle.std.proofs.lemmas.List.{get_or-map, get_or_past, length-map}
+use Rattle.std.proofs.lemmas.List.Sums.{get_or-le-sum_by}
 use Rattle.heap_core.specs.Blocks.{Span}
 use Rattle.heap_core.specs.Heap.{due}
 use Rattle.heap_core.specs.Laws.{due-closed}
 use Rattle.heap_machine.specs.State.{State}
 use Rattle.heap_reply.specs.declared.reply.Reply.{Reply}
+use Rattle.heap_reply.specs.declared.reply.Reply.TheVariants.{Block, BlockAfter, NoSpace, NoSpaceAfter, Held, Done, Cleared, Swept, Begun, Shown, Trap}
 use Rattle.json.specs.Token.{Token, begin_object, end_object, key}
-use Rattle.sweep_pool.specs.Sweep.{is_revoked, swept_granule, swept_granules}
-use Rattle.tag_memory.specs.Cells.{Granule, cell_of}
+use Rattle.sweep_pool.specs.Sweep.{is_revoked, swept_granule, swept_granules, takes_tag}
+use Rattle.tag_memory.specs.Cells.{Cell, Granule, cell_of, null_cell, register_at, register_count}
 use Rattle.tag_memory.specs.Tags.{is_set_for, is_tagged}
 use Rattle.state_text.specs.Changes.{below, change_tokens, granule_change, granules_tokens, is_same, tag_change}
 use Rattle.state_text.specs.Line.{list_tokens}
 use Rattle.state_text.specs.States.{pass_tokens, tells_pass, tells_registers}
-use Rattle.state_text.specs.Taken.{is_granule_taken, is_register_taken, is_tag_gone, number_if, register_numbers}
-use Rattle.state_text.specs.Told.{IsSeen, due_seen, granule_before, granules_told, is_stale, pass_told}
+use Rattle.state_text.specs.Taken.{is_granule_taken, is_register_taken, is_tag_gone, number_if, register_numbers, taken_tokens}
+use Rattle.state_text.specs.Told.{IsSeen, due_seen, granule_before, granules_told, is_stale, none_taken, pass_told, takes_tags}
 use Rattle.state_text.specs.declared.seen.Seen.{Seen}
-use Rattle.state_text.proofs.ChangeLaws.{change_tokens-same, is_same-itself, number_if-same}
-use Rattle.state_text.proofs.Did.{Did}
+use Rattle.state_text.proofs.ChangeLaws.{change_tokens-same, is_same-itself, number_if-no, number_if-same}
+use Rattle.state_text.proofs.Did.{Did, TellsTags}
 use Rattle.state_text.proofs.Did.Did.{quiet, wrote, handed_out, gave_up, freed, freed_and_handed_out, began}
 
 -- ---- lists of what numbers have
@@ -50,41 +53,111 @@ granule_change-none old new k same =
 
 -- ---- memory after a command
 
--- No pass was made, and all granules are as they were but the one that may be written.
+-- No tag was taken, and all granules are as they were but the one that may be written.
 record AreKept (s : State) (w : Option ℕ) (r : Reply) (new : State) : Type 0 where
-  pub pass : tells_pass r ≡ false
+  pub tags : takes_tags r ≡ false
   pub count : length new.cells ≡ length s.cells
   pub same : (k : ℕ) → (w ≡ Some k → ⊥) → get_or new.cells k (0, false) ≡ get_or s.cells k (0, false)
 
--- A pass was made, for the blocks that were due.
+-- A pass took tags, for the blocks that were due.
 record AreSwept (s : State) (w : Option ℕ) (r : Reply) (new : State) : Type 0 where
-  pub pass : tells_pass r ≡ true
+  pub tags : takes_tags r ≡ true
   pub none : w ≡ None
   pub cells : new.cells ≡ swept_granules (due s.heap) s.cells
 
+-- A pass was made, for the blocks that were due.
+record IsPass (s : State) (w : Option ℕ) (r : Reply) (new : State) : Type 0 where
+  pub pass : tells_pass r ≡ true
+  pub none : w ≡ None
+  pub tags : TellsTags s r
+  pub cells : new.cells ≡ swept_granules (due s.heap) s.cells
+
+-- No pass takes no tag.
+no_tags : (r : Reply) → tells_pass r ≡ false → takes_tags r ≡ false
+no_tags (Block base top) none = refl
+no_tags (BlockAfter base top cleared) none = absurd (true≢false none)
+no_tags NoSpace none = refl
+no_tags (NoSpaceAfter cleared) none = absurd (true≢false none)
+no_tags (Held bytes) none = refl
+no_tags Done none = refl
+no_tags Cleared none = refl
+no_tags (Swept cleared released) none = absurd (true≢false none)
+no_tags (Begun cleared) none = absurd (true≢false none)
+no_tags (Shown shown) none = refl
+no_tags (Trap trap) none = refl
+
 kept : (s : State) (w : Option ℕ) (r : Reply) (new : State) → tells_pass r ≡ false → new.cells ≡ s.cells → AreKept s w r new
 kept s w r new pass same = record {
-  pass = pass;
+  tags = no_tags r pass;
   count = ap length same;
   same = λ k _. ap (λ (cells : List Granule). get_or cells k (0, false)) same;
 }
 
+-- A command makes no pass and keeps granules, or makes one.
+Did-pass : (s : State) (w : Option ℕ) (start : ℕ) (r : Reply) (new : State) → Did s w start r new → ((tells_pass r ≡ false) × AreKept s w r new) ⊎ IsPass s w r new
+Did-pass s w start r new (quiet is cells heap) = inl (is.pass, kept s w r new is.pass cells)
+Did-pass s w start r new (wrote i is_i is heap count elsewhere) =
+    inl (is.pass, record { tags = no_tags r is.pass; count = count; same = λ k not_k. elsewhere k (λ e. not_k (is_i ∙ ap Some (sym e))) })
+Did-pass s w start r new (handed_out size base top none is place end cells heap) = inl (ap tells_pass is, kept s w r new (ap tells_pass is) cells)
+Did-pass s w start r new (gave_up base top none at is block cells heap) = inl (ap tells_pass is, kept s w r new (ap tells_pass is) cells)
+Did-pass s w start r new (freed none is tags cells heap) = inr (record { pass = is.pass; none = none; tags = tags; cells = cells })
+Did-pass s w start r new (freed_and_handed_out size base top cleared none is tags closed place end cells heap) =
+    inr (record { pass = ap tells_pass is; none = none; tags = tags; cells = cells ∙ ap (λ (held : List Span). swept_granules held s.cells) (sym (due-closed s.heap closed)) })
+Did-pass s w start r new (began cleared none is tags closed cells heap) =
+    inr (record { pass = ap tells_pass is; none = none; tags = tags; cells = cells ∙ ap (λ (held : List Span). swept_granules held s.cells) (sym (due-closed s.heap closed)) })
+
+-- ---- a pass that takes nothing
+
+of_none : (b : Bool) → cond b 1 0 ≤ 0 → b ≡ false
+of_none true some = absurd (omega (arith, some))
+of_none false some = refl
+
+-- Where none passes the test, no place has one that does.
+none_counted : {X : Type 0} (test : X → Bool) (xs : List X) (none : X) → count_by test xs ≡ 0 → test none ≡ false → (k : ℕ) → test (get_or xs k none) ≡ false
+none_counted test xs none count not_none k =
+    elim (cases_lt k (length xs)) [
+      | inl inside ↦ of_none (test (get_or xs k none)) (omega (arith, get_or-le-sum_by (λ x. cond (test x) 1 0) xs k none inside, count))
+      | inr past ↦ ap test (get_or_past xs k none past) ∙ not_none
+    ]
+
+untaken : (tag revoked : Bool) → (tag && revoked) ≡ false → (tag && not revoked) ≡ tag
+untaken true true none = absurd (true≢false none)
+untaken true false none = refl
+untaken false revoked none = refl
+
+-- No granule, and no register if the pass looked at them.
+no_granule : (s : State) (r : Reply) → TellsTags s r → takes_tags r ≡ false → (k : ℕ) → is_granule_taken (due s.heap) s.cells k ≡ false
+no_granule s r tags none k = none_counted (λ g. takes_tag (due s.heap) (cell_of g)) s.cells (0, false) (tags.granules none) refl k
+
+pass_kept : (s : State) (w : Option ℕ) (r : Reply) (new : State) → IsPass s w r new → takes_tags r ≡ false → AreKept s w r new
+pass_kept s w r new is none = record {
+  tags = none;
+  count = ap length is.cells ∙ length-map s.cells (swept_granule (due s.heap));
+  same = λ k _. elim (cases_lt k (length s.cells)) [
+    | inl inside ↦
+        let g = get_or s.cells k (0, false) in
+        let tag : (g.1 && not (is_revoked (due s.heap) (cell_of g).0)) ≡ g.1 = untaken g.1 (is_revoked (due s.heap) (cell_of g).0) (no_granule s r is.tags none k) in
+        ap (λ (xs : List Granule). get_or xs k (0, false)) is.cells
+        ∙ (get_or-map (swept_granule (due s.heap)) s.cells k (0, false) (0, false) inside ∙ (λ i. (g.0, tag i)))
+    | inr past ↦
+        get_or_past new.cells k (0, false) (omega (arith, past, ap length is.cells, length-map s.cells (swept_granule (due s.heap)))) ∙ sym (get_or_past s.cells k (0, false) past)
+  ];
+}
+
 Did-memory : (s : State) (w : Option ℕ) (start : ℕ) (r : Reply) (new : State) → Did s w start r new → AreKept s w r new ⊎ AreSwept s w r new
-Did-memory s w start r new (quiet is cells heap) = inl (kept s w r new is.pass cells)
-Did-memory s w start r new (wrote i is_i is heap count elsewhere) =
-    inl (record { pass = is.pass; count = count; same = λ k not_k. elsewhere k (λ e. not_k (is_i ∙ ap Some (sym e))) })
-Did-memory s w start r new (handed_out size base top none is place end cells heap) = inl (kept s w r new (ap tells_pass is) cells)
-Did-memory s w start r new (gave_up base top none at is block cells heap) = inl (kept s w r new (ap tells_pass is) cells)
-Did-memory s w start r new (freed none is cells heap) = inr (record { pass = is.pass; none = none; cells = cells })
-Did-memory s w start r new (freed_and_handed_out size base top cleared none is closed place end cells heap) =
-    inr (record { pass = ap tells_pass is; none = none; cells = cells ∙ ap (λ (held : List Span). swept_granules held s.cells) (sym (due-closed s.heap closed)) })
-Did-memory s w start r new (began cleared none is closed cells heap) =
-    inr (record { pass = ap tells_pass is; none = none; cells = cells ∙ ap (λ (held : List Span). swept_granules held s.cells) (sym (due-closed s.heap closed)) })
+Did-memory s w start r new did =
+    elim (Did-pass s w start r new did) [
+      | inl are ↦ inl are.1
+      | inr is ↦ elim (cases_Bool (takes_tags r)) [
+        | inl some ↦ inr (record { tags = some; none = is.none; cells = is.cells })
+        | inr none ↦ inl (pass_kept s w r new is none)
+      ]
+    ]
 
 -- ---- granules
 
--- Without a pass nothing is told of a granule that isn't one.
-told_none : (r : Reply) (tags : List ℕ) (cells : List Granule) → tells_pass r ≡ false → granules_told None r tags cells ≡ []
+-- Where no tag was taken, nothing is told of a granule that wasn't written.
+told_none : (r : Reply) (tags : List ℕ) (cells : List Granule) → takes_tags r ≡ false → granules_told None r tags cells ≡ []
 told_none r tags cells pass = rw pass refl
 
 some_is : {a b : ℕ} → Some a ≡ Some b → a ≡ b
@@ -98,7 +171,7 @@ none_is k e = cc
 
 kept_all : (s : State) (r : Reply) (tags : List ℕ) (new : State) → AreKept s None r new → granules_told None r tags new.cells ≡ granules_tokens s.cells new.cells
 kept_all s r tags new are =
-    told_none r tags new.cells are.pass ∙ sym (below_none (granule_change s.cells new.cells) (length new.cells) (λ k lt. granule_change-none s.cells new.cells k (are.same k (none_is k))))
+    told_none r tags new.cells are.tags ∙ sym (below_none (granule_change s.cells new.cells) (length new.cells) (λ k lt. granule_change-none s.cells new.cells k (are.same k (none_is k))))
 
 kept_but_one : (s : State) (i : ℕ) (r : Reply) (tags : List ℕ) (new : State) → AreKept s (Some i) r new
     → granules_told (granule_before s (Some i)) r tags new.cells ≡ granules_tokens s.cells new.cells
@@ -109,7 +182,7 @@ kept_but_one s i r tags new are =
       | inl lt ↦ rw (lt-ltb i (length s.cells) lt) (sym (below_one change (length new.cells) i (omega (arith, lt, are.count)) (λ k _ not_i. other k not_i)))
       | inr past ↦
           rw (le-ltb i (length s.cells) past)
-          (told_none r tags new.cells are.pass ∙ sym (below_none change (length new.cells) (λ k lt. other k (λ e. omega (arith, lt, past, e, are.count)))))
+          (told_none r tags new.cells are.tags ∙ sym (below_none change (length new.cells) (λ k lt. other k (λ e. omega (arith, lt, past, e, are.count)))))
     ]
 
 -- After a pass the bytes are as before, and the tags before are those of the words.
@@ -129,7 +202,7 @@ granules_told-is s w start r tags new did bits =
     elim (Did-memory s w start r new did) [
       | inl are ↦ by w are
       | inr are ↦
-          rw (are.none, are.pass)
+          rw (are.none, are.tags)
           (below_same (tag_change tags new.cells) (granule_change s.cells new.cells) (length new.cells) (λ k lt.
           let inside : k < length s.cells = omega (arith, lt, ap length are.cells, length-map s.cells (swept_granule (due s.heap))) in
           swept_change s tags new k are.cells inside (bits k inside)))
@@ -153,7 +226,7 @@ pub tag-kept : (s : State) (w : Option ℕ) (start : ℕ) (r : Reply) (new : Sta
 tag-kept s w start r new did k lt fresh =
     elim (Did-memory s w start r new did) [
       | inl are ↦ by w are fresh
-      | inr are ↦ absurd (true≢false (sym are.pass ∙ (ap (λ (o : Option ℕ). is_stale (granule_before s o) r k) (sym are.none) ∙ fresh)))
+      | inr are ↦ absurd (true≢false (sym are.tags ∙ (ap (λ (o : Option ℕ). is_stale (granule_before s o) r k) (sym are.none) ∙ fresh)))
     ] where
       by : (w : Option ℕ) → AreKept s w r new → is_stale (granule_before s w) r k ≡ false → is_tagged new.cells k ≡ is_tagged s.cells k
       by None are fresh = ap (λ (g : Granule). g.1) (are.same k (none_is k))
@@ -176,25 +249,62 @@ gone_is_taken true true = refl
 gone_is_taken true false = refl
 gone_is_taken false r = refl
 
+register_at-suc : (registers : List Cell) (k : ℕ) → register_at registers (suc k) ≡ get_or (drop 1 registers) k null_cell
+register_at-suc registers k = ap (λ b. cond b null_cell (get_or registers (suc k) null_cell)) (ne_eqb (suc k) 0 (λ e. absurd (omega (arith, e)))) ∙ later registers where
+  later : (cells : List Cell) → get_or cells (suc k) null_cell ≡ get_or (drop 1 cells) k null_cell
+  later [] = refl
+  later (x ∷ cells) = refl
+
+register_numbers-none : (test : ℕ → Bool) → ((k : ℕ) → test k ≡ false) → register_numbers test ≡ []
+unfolding register_numbers
+register_numbers-none test none = below_none (number_if test) register_count (λ k lt. number_if-no test k (none k))
+
+-- No register is told of, where none was taken.
+no_register : (s : State) (r : Reply) → TellsTags s r → takes_tags r ≡ false → (looked : Bool) → tells_registers r ≡ looked → (k : ℕ)
+    → (looked && is_register_taken (due s.heap) s.registers k) ≡ false
+no_register s r tags none false looked k = refl
+no_register s r tags none true looked zero = refl
+no_register s r tags none true looked (suc k) =
+    let at : register_at s.registers (suc k) ≡ get_or (drop 1 s.registers) k null_cell = register_at-suc s.registers k in
+    ap (takes_tag (due s.heap)) at ∙ none_counted (takes_tag (due s.heap)) (drop 1 s.registers) null_cell (tags.registers none looked) refl k
+
+none_told : (s : State) (r : Reply) → TellsTags s r → takes_tags r ≡ false
+    → none_taken ≡ taken_tokens (λ k. tells_registers r && is_register_taken (due s.heap) s.registers k) (is_granule_taken (due s.heap) s.cells) (length s.cells)
+none_told s r tags none =
+    let register : ℕ → Bool = λ k. tells_registers r && is_register_taken (due s.heap) s.registers k in
+    let granule : ℕ → Bool = is_granule_taken (due s.heap) s.cells in
+    let registers : register_numbers (λ k. tells_registers r && is_register_taken (due s.heap) s.registers k) ≡ [] = register_numbers-none register (no_register s r tags none (tells_registers r) refl) in
+    let granules : below (number_if (is_granule_taken (due s.heap) s.cells)) (length s.cells) ≡ [] =
+    below_none (number_if granule) (length s.cells) (λ k lt. number_if-no granule k (no_granule s r tags none k)) in
+    λ i. key (codes "taken") ∷ begin_object ∷ (list_tokens (codes "registers") (sym registers i) ++ (list_tokens (codes "granules") (sym granules i) ++ end_object ∷ []))
+
+-- Where the pass took tags, those that are gone are those that it took.
+swept_told : (s : State) (w : Option ℕ) (r : Reply) (seen : Seen) (new : State) → AreSwept s w r new → IsSeen seen s
+    → taken_tokens (λ k. tells_registers r && is_register_taken (due_seen seen) seen.registers k) (is_tag_gone seen.tags.items new.cells) (length new.cells)
+    ≡ taken_tokens (λ k. tells_registers r && is_register_taken (due s.heap) s.registers k) (is_granule_taken (due s.heap) s.cells) (length s.cells)
+swept_told s w r seen new are is =
+    let held = due-seen seen s is in
+    let count : length new.cells ≡ length s.cells = ap length are.cells ∙ length-map s.cells (swept_granule (due s.heap)) in
+    let each : (k : ℕ) → k < length s.cells → is_tag_gone seen.tags.items new.cells k ≡ is_granule_taken (due s.heap) s.cells k =
+    λ k lt.
+    let tag : is_tagged new.cells k ≡ (is_tagged s.cells k && not (is_revoked (due s.heap) (cell_of (get_or s.cells k (0, false))).0)) =
+    ap (λ (xs : List Granule). is_tagged xs k) are.cells ∙ ap (λ (g : Granule). g.1) (get_or-map (swept_granule (due s.heap)) s.cells k (0, false) (0, false) lt) in
+    (λ i. is.bits k lt i && not (tag i)) ∙ gone_is_taken (is_tagged s.cells k) (is_revoked (due s.heap) (cell_of (get_or s.cells k (0, false))).0) in
+    let granules : below (number_if (is_tag_gone seen.tags.items new.cells)) (length new.cells) ≡ below (number_if (is_granule_taken (due s.heap) s.cells)) (length s.cells) =
+    ap (below (number_if (is_tag_gone seen.tags.items new.cells))) count
+    ∙ below_same (number_if (is_tag_gone seen.tags.items new.cells)) (number_if (is_granule_taken (due s.heap) s.cells)) (length s.cells)
+    (λ k lt. number_if-same (is_tag_gone seen.tags.items new.cells) (is_granule_taken (due s.heap) s.cells) k (each k lt)) in
+    λ i. key (codes "taken") ∷ begin_object
+    ∷ (list_tokens (codes "registers") (register_numbers (λ k. tells_registers r && is_register_taken (held i) (is.registers i) k))
+    ++ (list_tokens (codes "granules") (granules i) ++ end_object ∷ []))
+
 pub pass_told-is : (s : State) (w : Option ℕ) (start : ℕ) (r : Reply) (seen : Seen) (new : State) → Did s w start r new → IsSeen seen s
     → pass_told r seen new.cells ≡ pass_tokens r s
 pass_told-is s w start r seen new did is =
-    elim (Did-memory s w start r new did) [
-      | inl are ↦ rw are.pass refl
-      | inr are ↦
-          let held = due-seen seen s is in
-          let count : length new.cells ≡ length s.cells = ap length are.cells ∙ length-map s.cells (swept_granule (due s.heap)) in
-          let each : (k : ℕ) → k < length s.cells → is_tag_gone seen.tags.items new.cells k ≡ is_granule_taken (due s.heap) s.cells k =
-          λ k lt.
-          let tag : is_tagged new.cells k ≡ (is_tagged s.cells k && not (is_revoked (due s.heap) (cell_of (get_or s.cells k (0, false))).0)) =
-          ap (λ (xs : List Granule). is_tagged xs k) are.cells ∙ ap (λ (g : Granule). g.1) (get_or-map (swept_granule (due s.heap)) s.cells k (0, false) (0, false) lt) in
-          (λ i. is.bits k lt i && not (tag i)) ∙ gone_is_taken (is_tagged s.cells k) (is_revoked (due s.heap) (cell_of (get_or s.cells k (0, false))).0) in
-          let granules : below (number_if (is_tag_gone seen.tags.items new.cells)) (length new.cells) ≡ below (number_if (is_granule_taken (due s.heap) s.cells)) (length s.cells) =
-          ap (below (number_if (is_tag_gone seen.tags.items new.cells))) count
-          ∙ below_same (number_if (is_tag_gone seen.tags.items new.cells)) (number_if (is_granule_taken (due s.heap) s.cells)) (length s.cells)
-          (λ k lt. number_if-same (is_tag_gone seen.tags.items new.cells) (is_granule_taken (due s.heap) s.cells) k (each k lt)) in
-          rw are.pass
-          (λ i. key (codes "taken") ∷ begin_object
-          ∷ (list_tokens (codes "registers") (register_numbers (λ k. tells_registers r && is_register_taken (held i) (is.registers i) k))
-          ++ (list_tokens (codes "granules") (granules i) ++ end_object ∷ [])))
+    elim (Did-pass s w start r new did) [
+      | inl are ↦ rw are.0 refl
+      | inr pass ↦ elim (cases_Bool (takes_tags r)) [
+        | inl some ↦ rw (pass.pass, some) (swept_told s w r seen new (record { tags = some; none = pass.none; cells = pass.cells }) is)
+        | inr none ↦ rw (pass.pass, none) (none_told s r pass.tags none)
+      ]
     ]

@@ -1,10 +1,10 @@
 -- Blocks of this crate, as the definitions have them.
 use Rattle.std.specs.Prelude.{List, map}
 use Rattle.heap_core.specs.Blocks.{Span}
-use Rattle.state_text.specs.declared.blocks.Block.{Block}
+use Rattle.state_text.specs.declared.blocks.HeldBlock.{HeldBlock}
 
-abbrev pub span_of : Block → Span
+abbrev pub span_of : HeldBlock → Span
 span_of block = (block.base, block.length)
 
-abbrev pub spans_of : List Block → List Span
+abbrev pub spans_of : List HeldBlock → List Span
 spans_of blocks = map span_of blocks

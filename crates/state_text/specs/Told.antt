@@ -1,6 +1,6 @@
 -- What is told of a command, by what was seen before it, its reply, and the machine after it.
 use Rattle.std.specs.Prelude.{ℕ, ◌&&◌, ◌==◌, nat_lt, ◌-◌, ◌*◌, ◌<◌, ◌≤◌, ◌≡◌, Bool, false, true, not, List, [], ◌∷◌, ◌++◌, Option, Some, None, codes, filter, if◌then◌else◌, length, slice_index_or}
-use Rattle.json.specs.Token.{Token}
+use Rattle.json.specs.Token.{Token, begin_object, end_object, key}
 use Rattle.state_text.specs.Taken.{is_register_taken, is_tag_gone, taken_tokens}
 use Rattle.cap_codec.specs.Words.{bounds_in}
 use Rattle.heap_core.specs.Blocks.{Span, blocks_with, has_bounds}
@@ -15,6 +15,7 @@ use Rattle.trace_text.specs.declared.trace.Command.{Command}
 use Rattle.trace_text.specs.declared.trace.Command.TheVariants.{Malloc, Free, Copy, SetAddr, Narrow, AndPerm, StoreCap, LoadCap, Write, Show, Sweep, Begin, End}
 use Rattle.state_text.specs.Blocks.{told_blocks}
 use Rattle.state_text.specs.Changes.{below, change_tokens, registers_tokens, tag_change}
+use Rattle.state_text.specs.Line.{list_tokens}
 use Rattle.state_text.specs.Spans.{spans_of}
 use Rattle.state_text.specs.States.{Tells, line_text, line_tokens, parts_tokens, tells_pass, tells_registers}
 use Rattle.state_text.specs.declared.seen.Before.{Before}
@@ -70,11 +71,25 @@ granule_before s (Some i) = if nat_lt i (length s.cells) then Some (i, slice_ind
 abbrev pub before_of : State → Command → Before
 before_of s c = record { granule = granule_before s (written s c); base = given_up s c }
 
+-- The reply tells of a pass that took a tag.
+abbrev pub takes_tags : Reply → Bool
+takes_tags (Block base top) = false
+takes_tags (BlockAfter base top cleared) = not (cleared == 0)
+takes_tags NoSpace = false
+takes_tags (NoSpaceAfter cleared) = not (cleared == 0)
+takes_tags (Held bytes) = false
+takes_tags Done = false
+takes_tags Cleared = false
+takes_tags (Swept cleared released) = not (cleared == 0)
+takes_tags (Begun cleared) = not (cleared == 0)
+takes_tags (Shown shown) = false
+takes_tags (Trap trap) = false
+
 -- The granules that changed: the one that was written, of which the bytes and the tag before are told, or those whose tags
 -- a pass took.
 abbrev pub granules_told : Option (ℕ × Granule) → Reply → List ℕ → List Granule → List Token
 granules_told (Some (i, before)) r tags cells = change_tokens (codes "i") i (cell_of before) (cell_of (slice_index_or cells i (0, false)))
-granules_told None r tags cells = if tells_pass r then below (tag_change tags cells) (length cells) else []
+granules_told None r tags cells = if takes_tags r then below (tag_change tags cells) (length cells) else []
 
 -- The blocks that changed, where these were due, and the one that was given up starts here.
 abbrev pub blocks_told : Reply → List Span → ℕ → List Token
@@ -109,11 +124,19 @@ HasOrder (Trap trap) = Unit {0}
 abbrev pub due_seen : Seen → List Span
 due_seen seen = if seen.is_open then spans_of seen.painted.items else spans_of seen.waiting.items
 
+-- No tag that a pass took.
+abbrev pub none_taken : List Token
+none_taken =
+    key (codes "taken") ∷ begin_object ∷ (list_tokens (codes "registers") [] ++ (list_tokens (codes "granules") [] ++ end_object ∷ []))
+
 -- The tags that a pass took.
 abbrev pub pass_told : Reply → Seen → List Granule → List Token
 pass_told r seen cells =
     if tells_pass r
+    then
+    if takes_tags r
     then taken_tokens (λ k. tells_registers r && is_register_taken (due_seen seen) seen.registers k) (is_tag_gone seen.tags.items cells) (length cells)
+    else none_taken
     else []
 
 -- All of it, of the command at line n, with the registers and the granules after it.
@@ -125,7 +148,7 @@ told_tokens n c r seen before registers cells =
 -- Granule k may have another tag after the command.
 abbrev pub is_stale : Option (ℕ × Granule) → Reply → ℕ → Bool
 is_stale (Some at) r k = k == at.0
-is_stale None r k = tells_pass r
+is_stale None r k = takes_tags r
 
 -- The blocks that wait after a command, those that are painted, and whether an epoch is open.
 abbrev pub waiting_after : Reply → Bool → List Span → ℕ → List Span

@@ -10,17 +10,17 @@ ghost use Rattle.state_text.specs.Line.{added};
 ghost use Rattle.state_text.specs.Spans.{span_of, spans_of};
 
 use crate::cells::put_address;
-use crate::line::Line;
-use std::alloc::{AllocError, Global};
+use crate::data_line::DataLine;
+use std::alloc::AllocError;
 
 /// A block: where it starts, and its length in bytes.
 #[derive(Clone, Copy, Debug, PartialEq, Eq)]
-pub struct Block {
+pub struct HeldBlock {
     pub base: u64,
     pub length: u64,
 }
 
-impl Block {
+impl HeldBlock {
     /// The address after its last byte.
     pub fn top(self) -> u128
         ensures { result ≡ self.base + self.length }
@@ -37,7 +37,7 @@ impl Block {
 }
 
 /// Whether an address lies in one of these blocks.
-pub fn lies_in(blocks: &[Block], address: u64) -> bool
+pub fn lies_in(blocks: &[HeldBlock], address: u64) -> bool
     ensures { result ≡ blocks_of.lies_in (spans_of blocks.now) address }
 {
     for block in blocks {
@@ -48,54 +48,38 @@ pub fn lies_in(blocks: &[Block], address: u64) -> bool
     false
 }
 
-fn put_bounds(line: &mut Line, alloc: Global, base: u64, top: u128) -> Result<(), AllocError>
+fn put_bounds(line: &mut DataLine, base: u64, top: u128) -> Result<(), AllocError>
     ensures { OnOk result (line.new ≡ added line.old
         (key (codes "base") ∷ string (hexadecimal_text base) ∷ key (codes "top") ∷ string (hexadecimal_text top) ∷ [])) }
 {
-    put_address(line, alloc, "base", u128::from(base))?;
-    put_address(line, alloc, "top", top)
+    put_address(line, "base", u128::from(base))?;
+    put_address(line, "top", top)
 }
 
 /// A block from `base` to `top`, with a word for what it is now.
-pub fn put_span(
-    line: &mut Line,
-    alloc: Global,
-    state: &str,
-    base: u64,
-    top: u128,
-) -> Result<(), AllocError>
+pub fn put_span(line: &mut DataLine, state: &str, base: u64, top: u128) -> Result<(), AllocError>
     requires { base ≤ top }
     ensures { OnOk result (line.new ≡ added line.old (block_tokens state.now (base, top - base))) }
 {
     line.open()?;
-    put_bounds(line, alloc, base, top)?;
+    put_bounds(line, base, top)?;
     line.text("state", state)?;
     line.close()
 }
 
 /// The same of a block.
-pub fn put_block(
-    line: &mut Line,
-    alloc: Global,
-    state: &str,
-    block: Block,
-) -> Result<(), AllocError>
+pub fn put_block(line: &mut DataLine, state: &str, block: HeldBlock) -> Result<(), AllocError>
     ensures { OnOk result (line.new ≡ added line.old (block_tokens state.now (span_of block))) }
 {
-    put_span(line, alloc, state, block.base, block.top())
+    put_span(line, state, block.base, block.top())
 }
 
 /// These blocks, with the same word for each.
-pub fn put_blocks(
-    line: &mut Line,
-    alloc: Global,
-    state: &str,
-    blocks: &[Block],
-) -> Result<(), AllocError>
+pub fn put_blocks(line: &mut DataLine, state: &str, blocks: &[HeldBlock]) -> Result<(), AllocError>
     ensures { OnOk result (line.new ≡ added line.old (told_blocks state.now (spans_of blocks.now))) }
 {
     for block in blocks {
-        put_block(line, alloc, state, *block)?;
+        put_block(line, state, *block)?;
     }
     Ok(())
 }

@@ -8,33 +8,29 @@ ghost use Rattle.heap_reply.specs.Display.{hexadecimal_text};
 ghost use Rattle.state_text.specs.Cells.{cell_tokens, place_tokens, rights_tokens};
 ghost use Rattle.state_text.specs.Line.{added};
 
-use crate::line::Line;
+use crate::data_line::DataLine;
+use crate::short_text::ShortText;
 use cap_codec::{Word, to_bytes};
-use heap_reply::{Hexadecimal, Shown};
-use std::alloc::{AllocError, Global};
+use heap_reply::Shown;
+use std::alloc::AllocError;
 
 /// An address, as a member of this name.
-pub fn put_address(
-    line: &mut Line,
-    alloc: Global,
-    name: &str,
-    address: u128,
-) -> Result<(), AllocError>
+pub fn put_address(line: &mut DataLine, name: &str, address: u128) -> Result<(), AllocError>
     ensures { OnOk result (line.new ≡ added line.old (key name.now ∷ string (hexadecimal_text address) ∷ [])) }
 {
-    let text = format!(in alloc; "{}", Hexadecimal(address))?;
+    let text = ShortText::of_address(address);
     line.text(name, text.as_str())
 }
 
-fn put_place(line: &mut Line, alloc: Global, shown: Shown) -> Result<(), AllocError>
+fn put_place(line: &mut DataLine, shown: Shown) -> Result<(), AllocError>
     ensures { OnOk result (line.new ≡ added line.old (place_tokens shown)) }
 {
-    put_address(line, alloc, "address", u128::from(shown.address))?;
-    put_address(line, alloc, "base", u128::from(shown.base))?;
-    put_address(line, alloc, "top", shown.top)
+    put_address(line, "address", u128::from(shown.address))?;
+    put_address(line, "base", u128::from(shown.base))?;
+    put_address(line, "top", shown.top)
 }
 
-fn put_rights(line: &mut Line, shown: Shown) -> Result<(), AllocError>
+fn put_rights(line: &mut DataLine, shown: Shown) -> Result<(), AllocError>
     ensures { OnOk result (line.new ≡ added line.old (rights_tokens shown)) }
 {
     line.count("perms", u64::from(shown.perms))?;
@@ -42,21 +38,21 @@ fn put_rights(line: &mut Line, shown: Shown) -> Result<(), AllocError>
     line.count("exponent", u64::from(shown.exponent))
 }
 
-fn put_word(line: &mut Line, alloc: Global, word: Word, tag: bool) -> Result<(), AllocError>
+fn put_word(line: &mut DataLine, word: Word, tag: bool) -> Result<(), AllocError>
     ensures { OnOk result (line.new ≡ added line.old
         (key (codes "tag") ∷ boolean tag ∷ key (codes "word") ∷ string (encode_lower (bytes_of word.bits)) ∷ [])) }
 {
-    let digits = hex::encode(alloc, to_bytes(word))?;
+    let digits = ShortText::of_bytes(to_bytes(word));
     line.flag("tag", tag)?;
     line.text("word", digits.as_str())
 }
 
 /// The members of a cell: its tag, its word, and what the word decodes to.
-pub fn put_cell(line: &mut Line, alloc: Global, word: Word, tag: bool) -> Result<(), AllocError>
+pub fn put_cell(line: &mut DataLine, word: Word, tag: bool) -> Result<(), AllocError>
     ensures { OnOk result (line.new ≡ added line.old (cell_tokens (word, tag))) }
 {
     let shown = Shown::of(word, tag);
-    put_word(line, alloc, word, tag)?;
-    put_place(line, alloc, shown)?;
+    put_word(line, word, tag)?;
+    put_place(line, shown)?;
     put_rights(line, shown)
 }

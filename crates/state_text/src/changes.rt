@@ -10,15 +10,14 @@ ghost use Rattle.state_text.specs.Line.{added};
 ghost use Rattle.tag_memory.specs.Cells.{register_count};
 
 use crate::cells::put_cell;
-use crate::line::Line;
+use crate::data_line::DataLine;
 use cap_codec::Word;
-use std::alloc::{AllocError, Global};
+use std::alloc::AllocError;
 use tag_memory::{REGISTERS, Registers};
 
 // The object of a cell: its number under this name, and its members.
 fn put_numbered(
-    line: &mut Line,
-    alloc: Global,
+    line: &mut DataLine,
     name: &str,
     number: u64,
     new: (Word, bool),
@@ -28,10 +27,11 @@ fn put_numbered(
     let (word, tag) = new;
     line.open()?;
     line.count(name, number)?;
-    put_cell(line, alloc, word, tag)?;
+    put_cell(line, word, tag)?;
     line.close()
 }
 
+#[inline(always)]
 fn is_same(old: (Word, bool), new: (Word, bool)) -> bool
     ensures { result ≡ changes.is_same old new }
 {
@@ -39,9 +39,9 @@ fn is_same(old: (Word, bool), new: (Word, bool)) -> bool
 }
 
 /// The same where the cell changed, and nothing where it didn't.
+#[inline(always)]
 pub fn put_change(
-    line: &mut Line,
-    alloc: Global,
+    line: &mut DataLine,
     name: &str,
     number: u64,
     old: (Word, bool),
@@ -52,13 +52,12 @@ pub fn put_change(
     if is_same(old, new) {
         return Ok(());
     }
-    put_numbered(line, alloc, name, number, new)
+    put_numbered(line, name, number, new)
 }
 
 /// The registers that changed: `old` has all 32 as they were.
 pub fn put_registers(
-    line: &mut Line,
-    alloc: Global,
+    line: &mut DataLine,
     old: &[(Word, bool)],
     new: &Registers,
 ) -> Result<(), AllocError>
@@ -67,14 +66,7 @@ pub fn put_registers(
 {
     for k in 0..REGISTERS - 1 {
         let r = k + 1;
-        put_change(
-            line,
-            alloc,
-            "r",
-            u64::from(r),
-            old[usize::from(r)],
-            new.get(r),
-        )?;
+        put_change(line, "r", u64::from(r), old[usize::from(r)], new.get(r))?;
     }
     Ok(())
 }

@@ -6,15 +6,14 @@ ghost use Rattle.state_text.specs.Line.{LineState, added};
 ghost use Rattle.tag_memory.specs.Cells.{cell_of};
 
 use crate::changes::put_change;
-use crate::line::Line;
+use crate::data_line::DataLine;
 use cap_codec::Word;
-use std::alloc::{AllocError, Global};
+use std::alloc::AllocError;
 use tag_memory::{Memory, WORD_GRANULES, bit};
 
 /// Granule `i` where it changed: before it had these bytes, and this tag.
 pub fn put_granule(
-    line: &mut Line,
-    alloc: Global,
+    line: &mut DataLine,
     memory: &Memory,
     i: usize,
     bits: u128,
@@ -27,7 +26,6 @@ pub fn put_granule(
     let (now, is_tagged) = memory.cell(i);
     put_change(
         line,
-        alloc,
         "i",
         i as u64,
         (Word { bits }, tag),
@@ -36,26 +34,19 @@ pub fn put_granule(
 }
 
 // Granule `i` where its tag changed.
-fn put_tag(
-    line: &mut Line,
-    alloc: Global,
-    memory: &Memory,
-    tags: &[u64],
-    i: usize,
-) -> Result<(), AllocError>
+fn put_tag(line: &mut DataLine, memory: &Memory, tags: &[u64], i: usize) -> Result<(), AllocError>
     requires inside { i < length memory.now.cells }
     requires tags { 64 * length tags.now ≡ length memory.now.cells }
     ensures { OnOk result (line.new ≡ added line.old (tag_change tags.now memory.now.cells i)) }
 {
     let (bits, _) = memory.cell(i);
     let tag = bit(tags[i / WORD_GRANULES], i % WORD_GRANULES);
-    put_granule(line, alloc, memory, i, bits, tag)
+    put_granule(line, memory, i, bits, tag)
 }
 
 // The granules of word `w` of the tags whose tags changed, where those before are told.
 fn put_tags_of_word(
-    line: &mut Line,
-    alloc: Global,
+    line: &mut DataLine,
     memory: &Memory,
     tags: &[u64],
     w: usize,
@@ -70,23 +61,18 @@ fn put_tags_of_word(
         return Ok(());
     }
     for j in 0..WORD_GRANULES {
-        put_tag(line, alloc, memory, tags, WORD_GRANULES * w + j)?;
+        put_tag(line, memory, tags, WORD_GRANULES * w + j)?;
     }
     Ok(())
 }
 
 /// The granules whose tags changed: before they had those of these words. Their bytes are as before.
-pub fn put_tags(
-    line: &mut Line,
-    alloc: Global,
-    memory: &Memory,
-    tags: &[u64],
-) -> Result<(), AllocError>
+pub fn put_tags(line: &mut DataLine, memory: &Memory, tags: &[u64]) -> Result<(), AllocError>
     requires { 64 * length tags.now ≡ length memory.now.cells }
     ensures { OnOk result (line.new ≡ added line.old (below (tag_change tags.now memory.now.cells) (length memory.now.cells))) }
 {
     for w in 0..memory.granules() / WORD_GRANULES {
-        put_tags_of_word(line, alloc, memory, tags, w)?;
+        put_tags_of_word(line, memory, tags, w)?;
     }
     Ok(())
 }

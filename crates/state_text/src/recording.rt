@@ -1,6 +1,6 @@
 //! Runs of whole traces, as data.
 
-ghost use Rattle.std.specs.Prelude.{◌≡◌, ◌≢◌, Err, ◌<◌, ◌*◌, ◌++◌, ℕ, All, IfOk, IfSome, List, OnOk, length, slice_index_or};
+ghost use Rattle.std.specs.Prelude.{◌≡◌, ◌≢◌, Err, ◌<◌, ◌*◌, [], ◌++◌, ℕ, All, IfOk, IfSome, List, OnOk, length, slice_index_or};
 ghost use Rattle.tag_memory.specs.Cells.{null_cell};
 ghost use Rattle.heap_machine.specs.Safety.{IsSafe};
 ghost use Rattle.heap_machine.specs.State.{tags_of};
@@ -13,7 +13,7 @@ ghost use Rattle.trace_text.specs.Reading.{script_of, trace_of};
 ghost use Rattle.trace_text.specs.declared.fault.TraceFault.{TraceFault as TheTraceFault};
 
 use crate::cells::put_address;
-use crate::line::Line;
+use crate::data_line::DataLine;
 use crate::seen::{Before, Seen, read_before};
 use crate::telling::put_command;
 use heap_machine::Machine;
@@ -24,100 +24,111 @@ use std::thread::Threads;
 use sweep_pool::{Cutting, Open};
 use trace_text::{Command, Trace, TraceFault, parse};
 
-// The line's JSON after the text, and a line feed.
-fn ended(line: Line) -> Result<Vec<u8>, AllocError>
-    ensures { IfOk result (λ text. text.items ≡ line.before ++ line_text line.tokens) }
-{
-    let mut text = line.finish();
-    match text.push(b'\n') {
-        Ok(()) => Ok(text),
-        Err(_) => Err(AllocError),
-    }
+// The lines so far, and room for one more. The room is used again for each line: a writer fills some of it ahead, which would
+// be much after a long text.
+#[derive(Drop)]
+struct Lines {
+    text: Vec<u8>,
+    room: Vec<u8>,
 }
 
-// The text with the line of a command.
+// The data with the line's JSON and a line feed after it.
+fn with_line(text: Vec<u8>, line: DataLine) -> Result<Lines, AllocError>
+    requires { line.before ≡ [] }
+    ensures { IfOk result (λ lines. lines.text.items ≡ text.items ++ line_text line.tokens) }
+{
+    let mut text = text;
+    let mut room = line.finish();
+    let Ok(()) = room.push(b'\n') else {
+        return Err(AllocError);
+    };
+    text.extend_from_slice(&room)?;
+    Ok(Lines { text, room })
+}
+
+// The data with the line of a command.
 fn told(
-    alloc: Global,
-    text: Vec<u8>,
+    so_far: Lines,
     seen: &Seen,
     before: Before,
     machine: &Machine,
     of: (u32, Command, Reply),
-) -> Result<Vec<u8>, AllocError>
+) -> Result<Lines, AllocError>
     requires zero { slice_index_or seen.now.registers 0 null_cell ≡ null_cell }
     requires tags { 64 * length seen.now.tags.items ≡ length machine.now.state.cells }
     requires inside { IfSome before.granule (λ at. at.0 < length machine.now.state.cells) }
     requires order { HasOrder of.2 }
-    ensures { IfOk result (λ told. told.items ≡ text.items ++ line_text (told_tokens of.0 of.1 of.2 seen.now before machine.now.state.registers machine.now.state.cells)) }
+    ensures { IfOk result (λ told. told.text.items ≡ so_far.text.items ++ line_text (told_tokens of.0 of.1 of.2 seen.now before machine.now.state.registers machine.now.state.cells)) }
 {
-    let mut line = Line::after(text);
-    put_command(&mut line, alloc, seen, before, machine, of)?;
-    ended(line)
+    let Lines { text, room } = so_far;
+    let mut line = DataLine::within(room);
+    put_command(&mut line, seen, before, machine, of)?;
+    with_line(text, line)
 }
 
-// Does a command, and adds its line to the text; `None` where memory runs out.
+// Does a command, and adds its line to the data; `None` where memory runs out.
 fn tell_step<R: Threads + Sync>(
     rt: &R,
     alloc: Global,
     machine: &mut Machine,
     seen: &mut Seen,
-    text: Vec<u8>,
+    so_far: Lines,
     number: u32,
     command: Command,
-) -> Option<Vec<u8>>
+) -> Option<Lines>
     requires valid { IsValid command }
     requires safe { IsSafe machine.old.state }
     requires seen { IsSeen seen.old machine.old.state }
-    ensures { IfSome result (λ told. Records machine.old.state number command machine.new.state seen.new text.items told.items) }
+    ensures { IfSome result (λ told. Records machine.old.state number command machine.new.state seen.new so_far.text.items told.text.items) }
 {
     machine.registers().whole();
     let before = read_before(machine, command);
     let Ok(reply) = machine.step(rt, alloc, command, &Open) else {
         return None;
     };
-    let Ok(text) = told(alloc, text, seen, before, machine, (number, command, reply)) else {
+    let Ok(so_far) = told(so_far, seen, before, machine, (number, command, reply)) else {
         return None;
     };
     let Ok(()) = seen.follow(machine, before, reply) else {
         return None;
     };
-    Some(text)
+    Some(so_far)
 }
 
-// Does these commands, and adds their lines to the text; `None` where memory runs out.
+// Does these commands, and adds their lines to the data; `None` where memory runs out.
 fn tell_commands<R: Threads + Sync>(
     rt: &R,
     alloc: Global,
     machine: &mut Machine,
     seen: Seen,
-    text: Vec<u8>,
+    so_far: Lines,
     commands: &[(u32, Command)],
-) -> Option<Vec<u8>>
+) -> Option<Lines>
     requires valid { All IsListed commands.now }
     requires safe { IsSafe machine.old.state }
     requires seen { IsSeen seen machine.old.state }
-    ensures { IfSome result (λ told. (lines : List ℕ) × Tells machine.old.state commands.now lines machine.new.state × (told.items ≡ text.items ++ lines)) }
+    ensures { IfSome result (λ told. (lines : List ℕ) × Tells machine.old.state commands.now lines machine.new.state × (told.text.items ≡ so_far.text.items ++ lines)) }
 {
     let mut seen = seen;
-    let mut text = text;
+    let mut so_far = so_far;
     for (line, command) in commands {
-        text = tell_step(rt, alloc, machine, &mut seen, text, *line, *command)?;
+        so_far = tell_step(rt, alloc, machine, &mut seen, so_far, *line, *command)?;
     }
-    Some(text)
+    Some(so_far)
 }
 
-// The text with the line of the heap.
-fn tell_heap(alloc: Global, text: Vec<u8>, base: u64, pages: u32) -> Result<Vec<u8>, AllocError>
-    ensures { IfOk result (λ told. told.items ≡ text.items ++ line_text (heap_tokens base pages)) }
+// The line of the heap, as the first of the data.
+fn tell_heap(alloc: Global, base: u64, pages: u32) -> Result<Lines, AllocError>
+    ensures { IfOk result (λ told. told.text.items ≡ line_text (heap_tokens base pages)) }
 {
-    let mut line = Line::after(text);
+    let mut line = DataLine::within(Vec::new(alloc));
     line.open()?;
     line.open_object("heap")?;
-    put_address(&mut line, alloc, "base", u128::from(base))?;
+    put_address(&mut line, "base", u128::from(base))?;
     line.count("pages", u64::from(pages))?;
     line.close()?;
     line.close()?;
-    ended(line)
+    with_line(Vec::new(alloc), line)
 }
 
 // How many granules and registers are tagged.
@@ -129,7 +140,7 @@ fn tagged(machine: &Machine) -> u64
     (machine.memory().tagged() + machine.registers().tagged()) as u64
 }
 
-fn put_end(line: &mut Line, machine: &Machine) -> Result<(), AllocError>
+fn put_end(line: &mut DataLine, machine: &Machine) -> Result<(), AllocError>
     ensures { OnOk result (line.new ≡ added line.old (end_numbers machine.now.state)) }
 {
     line.count("live", machine.live_bytes())?;
@@ -138,17 +149,24 @@ fn put_end(line: &mut Line, machine: &Machine) -> Result<(), AllocError>
     line.count("tags", tagged(machine))
 }
 
-// The text with the line of the end.
-fn tell_end(text: Vec<u8>, machine: &Machine) -> Result<Vec<u8>, AllocError>
-    ensures { IfOk result (λ told. told.items ≡ text.items ++ line_text (end_tokens machine.now.state)) }
+fn put_end_line(line: &mut DataLine, machine: &Machine) -> Result<(), AllocError>
+    ensures { OnOk result (line.new ≡ added line.old (end_tokens machine.now.state)) }
 {
-    let mut line = Line::after(text);
     line.open()?;
     line.open_object("end")?;
-    put_end(&mut line, machine)?;
+    put_end(line, machine)?;
     line.close()?;
-    line.close()?;
-    ended(line)
+    line.close()
+}
+
+// The data with the line of the end.
+fn tell_end(so_far: Lines, machine: &Machine) -> Result<Lines, AllocError>
+    ensures { IfOk result (λ told. told.text.items ≡ so_far.text.items ++ line_text (end_tokens machine.now.state)) }
+{
+    let Lines { text, room } = so_far;
+    let mut line = DataLine::within(room);
+    put_end_line(&mut line, machine)?;
+    with_line(text, line)
 }
 
 // Runs a trace, and answers its data; `None` where memory runs out.
@@ -168,14 +186,14 @@ fn tell_trace<R: Threads + Sync>(
     let Ok(seen) = Seen::first(alloc, &machine) else {
         return None;
     };
-    let Ok(text) = tell_heap(alloc, Vec::new(alloc), trace.base, trace.pages) else {
+    let Ok(so_far) = tell_heap(alloc, trace.base, trace.pages) else {
         return None;
     };
-    let text = tell_commands(rt, alloc, &mut machine, seen, text, &trace.commands)?;
-    let Ok(text) = tell_end(text, &machine) else {
+    let so_far = tell_commands(rt, alloc, &mut machine, seen, so_far, &trace.commands)?;
+    let Ok(so_far) = tell_end(so_far, &machine) else {
         return None;
     };
-    Some(text)
+    Some(so_far.text)
 }
 
 /// Runs a trace from its text to its states as data: a line of JSON for the heap, one for each command with what it changed,

@@ -2,6 +2,7 @@
 
 ghost use Rattle.std.specs.Prelude.{◌≡◌};
 ghost use Rattle.state_text.specs.States as states;
+ghost use Rattle.state_text.specs.Told as seen;
 
 use heap_reply::Reply;
 
@@ -36,6 +37,25 @@ pub fn tells_registers(reply: Reply) -> bool
         | Reply::Done
         | Reply::Cleared
         | Reply::Begun { .. }
+        | Reply::Shown(_)
+        | Reply::Trap(_) => false,
+    }
+}
+
+/// And of one that took a tag.
+pub fn takes_tags(reply: Reply) -> bool
+    ensures { result ≡ seen.takes_tags reply }
+{
+    match reply {
+        Reply::BlockAfter { cleared, .. } => cleared != 0,
+        Reply::NoSpaceAfter { cleared } => cleared != 0,
+        Reply::Swept { cleared, .. } => cleared != 0,
+        Reply::Begun { cleared } => cleared != 0,
+        Reply::Block { .. }
+        | Reply::NoSpace
+        | Reply::Held(_)
+        | Reply::Done
+        | Reply::Cleared
         | Reply::Shown(_)
         | Reply::Trap(_) => false,
     }

@@ -5,13 +5,13 @@ ghost use Rattle.cap_codec.specs.Words.{address_in};
 ghost use Rattle.heap_machine.specs.State.{register};
 ghost use Rattle.state_text.specs.Spans.{spans_of};
 ghost use Rattle.heap_core.specs.Blocks.{IsBefore, blocks_with};
-ghost use Rattle.state_text.specs.States as states;
+ghost use Rattle.state_text.specs.Told as told;
 ghost use Rattle.state_text.specs.Told.{Follows, IsSeen, before_of, due_seen, given_up, granule_before, is_stale, open_after, painted_after, waiting_after, written};
 ghost use Rattle.tag_memory.specs.Tags.{is_set_for, is_tagged};
 ghost use Rattle.trace_text.specs.Command.{IsValid};
 
-use crate::blocks::Block;
-use crate::replies::tells_pass;
+use crate::blocks::HeldBlock;
+use crate::replies::takes_tags;
 use cap_codec::{Word, bounds, fields};
 use heap_machine::Machine;
 use heap_reply::Reply;
@@ -26,8 +26,8 @@ pub struct Seen {
     pub registers: [(Word, bool); 32],
     /// Bit `j` of word `w` is that of granule `64 * w + j`.
     pub tags: Vec<u64>,
-    pub waiting: Vec<Block>,
-    pub painted: Vec<Block>,
+    pub waiting: Vec<HeldBlock>,
+    pub painted: Vec<HeldBlock>,
     pub is_open: bool,
 }
 
@@ -41,7 +41,7 @@ pub struct Before {
 
 impl Seen {
     /// The blocks that are due.
-    pub fn due(&self) -> &[Block]
+    pub fn due(&self) -> &[HeldBlock]
         ensures { spans_of result.now ≡ due_seen self.now }
     {
         if self.is_open {
@@ -112,7 +112,7 @@ pub fn read_before(machine: &Machine, command: Command) -> Before
 
 // Where a block that starts there has its place among these, which are in the order of their starts. Most blocks are given
 // up in that order too, so the last ones are looked at first.
-fn place_of(blocks: &[Block], start: u64) -> usize
+fn place_of(blocks: &[HeldBlock], start: u64) -> usize
     requires { AllPairs IsBefore (spans_of blocks.now) }
     ensures within { result ≤ length blocks.now }
     ensures place { (length : ℕ) → insert (spans_of blocks.now) result (start, length) ≡ blocks_with (start, length) (spans_of blocks.now) }
@@ -161,7 +161,7 @@ impl Seen {
         ensures tags { self.new.tags ≡ self.old.tags }
     {
         let at = place_of(&self.waiting, start);
-        let block = Block {
+        let block = HeldBlock {
             base: start,
             length,
         };
@@ -229,6 +229,20 @@ impl Seen {
 }
 
 impl Seen {
+    // The registers as they are now.
+    fn follow_registers(&mut self, registers: &Registers)
+        ensures registers { self.new.registers ≡ registers.now }
+        ensures tags { self.new.tags ≡ self.old.tags }
+        ensures waiting { self.new.waiting ≡ self.old.waiting }
+        ensures painted { self.new.painted ≡ self.old.painted }
+        ensures is_open { self.new.is_open ≡ self.old.is_open }
+    {
+        registers.whole();
+        for r in 0..REGISTERS {
+            self.registers[usize::from(r)] = registers.get(r);
+        }
+    }
+
     // The tags after a command that may have written this granule, and was answered so: all but those that may be stale are
     // right already.
     fn follow_tags(&mut self, memory: &Memory, granule: Option<(usize, (u128, bool))>, reply: Reply)
@@ -261,17 +275,17 @@ impl Seen {
         self.tags[w] = memory.tag_word(w);
     }
 
-    // All of them after a pass.
+    // All of them after a pass that took some.
     fn follow_pass(&mut self, memory: &Memory, reply: Reply)
         requires count { 64 * length self.old.tags.items ≡ length memory.now.cells }
         ensures count { 64 * length self.new.tags.items ≡ length memory.now.cells }
-        ensures bits { states.tells_pass reply ≡ true → (k : ℕ) → k < length memory.now.cells → is_set_for self.new.tags.items k ≡ is_tagged memory.now.cells k }
-        ensures none { states.tells_pass reply ≡ false → self.new.tags ≡ self.old.tags }
+        ensures bits { told.takes_tags reply ≡ true → (k : ℕ) → k < length memory.now.cells → is_set_for self.new.tags.items k ≡ is_tagged memory.now.cells k }
+        ensures none { told.takes_tags reply ≡ false → self.new.tags ≡ self.old.tags }
         ensures waiting { self.new.waiting ≡ self.old.waiting }
         ensures painted { self.new.painted ≡ self.old.painted }
         ensures is_open { self.new.is_open ≡ self.old.is_open }
     {
-        if !tells_pass(reply) {
+        if !takes_tags(reply) {
             return;
         }
         for w in 0..self.tags.len() {
@@ -315,7 +329,7 @@ impl Seen {
     {
         self.follow_blocks(reply, before.base)?;
         self.follow_tags(machine.memory(), before.granule, reply);
-        self.registers = copied_registers(machine.registers());
+        self.follow_registers(machine.registers());
         Ok(())
     }
 }

@@ -1,33 +1,89 @@
 //! Commands as a trace could have them.
 
-ghost use Rattle.std.specs.Prelude.{◌≡◌, IfOk, string_bytes};
+ghost use Rattle.std.specs.Prelude.{◌≡◌, ◌≤◌, ◌+◌, ◌++◌, [], length};
 ghost use Rattle.state_text.specs.Text.{command_text};
 
-use std::alloc::{AllocError, Global};
+use crate::short_text::ShortText;
 use trace_text::Command;
 
-/// The text of a command.
-pub fn spelled(alloc: Global, command: Command) -> Result<String, AllocError>
-    ensures { IfOk result (λ text. string_bytes text ≡ command_text command) }
+// Puts a command before what stands.
+fn put_spelled(text: &mut ShortText, command: Command)
+    requires room { 200 + length text.old ≤ 256 }
+    ensures text { text.new ≡ command_text command ++ text.old }
 {
     match command {
-        Command::Malloc { rd, size } => format!(in alloc; "malloc c{rd} {size}"),
-        Command::Free { rs } => format!(in alloc; "free c{rs}"),
-        Command::Copy { rd, rs } => format!(in alloc; "copy c{rd} c{rs}"),
+        Command::Malloc { rd, size } => {
+            text.put_decimal(size);
+            text.put(" ");
+            text.put_decimal(u64::from(rd));
+            text.put("malloc c");
+        }
+        Command::Free { rs } => {
+            text.put_decimal(u64::from(rs));
+            text.put("free c");
+        }
+        Command::Copy { rd, rs } => {
+            text.put_decimal(u64::from(rs));
+            text.put(" c");
+            text.put_decimal(u64::from(rd));
+            text.put("copy c");
+        }
         Command::SetAddr { rd, rs, address } => {
-            format!(in alloc; "setaddr c{rd} c{rs} 0x{address:x}")
+            text.put_hexadecimal(address);
+            text.put(" ");
+            text.put_decimal(u64::from(rs));
+            text.put(" c");
+            text.put_decimal(u64::from(rd));
+            text.put("setaddr c");
         }
-        Command::Narrow { rd, rs, length } => format!(in alloc; "narrow c{rd} c{rs} {length}"),
-        Command::AndPerm { rd, rs, mask } => format!(in alloc; "andperm c{rd} c{rs} 0x{mask:x}"),
-        Command::StoreCap { ra, rs } => format!(in alloc; "storecap c{ra} c{rs}"),
-        Command::LoadCap { rd, ra } => format!(in alloc; "loadcap c{rd} c{ra}"),
+        Command::Narrow { rd, rs, length } => {
+            text.put_decimal(length);
+            text.put(" ");
+            text.put_decimal(u64::from(rs));
+            text.put(" c");
+            text.put_decimal(u64::from(rd));
+            text.put("narrow c");
+        }
+        Command::AndPerm { rd, rs, mask } => {
+            text.put_hexadecimal(u64::from(mask));
+            text.put(" ");
+            text.put_decimal(u64::from(rs));
+            text.put(" c");
+            text.put_decimal(u64::from(rd));
+            text.put("andperm c");
+        }
+        Command::StoreCap { ra, rs } => {
+            text.put_decimal(u64::from(rs));
+            text.put(" c");
+            text.put_decimal(u64::from(ra));
+            text.put("storecap c");
+        }
+        Command::LoadCap { rd, ra } => {
+            text.put_decimal(u64::from(ra));
+            text.put(" c");
+            text.put_decimal(u64::from(rd));
+            text.put("loadcap c");
+        }
         Command::Write { ra, bytes } => {
-            let digits = hex::encode(alloc, bytes)?;
-            format!(in alloc; "write c{ra} {digits}")
+            text.put_bytes(bytes);
+            text.put(" ");
+            text.put_decimal(u64::from(ra));
+            text.put("write c");
         }
-        Command::Show { rs } => format!(in alloc; "show c{rs}"),
-        Command::Sweep => format!(in alloc; "sweep"),
-        Command::Begin => format!(in alloc; "begin"),
-        Command::End => format!(in alloc; "end"),
+        Command::Show { rs } => {
+            text.put_decimal(u64::from(rs));
+            text.put("show c");
+        }
+        Command::Sweep => text.put("sweep"),
+        Command::Begin => text.put("begin"),
+        Command::End => text.put("end"),
     }
+}
+
+/// Makes the text of a command.
+pub fn spell(text: &mut ShortText, command: Command)
+    requires { text.old ≡ [] }
+    ensures { text.new ≡ command_text command }
+{
+    put_spelled(text, command);
 }

@@ -1,20 +1,21 @@
 //! The tags that a pass took.
 
-ghost use Rattle.std.specs.Prelude.{◌≡◌, ◌&&◌, ◌<◌, ◌≤◌, ◌+◌, ◌*◌, ◌^◌, ℕ, Bool, OnOk, codes, length, slice_index_or};
+ghost use Rattle.std.specs.Prelude.{◌≡◌, [], ◌&&◌, ◌<◌, ◌≤◌, ◌+◌, ◌*◌, ◌^◌, ℕ, Bool, OnOk, codes, length, slice_index_or};
 ghost use Rattle.state_text.specs.Changes.{below};
 ghost use Rattle.state_text.specs.Line.{LineState, added, list_tokens};
 ghost use Rattle.state_text.specs.Spans.{spans_of};
 ghost use Rattle.state_text.specs.Taken.{is_register_taken, is_tag_gone, number_if, register_numbers, taken_tokens};
+ghost use Rattle.state_text.specs.Told.{none_taken};
 ghost use Rattle.sweep_pool.specs.Sweep.{takes_tag};
 ghost use Rattle.tag_memory.specs.Cells.{null_cell, register_count};
 
-use crate::blocks::{Block, lies_in};
-use crate::line::Line;
+use crate::blocks::{HeldBlock, lies_in};
+use crate::data_line::DataLine;
 use cap_codec::{Word, bounds};
 use std::alloc::AllocError;
 use tag_memory::{Memory, REGISTERS, WORD_GRANULES, bit};
 
-fn put_if(line: &mut Line, passes: bool, number: u64) -> Result<(), AllocError>
+fn put_if(line: &mut DataLine, passes: bool, number: u64) -> Result<(), AllocError>
     ensures { (test : ℕ → Bool) → passes ≡ test number → OnOk result (line.new ≡ added line.old (number_if test number)) }
 {
     if passes {
@@ -24,7 +25,7 @@ fn put_if(line: &mut Line, passes: bool, number: u64) -> Result<(), AllocError>
 }
 
 // Whether a pass takes the tag of a cell while these blocks are due.
-fn is_taken(due: &[Block], cell: (Word, bool)) -> bool
+fn is_taken(due: &[HeldBlock], cell: (Word, bool)) -> bool
     ensures { result ≡ takes_tag (spans_of due.now) cell }
 {
     cell.1 && lies_in(due, bounds(cell.0).base)
@@ -33,9 +34,9 @@ fn is_taken(due: &[Block], cell: (Word, bool)) -> bool
 // The registers whose tags a pass took while these blocks were due, where it looked at registers: `registers` has all 32
 // as they were.
 fn put_taken_registers(
-    line: &mut Line,
+    line: &mut DataLine,
     looked: bool,
-    due: &[Block],
+    due: &[HeldBlock],
     registers: &[(Word, bool)],
 ) -> Result<(), AllocError>
     requires count { length registers.now ≡ register_count }
@@ -51,7 +52,7 @@ fn put_taken_registers(
 
 // The granules of word `w` of the tags whose tags are gone, where those before are told.
 fn put_gone_of_word(
-    line: &mut Line,
+    line: &mut DataLine,
     memory: &Memory,
     tags: &[u64],
     w: usize,
@@ -74,7 +75,7 @@ fn put_gone_of_word(
 }
 
 // The granules that had a tag by these words, and have none now.
-fn put_taken_granules(line: &mut Line, memory: &Memory, tags: &[u64]) -> Result<(), AllocError>
+fn put_taken_granules(line: &mut DataLine, memory: &Memory, tags: &[u64]) -> Result<(), AllocError>
     requires { 64 * length tags.now ≡ length memory.now.cells }
     ensures { OnOk result (line.new ≡ added line.old (below (number_if (is_tag_gone tags.now memory.now.cells)) (length memory.now.cells))) }
 {
@@ -85,9 +86,9 @@ fn put_taken_granules(line: &mut Line, memory: &Memory, tags: &[u64]) -> Result<
 }
 
 fn put_register_list(
-    line: &mut Line,
+    line: &mut DataLine,
     looked: bool,
-    due: &[Block],
+    due: &[HeldBlock],
     registers: &[(Word, bool)],
 ) -> Result<(), AllocError>
     requires count { length registers.now ≡ register_count }
@@ -100,7 +101,7 @@ fn put_register_list(
     line.close_list()
 }
 
-fn put_granule_list(line: &mut Line, memory: &Memory, tags: &[u64]) -> Result<(), AllocError>
+fn put_granule_list(line: &mut DataLine, memory: &Memory, tags: &[u64]) -> Result<(), AllocError>
     requires { 64 * length tags.now ≡ length memory.now.cells }
     ensures { OnOk result (line.new ≡ added line.old (list_tokens (codes "granules")
         (below (number_if (is_tag_gone tags.now memory.now.cells)) (length memory.now.cells)))) }
@@ -113,9 +114,9 @@ fn put_granule_list(line: &mut Line, memory: &Memory, tags: &[u64]) -> Result<()
 /// The tags that a pass took while these blocks were due. Before it the registers were these, and granules were tagged as
 /// these words say; `looked` says whether it looked at registers.
 pub fn put_taken(
-    line: &mut Line,
+    line: &mut DataLine,
     looked: bool,
-    due: &[Block],
+    due: &[HeldBlock],
     registers: &[(Word, bool)],
     memory: &Memory,
     tags: &[u64],
@@ -129,5 +130,22 @@ pub fn put_taken(
     line.open_object("taken")?;
     put_register_list(line, looked, due, registers)?;
     put_granule_list(line, memory, tags)?;
+    line.close()
+}
+
+fn put_empty_list(line: &mut DataLine, name: &str) -> Result<(), AllocError>
+    ensures { OnOk result (line.new ≡ added line.old (list_tokens name.now [])) }
+{
+    line.open_list(name)?;
+    line.close_list()
+}
+
+/// That a pass took no tag.
+pub fn put_none_taken(line: &mut DataLine) -> Result<(), AllocError>
+    ensures { OnOk result (line.new ≡ added line.old none_taken) }
+{
+    line.open_object("taken")?;
+    put_empty_list(line, "registers")?;
+    put_empty_list(line, "granules")?;
     line.close()
 }

@@ -11,8 +11,8 @@ loop-line-preserved g c =
     let items = c.args.commands.now in
     let i = c.loop-line.line-index in
     let none : ℕ × Command = (0, Malloc 0 0) in
-    let P : List (ℕ × Command) → Type 0 = λ told. Recorded c.args.machine.now.state told c.tell_step.new.machine.state c.tell_step.new.seen c.args.text.items c.in_ok-text.text.items in
+    let P : List (ℕ × Command) → Type 0 = λ told. Recorded c.args.machine.now.state told c.tell_step.new.machine.state c.tell_step.new.seen c.args.so_far.text.items c.in_ok-so_far.so_far.text.items in
     subst P (sym (take_more items i none c.loop-line-test.true)) (
-    Recorded-push c.args.machine.now.state (take i items) c.loop-line.machine.state c.tell_step.new.machine.state c.loop-line.seen c.tell_step.new.seen c.args.text.items c.loop-line.text.items c.in_ok-text.text.items
-    (get_or items i none) c.loop-line.invariant c.in_ok-text.ensures
+    Recorded-push c.args.machine.now.state (take i items) c.loop-line.machine.state c.tell_step.new.machine.state c.loop-line.seen c.tell_step.new.seen c.args.so_far.text.items c.loop-line.so_far.text.items c.in_ok-so_far.so_far.text.items
+    (get_or items i none) c.loop-line.invariant c.in_ok-so_far.ensures
     )

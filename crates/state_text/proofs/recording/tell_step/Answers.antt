@@ -9,5 +9,5 @@ follow-requires-clause-count g c = count-after c.args.machine.now.state c.args.c
 
 pub returns : goal.returns
 returns g c =
-    records c.args.machine.now.state c.args.number c.args.command c.in-Ok.reply c.step.new.self.state c.args.seen.now c.follow.new.self c.read_before-before.result c.args.text.items c.in-Ok-told.text.items
+    records c.args.machine.now.state c.args.number c.args.command c.in-Ok.reply c.step.new.self.state c.args.seen.now c.follow.new.self c.read_before-before.result c.args.so_far.text.items c.in-Ok-told.so_far.text.items
     c.requires.seen c.requires.safe c.in-Ok.ensures.safe c.in-Ok.ensures.step c.read_before-before.ensures c.in-Ok-follow.ensures c.in-Ok-told.ensures

@@ -4,14 +4,14 @@ use Rattle.std.proofs.lemmas.Bool.{cases_eq}
 use Rattle.std.proofs.lemmas.List.{length-map}
 use Rattle.heap_core.specs.Blocks.{Span, start_of}
 use Rattle.state_text.specs.Spans.{span_of, spans_of}
-use Rattle.state_text.specs.declared.blocks.Block.{Block}
+use Rattle.state_text.specs.declared.blocks.HeldBlock.{HeldBlock}
 use Rattle.state_text.proofs.ListedBlocks.{insert_place}
 use Rattle.state_text.proofs.seen.place_of.Goals as goal
 
 pub returns-then-blocks-i-clause-place : goal.returns-then-blocks-i-clause-place
 returns-then-blocks-i-clause-place c long =
     let blocks = c.args.blocks.now in
-    let none : Block = record { base = 0; length = 0 } in
+    let none : HeldBlock = record { base = 0; length = 0 } in
     let i = length blocks - c.loop-passed.passed in
     let last : start_of (get_or (spans_of c.args.blocks.now) (length c.args.blocks.now - c.loop-passed.passed - 1) (span_of none)) ≤ c.args.start =
     subst (λ (b : Span). start_of b ≤ c.args.start) (sym (get_or-map span_of blocks (i - 1) none)) c.if-blocks-i.true in
@@ -29,7 +29,7 @@ returns-then-blocks-i-clause-place c long =
 pub returns-clause-place : goal.returns-clause-place
 returns-clause-place c long =
     let blocks = c.args.blocks.now in
-    let none : Block = record { base = 0; length = 0 } in
+    let none : HeldBlock = record { base = 0; length = 0 } in
     insert_place (c.args.start, long) (spans_of blocks) 0 (span_of none) (λ k lt. absurd (omega (arith, lt)))
     (λ lt. subst (λ (b : Span). c.args.start < start_of b) (sym (get_or-map span_of blocks 0 none)) (c.loop-passed.invariant 0 (omega (arith, c.loop-passed-test.false)) (omega (arith, lt, length-map blocks span_of))))
     (omega arith)

@@ -9,13 +9,13 @@ use json::Writer;
 use std::alloc::AllocError;
 use std::marker::Model;
 
-/// A line of data, after what a text holds.
+/// A line of data.
 #[derive(Drop)]
-pub struct Line {
+pub struct DataLine {
     writer: Writer,
 }
 
-impl Model for Line {
+impl Model for DataLine {
     ghost use Rattle.state_text.specs.Line.{LineState};
 
     ghost Value = { LineState };
@@ -23,17 +23,19 @@ impl Model for Line {
     ghost view = { λ line. record { before = line.writer.before; tokens = line.writer.tokens } };
 }
 
-impl Line {
-    /// An empty line after this text.
-    pub fn after(text: Vec<u8>) -> Line
-        ensures { result ≡ record { before = text.items; tokens = [] } }
+impl DataLine {
+    /// An empty line, in the room of what this holds.
+    pub fn within(room: Vec<u8>) -> DataLine
+        ensures { result ≡ record { before = []; tokens = [] } }
     {
-        Line {
-            writer: Writer::new(text),
+        let mut room = room;
+        room.clear();
+        DataLine {
+            writer: Writer::new(room),
         }
     }
 
-    /// The text with the line's JSON after it.
+    /// The line's JSON, after the text before it.
     pub fn finish(self) -> Vec<u8>
         ensures { result.items ≡ self.before ++ print self.tokens }
     {
