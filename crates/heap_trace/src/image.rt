@@ -3,10 +3,10 @@
 ghost use Rattle.std.specs.Prelude.{◌≡◌, ◌++◌, IfErr, IfOk, OnOk};
 ghost use Rattle.heap_trace.specs.Image.{granule_text, image_line, image_of};
 
-use crate::line::Line;
 use cap_codec::{Word, to_bytes};
 use heap_machine::{MachineFault, bit};
 use std::alloc::{AllocError, Global};
+use reply_text::ShortText;
 use tag_memory::{GRANULE, Memory};
 
 /// A line for each granule that is tagged or not all zero: its address, its tag and its bytes.
@@ -48,12 +48,12 @@ fn push_granule(text: &mut Vec<u8>, address: u64, granule: (u128, bool)) -> Resu
 fn push_line(text: &mut Vec<u8>, address: u64, bits: u128, tag: bool) -> Result<(), AllocError>
     ensures { OnOk result (text.new.items ≡ text.old.items ++ image_line address (bits, tag)) }
 {
-    let mut line = Line::new();
-    line.put_text(b"\n");
+    let mut line = ShortText::new();
+    line.put("\n");
     line.put_bytes(to_bytes(Word { bits }));
-    line.put_text(b" ");
+    line.put(" ");
     line.put_decimal(u64::from(bit(tag)));
-    line.put_text(b" ");
+    line.put(" ");
     line.put_hexadecimal(address);
-    text.extend_from_slice(line.text())
+    text.extend_from_slice(line.as_bytes())
 }

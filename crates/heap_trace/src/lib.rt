@@ -1,14 +1,10 @@
 //! Traces of a heap: the runs of their commands, the report, and the image.
 #![tactic(auto)]
 
-mod digits;
 mod image;
 mod laws;
-mod line;
 mod report;
 mod running;
-#[cfg(test)]
-mod tests;
 
 pub use crate::image::image_text;
 pub use crate::laws::runs;

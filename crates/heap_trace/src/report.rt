@@ -1,11 +1,11 @@
 //! The text of a report.
 
-ghost use Rattle.std.specs.Prelude.{◌≡◌, ◌≤◌, ◌+◌, ◌++◌, [], IfOk, OnErr, OnOk, length};
+ghost use Rattle.std.specs.Prelude.{◌≡◌, ◌≤◌, ◌++◌, [], IfOk, OnErr, OnOk, length};
 ghost use Rattle.heap_machine.specs.State.{tags_of};
-ghost use Rattle.heap_trace.specs.Report.{answer_text, block_text, end_text, line_text, name_of, shown_text};
+ghost use Rattle.heap_trace.specs.Report.{end_text, line_text, name_of};
 
-use crate::line::Line;
-use heap_machine::{Machine, Reply, Shown, bit};
+use heap_machine::{Machine, Reply};
+use reply_text::{ShortText, put_reply};
 use std::alloc::{AllocError, Global};
 use std::marker::Model;
 use trace_text::Command;
@@ -31,92 +31,17 @@ fn name(command: Command) -> &'static str
     }
 }
 
-// Puts what is shown of a register before what stands in the line.
-#[inline(always)]
-fn put_shown(line: &mut Line, shown: Shown)
-    requires room { 200 + length line.old ≤ 256 }
-    ensures text { line.new ≡ shown_text shown ++ line.old }
-    ensures length { length line.new ≤ 200 + length line.old }
-{
-    line.put_decimal(u64::from(shown.exponent));
-    line.put_text(b" exponent ");
-    line.put_hexadecimal(u64::from(shown.otype));
-    line.put_text(b" type ");
-    line.put_hexadecimal(u64::from(shown.perms));
-    line.put_text(b" perms ");
-    line.put_place(shown.address, shown.base, shown.top);
-    line.put_text(b" ");
-    line.put_decimal(u64::from(bit(shown.tag)));
-    line.put_text(b"tag ");
-}
-
-// Puts a block's bounds before what stands in the line.
-#[inline(always)]
-fn put_block(line: &mut Line, base: u64, top: u128)
-    requires room { 60 + length line.old ≤ 256 }
-    ensures text { line.new ≡ block_text base top ++ line.old }
-    ensures length { length line.new ≤ 60 + length line.old }
-{
-    line.put_wide_hexadecimal(top);
-    line.put_text(b" ");
-    line.put_hexadecimal(base);
-    line.put_text(b"block ");
-}
-
-// The same of an answer.
-#[inline(always)]
-fn put_reply(line: &mut Line, reply: Reply)
-    requires room { 200 + length line.old ≤ 256 }
-    ensures text { line.new ≡ answer_text reply ++ line.old }
-    ensures length { length line.new ≤ 200 + length line.old }
-{
-    match reply {
-        Reply::Block { base, top } => put_block(line, base, top),
-        Reply::BlockAfter { base, top, cleared } => {
-            line.put_decimal(u64::from(cleared));
-            line.put_text(b" swept ");
-            put_block(line, base, top);
-        }
-        Reply::NoSpace => line.put_text(b"nospace"),
-        Reply::NoSpaceAfter { cleared } => {
-            line.put_decimal(u64::from(cleared));
-            line.put_text(b"nospace swept ");
-        }
-        Reply::Held(bytes) => {
-            line.put_decimal(bytes);
-            line.put_text(b"held ");
-        }
-        Reply::Done => line.put_text(b"ok"),
-        Reply::Cleared => line.put_text(b"cleared"),
-        Reply::Swept { cleared, released } => {
-            line.put_decimal(released);
-            line.put_text(b" released ");
-            line.put_decimal(u64::from(cleared));
-            line.put_text(b"cleared ");
-        }
-        Reply::Begun { cleared } => {
-            line.put_decimal(u64::from(cleared));
-            line.put_text(b"cleared ");
-        }
-        Reply::Shown(shown) => put_shown(line, shown),
-        Reply::Trap(trap) => {
-            line.put_text(trap.name().as_bytes());
-            line.put_text(b"trap ");
-        }
-    }
-}
-
 // Makes the line of a command and its answer.
 #[inline(always)]
-fn put_line(line: &mut Line, number: u32, command: Command, reply: Reply)
+fn put_line(line: &mut ShortText, number: u32, command: Command, reply: Reply)
     requires { line.old ≡ [] }
     ensures { line.new ≡ line_text number command reply }
 {
-    line.put_text(b"\n");
+    line.put("\n");
     put_reply(line, reply);
-    line.put_text(b" ");
-    line.put_text(name(command).as_bytes());
-    line.put_text(b" ");
+    line.put(" ");
+    line.put(name(command));
+    line.put(" ");
     line.put_decimal(u64::from(number));
 }
 
@@ -125,7 +50,7 @@ fn put_line(line: &mut Line, number: u32, command: Command, reply: Reply)
 #[derive(Drop)]
 pub struct Report {
     text: Vec<u8>,
-    last: Line,
+    last: ShortText,
 }
 
 impl Model for Report {
@@ -143,7 +68,7 @@ impl Report {
     {
         Report {
             text: Vec::new(alloc),
-            last: Line::new(),
+            last: ShortText::new(),
         }
     }
 
@@ -152,7 +77,7 @@ impl Report {
         ensures ok { OnOk result (self.new ≡ self.old ++ line_text number command reply) }
         ensures err { OnErr result (self.new ≡ self.old) }
     {
-        self.text.extend_from_slice(self.last.text())?;
+        self.text.extend_from_slice(self.last.as_bytes())?;
         self.last.clear();
         put_line(&mut self.last, number, command, reply);
         Ok(())
@@ -169,7 +94,7 @@ impl Report {
         let free = machine.free_bytes();
         let tags = tagged(machine);
         let end = format!(in alloc; "end live {live} held {held} free {free} tags {tags}\n")?;
-        text.extend_from_slice(last.text())?;
+        text.extend_from_slice(last.as_bytes())?;
         text.extend_from_slice(end.as_bytes())?;
         Ok(text)
     }

@@ -2,7 +2,6 @@ pub mod Blocks
 pub mod Cells
 pub mod Changes
 pub mod Line
-pub mod ShortText
 pub mod Spans
 pub mod States
 pub mod Taken

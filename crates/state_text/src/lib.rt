@@ -1,17 +1,14 @@
 //! A run of a trace as data: JSON, one value a line.
 #![tactic(auto)]
 
-mod answers;
 mod blocks;
 mod cells;
 mod changes;
 mod data_line;
-mod digits;
 mod granules;
 mod recording;
 mod replies;
 mod seen;
-mod short_text;
 mod spelling;
 mod taken;
 mod telling;

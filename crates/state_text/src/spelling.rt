@@ -3,7 +3,7 @@
 ghost use Rattle.std.specs.Prelude.{◌≡◌, ◌≤◌, ◌+◌, ◌++◌, [], length};
 ghost use Rattle.state_text.specs.Text.{command_text};
 
-use crate::short_text::ShortText;
+use reply_text::ShortText;
 use trace_text::Command;
 
 // Puts a command before what stands.

@@ -13,14 +13,13 @@ ghost use Rattle.state_text.specs.States.{head_tokens};
 ghost use Rattle.state_text.specs.Told.{HasOrder, blocks_told, granules_told, pass_told, told_tokens};
 ghost use Rattle.tag_memory.specs.Cells.{null_cell};
 
-use crate::answers::answer;
 use crate::blocks::{HeldBlock, put_block, put_blocks, put_span};
 use crate::changes::put_registers;
 use crate::data_line::DataLine;
 use crate::granules::{put_granule, put_tags};
 use crate::replies::{takes_tags, tells_pass, tells_registers};
 use crate::seen::{Before, Seen};
-use crate::short_text::ShortText;
+use reply_text::{ShortText, put_reply};
 use crate::spelling::spell;
 use crate::taken::{put_none_taken, put_taken};
 use heap_machine::Machine;
@@ -41,7 +40,7 @@ fn put_answer(line: &mut DataLine, reply: Reply) -> Result<(), AllocError>
     ensures { OnOk result (line.new ≡ added line.old (key (codes "reply") ∷ string (answer_text reply) ∷ [])) }
 {
     let mut text = ShortText::new();
-    answer(&mut text, reply);
+    put_reply(&mut text, reply);
     line.text("reply", text.as_str())
 }
 

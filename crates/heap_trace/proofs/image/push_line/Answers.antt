@@ -4,18 +4,18 @@ use Rattle.heap_trace.proofs.image.push_line.Goals as goal
 
 pub returns : goal.returns
 returns c =
-    let line : c.text.result.now ≡ image_line c.args.address (c.args.bits, c.args.tag) =
+    let line : c.as_bytes.result.now ≡ image_line c.args.address (c.args.bits, c.args.tag) =
     rw (
-      c.text.ensures,
+      c.as_bytes.ensures,
       c.put_hexadecimal.ensures.text,
-      c.put_text-3.ensures.text,
+      c.put-3.ensures.text,
       c.put_decimal.ensures.text,
       c.from.ensures,
       c.bit.ensures,
-      c.put_text-2.ensures.text,
+      c.put-2.ensures.text,
       c.put_bytes.ensures.text,
       c.to_bytes.ensures.value,
-      c.put_text.ensures.text,
+      c.put.ensures.text,
       c.new-line.ensures,
     )
     refl in

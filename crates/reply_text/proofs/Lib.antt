@@ -1,0 +1,3 @@
+mod DigitLaws
+mod JoinedPieces
+mod ShortTextLaws

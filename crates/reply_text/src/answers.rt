@@ -1,0 +1,82 @@
+//! The texts of replies.
+
+ghost use Rattle.std.specs.Prelude.{◌≡◌, ◌≤◌, ◌+◌, ◌++◌, length};
+ghost use Rattle.heap_reply.specs.Answer.{answer_text, block_text, shown_text};
+
+use crate::short_text::ShortText;
+use heap_reply::{Reply, Shown, bit};
+
+// Puts what is shown of a register before what stands.
+#[inline(always)]
+fn put_shown(text: &mut ShortText, shown: Shown)
+    requires room { 200 + length text.old ≤ 256 }
+    ensures text { text.new ≡ shown_text shown ++ text.old }
+    ensures length { length text.new ≤ 200 + length text.old }
+{
+    text.put_decimal(u64::from(shown.exponent));
+    text.put(" exponent ");
+    text.put_hexadecimal(u64::from(shown.otype));
+    text.put(" type ");
+    text.put_hexadecimal(u64::from(shown.perms));
+    text.put(" perms ");
+    text.put_place(shown.address, shown.base, shown.top);
+    text.put(" ");
+    text.put_decimal(u64::from(bit(shown.tag)));
+    text.put("tag ");
+}
+
+// Puts a block's bounds before what stands.
+#[inline(always)]
+fn put_bounds(text: &mut ShortText, base: u64, top: u128)
+    requires room { 60 + length text.old ≤ 256 }
+    ensures text { text.new ≡ block_text base top ++ text.old }
+    ensures length { length text.new ≤ 60 + length text.old }
+{
+    text.put_wide_hexadecimal(top);
+    text.put(" ");
+    text.put_hexadecimal(base);
+    text.put("block ");
+}
+
+/// Puts the text of a reply before what stands, 200 bytes at most.
+#[inline(always)]
+pub fn put_reply(text: &mut ShortText, reply: Reply)
+    requires room { 200 + length text.old ≤ 256 }
+    ensures text { text.new ≡ answer_text reply ++ text.old }
+    ensures length { length text.new ≤ 200 + length text.old }
+{
+    match reply {
+        Reply::Block { base, top } => put_bounds(text, base, top),
+        Reply::BlockAfter { base, top, cleared } => {
+            text.put_decimal(u64::from(cleared));
+            text.put(" swept ");
+            put_bounds(text, base, top);
+        }
+        Reply::NoSpace => text.put("nospace"),
+        Reply::NoSpaceAfter { cleared } => {
+            text.put_decimal(u64::from(cleared));
+            text.put("nospace swept ");
+        }
+        Reply::Held(bytes) => {
+            text.put_decimal(bytes);
+            text.put("held ");
+        }
+        Reply::Done => text.put("ok"),
+        Reply::Cleared => text.put("cleared"),
+        Reply::Swept { cleared, released } => {
+            text.put_decimal(released);
+            text.put(" released ");
+            text.put_decimal(u64::from(cleared));
+            text.put("cleared ");
+        }
+        Reply::Begun { cleared } => {
+            text.put_decimal(u64::from(cleared));
+            text.put("cleared ");
+        }
+        Reply::Shown(shown) => put_shown(text, shown),
+        Reply::Trap(trap) => {
+            text.put(trap.name());
+            text.put("trap ");
+        }
+    }
+}
