@@ -15,7 +15,8 @@ function remakeMap() {
   map.chips = shape('g');
   for (const name of LAYERS) map.layers[name] = shape('g', { class: name });
   map.body = shape('g', {}, ...Object.values(map.layers));
-  map.box = shape('svg', { width: L.full, class: L.width < SMALL ? 'small' : null, 'aria-hidden': 'true' }, patterns(), map.body, map.chips);
+  const small = L.width < SMALL ? 'small' : null;
+  map.box = shape('svg', { width: L.full, class: small, 'aria-hidden': 'true' }, patterns(), map.body, map.chips);
   map.cursor = shape('rect', { class: 'cursor', width: L.width - 1, height: L.height - 1 });
   map.layers.cursors.append(map.cursor);
   drawGrid(L);

@@ -282,7 +282,7 @@ class Tests:
             check(f"{name}: that is no page", made.returncode in (2, 3) and made.stdout != b"", True)
         for name, text, commands, pages in (("20,001 commands", b"heap 0 1\n" + b"sweep\n" * 20001, 20001, 1), ("65 pages", b"heap 0 65\nsweep\n", 1, 65)):
             made = self.make(self.root, text)
-            told = f"heap_page: a page shows at most 20000 commands and 64 pages, and this trace has {commands} commands and {pages} pages\n"
+            told = f"heap_page: a trace for a page has at most 20000 commands and 64 pages, and this one has {commands} and {pages}\n"
             check(f"{name}: told with the limit", (made.returncode, made.stdout, made.stderr.decode()), (5, b"", told))
         check("20,000 commands and 64 pages have a page", self.make(self.root, b"heap 0 64\n" + b"sweep\n" * 20000).returncode, 0)
         with open("/dev/full", "wb") as full:
