@@ -9,4 +9,6 @@ mod replies;
 #[cfg(test)]
 mod runs;
 #[cfg(test)]
+mod short_texts;
+#[cfg(test)]
 mod texts;

@@ -1,18 +1,18 @@
-//! Lines, piece by piece.
+//! Short texts, piece by piece.
 
-use crate::line::Line;
+use reply_text::ShortText;
 
 #[test]
 fn each_piece_stands_before_the_earlier_ones(rt: HostRuntime) {
-    let mut line = Line::new();
-    assert!(rt; line.text().is_empty());
-    line.put_text(b"\n");
-    line.put_decimal(u64::MAX);
-    line.put_text(b" ");
-    line.put_decimal(0);
-    line.put_text(b"");
-    line.put_text(b"from ");
-    assert_eq!(rt; line.text(), "from 0 18446744073709551615\n".as_bytes());
+    let mut text = ShortText::new();
+    assert!(rt; text.as_bytes().is_empty());
+    text.put("\n");
+    text.put_decimal(u64::MAX);
+    text.put(" ");
+    text.put_decimal(0);
+    text.put("");
+    text.put("from ");
+    assert_eq!(rt; text.as_bytes(), "from 0 18446744073709551615\n".as_bytes());
 }
 
 // Numbers with their texts.
@@ -28,24 +28,24 @@ const NUMBERS: [(u128, &str); 7] = [
 
 #[test]
 fn hexadecimal_has_no_leading_zeros(rt: HostRuntime) {
-    for (number, text) in NUMBERS {
-        let mut line = Line::new();
-        line.put_wide_hexadecimal(number);
-        assert_eq!(rt; line.text(), text.as_bytes());
+    for (number, shown) in NUMBERS {
+        let mut text = ShortText::new();
+        text.put_wide_hexadecimal(number);
+        assert_eq!(rt; text.as_bytes(), shown.as_bytes());
         if number <= u128::from(u64::MAX) {
-            let mut line = Line::new();
-            line.put_hexadecimal(number as u64);
-            assert_eq!(rt; line.text(), text.as_bytes());
+            let mut text = ShortText::new();
+            text.put_hexadecimal(number as u64);
+            assert_eq!(rt; text.as_bytes(), shown.as_bytes());
         }
     }
 }
 
 #[test]
 fn bytes_are_two_digits_each(rt: HostRuntime) {
-    let mut line = Line::new();
-    line.put_bytes([
+    let mut text = ShortText::new();
+    text.put_bytes([
         0, 1, 2, 3, 4, 5, 6, 7, 8, 9, 10, 0x7f, 0x80, 0xab, 0xf0, 0xff,
     ]);
-    let text = "000102030405060708090a7f80abf0ff";
-    assert_eq!(rt; line.text(), text.as_bytes());
+    let shown = "000102030405060708090a7f80abf0ff";
+    assert_eq!(rt; text.as_bytes(), shown.as_bytes());
 }
