@@ -5,8 +5,8 @@ ghost use Rattle.heap_trace.specs.Image.{granule_text, image_line, image_of};
 
 use cap_codec::{Word, to_bytes};
 use heap_machine::{MachineFault, bit};
-use std::alloc::{AllocError, Global};
 use reply_text::ShortText;
+use std::alloc::{AllocError, Global};
 use tag_memory::{GRANULE, Memory};
 
 /// A line for each granule that is tagged or not all zero: its address, its tag and its bytes.
