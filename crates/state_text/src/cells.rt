@@ -9,9 +9,9 @@ ghost use Rattle.state_text.specs.Cells.{cell_tokens, place_tokens, rights_token
 ghost use Rattle.state_text.specs.Line.{added};
 
 use crate::data_line::DataLine;
-use reply_text::ShortText;
 use cap_codec::{Word, to_bytes};
 use heap_reply::Shown;
+use reply_text::ShortText;
 use std::alloc::AllocError;
 
 /// An address, as a member of this name.
