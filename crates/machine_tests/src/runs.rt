@@ -40,7 +40,11 @@ const REPORTS: [(&str, &str); 4] = [
 ];
 
 // What a run of the text answers, for any cutting.
-pub fn answer<R: Threads + Sync>(rt: &R, alloc: Global, text: &str) -> Result<Outcome, RunFault> {
+pub(crate) fn answer<R: Threads + Sync>(
+    rt: &R,
+    alloc: Global,
+    text: &str,
+) -> Result<Outcome, RunFault> {
     let cutting = Cutting::new(1, 16).map_err(|_| RunFault::Memory)?;
     run(rt, alloc, text.as_bytes(), cutting)
 }

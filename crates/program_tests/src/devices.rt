@@ -12,7 +12,7 @@ pub struct Broken {
 }
 
 impl Broken {
-    pub fn new() -> Broken
+    pub(crate) fn new() -> Broken
         ensures { ⟦<Broken as Source>⟧.failed result ≡ false }
     {
         Broken { has_failed: false }
@@ -106,7 +106,7 @@ pub struct Fixed {
 }
 
 impl Fixed {
-    pub fn new() -> Fixed
+    pub(crate) fn new() -> Fixed
         ensures { ⟦<Fixed as Sink>⟧.failed result ≡ false }
     {
         Fixed {
@@ -117,7 +117,7 @@ impl Fixed {
     }
 
     /// What was written so far.
-    pub fn text(&self) -> &[u8] {
+    pub(crate) fn text(&self) -> &[u8] {
         &self.bytes[..self.len]
     }
 }

@@ -70,12 +70,12 @@ fn held_heap(alloc: Global) -> Result<Heap, HeapFault> {
     Ok(heap)
 }
 
-pub fn held_shadow(alloc: Global) -> Result<Shadow, HeapFault> {
+pub(crate) fn held_shadow(alloc: Global) -> Result<Shadow, HeapFault> {
     held_heap(alloc)?.shadow(alloc)
 }
 
 // A word with these bounds, counted from the heap's base, and this address.
-pub fn word(from: u64, to: u64, address: u64) -> Word
+pub(crate) fn word(from: u64, to: u64, address: u64) -> Word
     requires order { from ≤ to }
     requires limit { to ≤ 4096 }
     requires small { address ≤ 4096 }
