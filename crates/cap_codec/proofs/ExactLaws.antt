@@ -13,11 +13,12 @@ use Rattle.cap_codec.specs.Mantissas.{exponent_of}
 use Rattle.cap_codec.specs.Rounding.{IsDecoded, IsExact, with_bounds_of}
 use Rattle.cap_codec.proofs.BoundsLaws.{IsTopAt-corrected}
 use Rattle.cap_codec.proofs.CountedBounds.{IsTopAt}
-use Rattle.cap_codec.proofs.EncodeLaws.{IsValid-with_bounds_of, bounds_of-with_bounds_of, with_bounds_of-long, with_bounds_of-short}
-use Rattle.cap_codec.proofs.FieldLaws.{IsInRange, IsValid-fields_of, bits_with-lt, fields_of-bits_with}
+use Rattle.cap_codec.proofs.EncodeLaws.{IsValid-with_bounds_of, bounds_of-with_bounds_of}
+use Rattle.cap_codec.proofs.FieldLaws.{IsValid-fields_of, bits_with-lt, fields_of-bits_with}
 use Rattle.cap_codec.proofs.LengthLaws.{outward-aligned, outward-short}
 use Rattle.cap_codec.proofs.UnitLaws.{AreUnits-of}
 use Rattle.cap_codec.proofs.WindowSizes.{exponent_of-le}
+use Rattle.cap_codec.proofs.WordLaws.{IsInRange-bounded}
 
 -- ---- bounds that a word decodes to are exact
 
@@ -120,20 +121,13 @@ IsExact-decoded f base top v order room h =
 
 -- ---- some word decodes to exact bounds
 
-IsInRange-with_bounds_of : (f : Fields) (base top : ℕ) → f.perms < 2 ^ 16 → base < 2 ^ 64 → IsInRange (with_bounds_of f base top)
-IsInRange-with_bounds_of f base top perms small =
-    ⊎_elim
-    (λ short. rw (with_bounds_of-short f base top short) (record { perms = perms; address = small }))
-    (λ long. rw (with_bounds_of-long f base top _ refl long) (record { perms = perms; address = small }))
-    (cases_lt (top - base) (2 ^ 12))
-
 IsDecoded-exact : (base top : ℕ) → base < 2 ^ 64 → base ≤ top → top ≤ 2 ^ 64 → IsExact base top → IsDecoded base top
 IsDecoded-exact base top small order room exact =
     let f : Fields = record { perms = 0; reserved = 0; flag = false; otype = 0; internal = false; top12 = 0; base14 = 0; address = 0 } in
     let g = with_bounds_of f base top in
     let f_valid : IsValid f = record { reserved = omega arith; otype = omega arith; top12 = omega arith; base14 = omega arith } in
     let valid = IsValid-with_bounds_of f base top f_valid in
-    let range = IsInRange-with_bounds_of f base top (omega arith) small in
+    let range = IsInRange-bounded f base top (omega arith) small in
     let w : Word = record { bits = bits_with g } in
     let fields_are : fields_of w ≡ g = fields_of-bits_with g w valid range refl in
     record { word = w; fits = bits_with-lt g valid range; has = ap bounds_of fields_are ∙ (bounds_of-with_bounds_of f base top order room small ∙ exact) }

@@ -16,7 +16,7 @@ use Rattle.cap_codec.proofs.RepresentLaws.{is_representable-is}
 
 -- ---- bounds that are set
 
-IsInRange-bounded : (f : Fields) (base top : ℕ) → f.perms < 2 ^ 16 → base < 2 ^ 64 → IsInRange (with_bounds_of f base top)
+pub IsInRange-bounded : (f : Fields) (base top : ℕ) → f.perms < 2 ^ 16 → base < 2 ^ 64 → IsInRange (with_bounds_of f base top)
 unfolding with_bounds_of
 IsInRange-bounded f base top perms small = record { perms = search (arith, perms, small); address = search (arith, perms, small) }
 

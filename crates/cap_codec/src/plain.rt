@@ -8,12 +8,12 @@ ghost use Rattle.cap_codec.specs.Fields.{fields_of};
 ghost use Rattle.cap_codec.specs.Representable.{IsInWindow, IsRepresentable};
 ghost use Rattle.cap_codec.specs.Words.{bounds_in, keeps_bounds};
 
+mod metadata;
 mod rounding;
-mod words;
 
 use crate::mantissas::{base_mantissa_in, exponent_in, top_mantissa_in};
+pub use crate::plain::metadata::{fields, word_of};
 pub use crate::plain::rounding::{alignment_mask, representable_length, with_bounds};
-pub use crate::plain::words::{fields, word_of};
 use crate::word::{Bounds, Fields, Word};
 
 // Integers are counted from here on, so that a window below address 0 needs no signed number.

@@ -5,7 +5,7 @@ use Rattle.std.specs.Str.Parse.{signed_digits_value}
 use Rattle.clap.specs.Words.{Row, Text, first_of}
 use Rattle.command_line.specs.NumberLaws.{image_given}
 use Rattle.command_line.specs.declared.asked.Options.{Options}
-use Rattle.command_line.specs.Words.{AreWithinLimits, HasNumber, HasOptions, Names, NamesNothing, NamesRun, NamesStates, NamesWord, with_run}
+use Rattle.command_line.specs.Asked.{AreWithinLimits, HasNumber, HasOptions, Names, NamesNothing, NamesRun, NamesStates, NamesWord, with_run}
 
 -- The words name one subcommand, with one list of entries.
 pub Names-unique : (words : List Text) (m n : Text) (a b : List Row) → Names words m a → Names words n b → (m ≡ n) × (a ≡ b)

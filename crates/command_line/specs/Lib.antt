@@ -2,4 +2,4 @@ pub mod Laws
 pub mod Name
 pub mod NumberLaws
 pub mod ValueLaws
-pub mod Words
+pub mod Asked

@@ -16,7 +16,7 @@ use Rattle.clap.specs.Walk.{most_values, values_or_missing}
 use Rattle.clap.specs.Simple.{Shape, built, filled}
 use Rattle.clap.specs.Words.{Row, Rule, Text, fault_of, one_of, one_text, rows_of, subcommand_of, without_minus}
 use Rattle.clap.specs.declared.builder.value_parser.ValueParser.TheVariants.{Signed}
-use Rattle.command_line.specs.Words.{AreTaken, GivesNumber, HasNumber, cut_rule, image_rule, subcommand_named, tool_app, workers_rule}
+use Rattle.command_line.specs.Asked.{AreAccepted, GivesNumber, HasNumber, cut_rule, image_rule, subcommand_named, tool_app, workers_rule}
 use Rattle.command_line.specs.ValueLaws.{Contains, Each, IsGiven, IsOnly, IsOption, entered_at, given_at, no_text, some_value}
 
 -- ---- the entries
@@ -65,22 +65,22 @@ given rule words rows is each taken sub =
     let rules = level.holds level.named in
     subst (IsGiven rule) level.rows_are (given_at rule level.shape is rules.0 rules.1 level.words level.fault)
 
-pub GivesNumber-workers : (words : List Text) (rows : List Row) → AreTaken words → subcommand_named words ≡ Some (codes "run", rows) → GivesNumber (codes "workers") 1 64 rows
-unfolding AreTaken subcommand_named
+pub GivesNumber-workers : (words : List Text) (rows : List Row) → AreAccepted words → subcommand_named words ≡ Some (codes "run", rows) → GivesNumber (codes "workers") 1 64 rows
+unfolding AreAccepted subcommand_named
 GivesNumber-workers words rows taken sub =
     let entry = given (filled workers_rule) words rows is_workers has_workers taken sub in
     record { text = entry.text; entry = entry.entry; read = entry.read; within = accepts-Accepts false (Signed (pos 1) (pos 64)) entry.text entry.passes }
 
-pub GivesNumber-cut : (words : List Text) (rows : List Row) → AreTaken words → subcommand_named words ≡ Some (codes "run", rows) → GivesNumber (codes "cut") 1 256 rows
-unfolding AreTaken subcommand_named
+pub GivesNumber-cut : (words : List Text) (rows : List Row) → AreAccepted words → subcommand_named words ≡ Some (codes "run", rows) → GivesNumber (codes "cut") 1 256 rows
+unfolding AreAccepted subcommand_named
 GivesNumber-cut words rows taken sub =
     let entry = given (filled cut_rule) words rows is_cut has_cut taken sub in
     record { text = entry.text; entry = entry.entry; read = entry.read; within = accepts-Accepts false (Signed (pos 1) (pos 256)) entry.text entry.passes }
 
 -- The entry of the flag says `true` or `false`.
-pub image_given : (words : List Text) (rows : List Row) → AreTaken words → subcommand_named words ≡ Some (codes "run", rows)
+pub image_given : (words : List Text) (rows : List Row) → AreAccepted words → subcommand_named words ≡ Some (codes "run", rows)
     → (one_of (codes "image") rows ≡ Some (codes "true")) ⊎ (one_of (codes "image") rows ≡ Some (codes "false"))
-unfolding AreTaken subcommand_named
+unfolding AreAccepted subcommand_named
 image_given words rows taken sub =
     let entry = given (filled image_rule) words rows is_image has_image taken sub in
     go entry.text entry.read (bytes_eq entry.text (codes "true")) refl (bytes_eq entry.text (codes "false")) refl entry.passes

@@ -5,7 +5,7 @@ ghost use Rattle.clap.specs.Walk.{texts};
 ghost use Rattle.clap.specs.Words.{app_of, found_of, kind_of, rows_of, rule_of, subcommand_rows_of};
 ghost use Rattle.clap.specs.declared.builder.command.Command.TheViews.{out-Command as fields_of};
 ghost use Rattle.command_line.specs.declared.asked.Options.{Options as TheOptions};
-ghost use Rattle.command_line.specs.Words.{AreTaken, AsksFor, AsksOnlyFor, GivesNumber, HasOptions, NamesNothing, NamesStates, cut_rule, hex_rule, image_rule, run_app, subcommand_named, tool_app, with_run, word_app, workers_rule};
+ghost use Rattle.command_line.specs.Asked.{AreAccepted, AsksFor, AsksOnlyFor, GivesNumber, HasOptions, NamesNothing, NamesStates, cut_rule, hex_rule, image_rule, run_app, subcommand_named, tool_app, with_run, word_app, workers_rule};
 
 use clap::error::ErrorKind;
 use clap::{Arg, ArgAction, ArgMatches, Command, Error};
@@ -124,11 +124,11 @@ fn refusal_of(error: &Error) -> Refusal
 }
 
 fn parsed<'a>(alloc: Global, words: &'a [&'a str]) -> Result<ArgMatches<'a>, Error>
-    ensures taken { OnOk result (AreTaken (texts words.entry.now)) }
+    ensures taken { OnOk result (AreAccepted (texts words.entry.now)) }
     ensures matches { IfOk result (λ matches.
         subcommand_rows_of matches ≡ subcommand_named (texts words.entry.now)) }
     ensures err { IfErr result (λ error.
-        AreTaken (texts words.entry.now) → kind_of error ≡ ErrorKind.OutOfMemory) }
+        AreAccepted (texts words.entry.now) → kind_of error ≡ ErrorKind.OutOfMemory) }
 {
     let command = tool_command(alloc)?;
     command.try_get_matches_from(words)

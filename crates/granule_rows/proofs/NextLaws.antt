@@ -4,8 +4,9 @@ use Rattle.std.proofs.lemmas.Bool.{and_parts, cases_lt, le-leb, leb-true, lt-leb
 use Rattle.std.proofs.lemmas.Nat.{pow_pos}
 use Rattle.std.proofs.lemmas.Nat.Bits.{bit_at_mask_below, bit_at_mask_inside, ones_shl}
 use Rattle.std.proofs.Math.Nat.{mul-le-mul_right}
+use Rattle.std.proofs.Math.Bool.{and_comm}
 use Rattle.granule_rows.proofs.FindLaws.{node_summary}
-use Rattle.granule_rows.specs.Runs.{AreSet, IsFirst, bits_from}
+use Rattle.granule_rows.specs.Runs.{AreSet, IsFirst, test_from}
 use Rattle.granule_rows.specs.Summaries.{IsSummary}
 use Rattle.granule_rows.specs.Tree.{IsNode, IsTree, node}
 use Rattle.granule_rows.specs.declared.summary.Summary.{Summary}
@@ -104,9 +105,9 @@ pub from_and : (from k : ℕ) (b : Bool) → from ≤ k → (nat_le from k && b)
 from_and from k b le = rw (le-leb from k le) refl
 
 -- From `from` on they are the bits.
-pub IsSummary-from : {bits : ℕ → Bool} {s : Summary} (from first : ℕ) → from ≤ first → IsSummary bits first s → IsSummary (bits_from from bits) first s
+pub IsSummary-from : {bits : ℕ → Bool} {s : Summary} (from first : ℕ) → from ≤ first → IsSummary bits first s → IsSummary (test_from from bits) first s
 IsSummary-from {bits = bits} {s = s} from first le summary =
-    let at : (k : ℕ) (b : Bool) → first ≤ k → bits k ≡ b → bits_from from bits k ≡ b = λ k b k_le is. from_and from k (bits k) (omega arith) ∙ is in
+    let at : (k : ℕ) (b : Bool) → first ≤ k → bits k ≡ b → test_from from bits k ≡ b = λ k b k_le is. from_and from k (bits k) (omega arith) ∙ is in
     record {
       prefix_within = summary.prefix_within;
       prefix_set = λ k k_le lt. at k true k_le (summary.prefix_set k k_le lt);
@@ -123,10 +124,10 @@ IsSummary-from {bits = bits} {s = s} from first le summary =
     }
 
 -- Runs from there on are runs.
-pub AreSet-from : {bits : ℕ → Bool} (from q n : ℕ) → from ≤ q → AreSet bits q n → AreSet (bits_from from bits) q n
+pub AreSet-from : {bits : ℕ → Bool} (from q n : ℕ) → from ≤ q → AreSet bits q n → AreSet (test_from from bits) q n
 AreSet-from {bits = bits} from q n le run = record { each = λ k k_le lt. from_and from k (bits k) (omega arith) ∙ run.each k k_le lt }
 
-pub IsFirst-back : {bits : ℕ → Bool} (from base n p : ℕ) → 0 < n → base ≤ from → IsFirst (bits_from from bits) base n p → IsFirst bits from n p
+pub IsFirst-back : {bits : ℕ → Bool} (from base n p : ℕ) → 0 < n → base ≤ from → IsFirst (test_from from bits) base n p → IsFirst bits from n p
 IsFirst-back from base n p some le found = record {
   run = record { each = λ k k_le lt. (and_parts _ _ (found.run.each k k_le lt)).1 };
   after = leb-true from p (and_parts _ _ (found.run.each p (omega arith) (omega arith))).0;
@@ -142,12 +143,6 @@ is_set-high word low j low_lt lt = rw (ones_shl 64 low (omega arith)) (is_set-an
   | inr inside ↦ same_test _ 1 (bit_at_mask_inside low 64 j inside lt) ∙ sym (le-leb low j inside)
 ]))
 
-and_swap : (a b : Bool) → (a && b) ≡ (b && a)
-and_swap true true = refl
-and_swap true false = refl
-and_swap false true = refl
-and_swap false false = refl
-
 same_order : (from w j : ℕ) → from / 64 ≡ w → nat_le from (64 * w + j) ≡ nat_le (from % 64) j
 same_order from w j here = elim (cases_lt j (from % 64)) [
   | inl below ↦ lt-leb from (64 * w + j) (omega arith) ∙ sym (lt-leb (from % 64) j below)
@@ -155,10 +150,10 @@ same_order from w j here = elim (cases_lt j (from % 64)) [
 ]
 
 pub first_bits : (words : List ℕ) (from w j : ℕ) → from / 64 ≡ w → j < 64
-    → bits_from from (is_set_for words) (64 * w + j) ≡ is_set (bit_and (get_or words w 0) ((2 ^ 64 - 1) * 2 ^ (from % 64) % 2 ^ 64)) j
+    → test_from from (is_set_for words) (64 * w + j) ≡ is_set (bit_and (get_or words w 0) ((2 ^ 64 - 1) * 2 ^ (from % 64) % 2 ^ 64)) j
 first_bits words from w j here lt =
     (λ k. same_order from w j here k && is_set_for-at words w j lt k)
-    ∙ (and_swap (nat_le (from % 64) j) (is_set (get_or words w 0) j) ∙ sym (is_set-high (get_or words w 0) (from % 64) j (omega arith) lt))
+    ∙ (and_comm (nat_le (from % 64) j) (is_set (get_or words w 0) j) ∙ sym (is_set-high (get_or words w 0) (from % 64) j (omega arith) lt))
 
 -- The first run of a word, elsewhere.
 pub IsFirst-moved : {from to : ℕ → Bool} (a n p : ℕ) → ((j : ℕ) → j < 64 → to (a + j) ≡ from j) → 0 < n → p + n ≤ 64 → IsFirst from 0 n p → IsFirst to a n (a + p)

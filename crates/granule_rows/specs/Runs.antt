@@ -46,5 +46,5 @@ pub record HasRun (bits : ℕ → Bool) (n : ℕ) : Type 0 where
   pub run : AreSet bits at n
 
 -- These bits, but 0 for those before `from`.
-abbrev pub bits_from : ℕ → (ℕ → Bool) → ℕ → Bool
-bits_from from bits k = nat_le from k && bits k
+abbrev pub test_from : ℕ → (ℕ → Bool) → ℕ → Bool
+test_from from bits k = nat_le from k && bits k

@@ -7,8 +7,6 @@ mod find;
 mod ranges;
 mod row;
 mod summary;
-#[cfg(test)]
-mod tests;
 mod tree;
 mod word;
 

@@ -5,7 +5,7 @@ use Rattle.command_line.specs.declared.asked.Options.{Options}
 use Rattle.command_line.specs.declared.asked.Refusal.{Refusal}
 use Rattle.command_line.specs.declared.asked.Refusal.TheVariants.{Memory, Words}
 use Rattle.command_line.specs.Laws.{NamesWord-run, NamesWord-unique}
-use Rattle.command_line.specs.Words.{NamesNothing, NamesRun, NamesWord, Text}
+use Rattle.command_line.specs.Asked.{NamesNothing, NamesRun, NamesWord, Text}
 use Rattle.trace_text.specs.declared.fault.TraceFault.{TraceFault}
 use Rattle.heap_trace.specs.declared.running.Outcome.{Outcome}
 use Rattle.heap_trace.specs.Image.{image_of}
@@ -17,7 +17,7 @@ use Rattle.trace_program.specs.Answer.{line_of_fault, refusal_line, refusal_stat
 use Rattle.trace_program.specs.Device.{ReadsUpTo, most_read}
 use Rattle.heap_command.specs.Answer.{IsAnswer, IsRunAnswer, image_shown, lacks_memory, names_fault, refuses, reports, shows_run, shows_word}
 use Rattle.heap_command.specs.Text.{usage_line, word_line}
-use Rattle.heap_command.specs.Words.{AskForNothing, IsTextOf}
+use Rattle.heap_command.specs.Hex.{AskForNothing, IsTextOf}
 
 -- ---- words
 

@@ -2,7 +2,7 @@
 use Rattle.std.specs.Prelude.{◌≡◌, ℕ, List, [], ◌++◌, Option, Ok, Err, map, if◌then◌else◌}
 use Rattle.cap_codec.specs.declared.word.Word.{Word}
 use Rattle.command_line.specs.declared.asked.Options.{Options}
-use Rattle.command_line.specs.Words.{NamesRun, Text}
+use Rattle.command_line.specs.Asked.{NamesRun, Text}
 use Rattle.trace_text.specs.declared.fault.TraceFault.{TraceFault}
 use Rattle.heap_reply.specs.declared.reply.Reply.{Reply}
 use Rattle.heap_trace.specs.Reading.{Script, trace_of}
@@ -13,7 +13,7 @@ use Rattle.heap_trace.specs.State.{State, first_state}
 use Rattle.trace_program.specs.Answer.{line_of_fault, memory_line}
 use Rattle.trace_program.specs.Device.{ReadsUpTo, most_read}
 use Rattle.heap_command.specs.Text.{usage_line, word_line}
-use Rattle.heap_command.specs.Words.{AskForNothing, AsksForLineOf}
+use Rattle.heap_command.specs.Hex.{AskForNothing, AsksForLineOf}
 
 -- An image, where it is asked for.
 abbrev pub image_shown : Options → List ℕ → List ℕ

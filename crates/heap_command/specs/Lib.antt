@@ -1,3 +1,3 @@
 pub mod Answer
 pub mod Text
-pub mod Words
+pub mod Hex

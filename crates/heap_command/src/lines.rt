@@ -4,7 +4,7 @@ ghost use Rattle.std.specs.Prelude.{◌≡◌, IfOk, Some, string_bytes};
 ghost use Rattle.heap_command.specs.Text.{encoding_text, rights_text, word_line};
 
 use cap_codec::{Fields, Word, bounds, exponent, fields};
-use heap_trace::{Place, bit};
+use heap_trace::{Place, flag_number};
 use std::alloc::{AllocError, Global};
 use std::fmt;
 
@@ -18,7 +18,7 @@ impl fmt::Display for Rights {
     fn fmt<W: fmt::Write>(&self, f: &mut fmt::Formatter<W>) -> fmt::Result {
         let perms = self.0.perms;
         let reserved = self.0.reserved;
-        let flag = bit(self.0.flag);
+        let flag = flag_number(self.0.flag);
         let otype = self.0.otype;
         write!(
             f,
@@ -38,7 +38,7 @@ impl fmt::Display for Encoding {
     ghost output = { λ e. Some (encoding_text e.fields e.exponent) };
 
     fn fmt<W: fmt::Write>(&self, f: &mut fmt::Formatter<W>) -> fmt::Result {
-        let internal = bit(self.fields.internal);
+        let internal = flag_number(self.fields.internal);
         let exponent = self.exponent;
         let top12 = self.fields.top12;
         let base14 = self.fields.base14;

@@ -4,13 +4,13 @@ ghost use Rattle.std.specs.Prelude.{◌≡◌, ◌≢◌, ◌↔◌, ◌||◌, �
 ghost use Rattle.std.specs.Io.KnownBytes.{Appends};
 ghost use Rattle.cap_codec.specs.declared.word.Word.{Word};
 ghost use Rattle.command_line.specs.declared.asked.Options.{Options as TheOptions};
-ghost use Rattle.command_line.specs.Words.{AreWithinLimits, NamesRun, texts};
+ghost use Rattle.command_line.specs.Asked.{AreWithinLimits, NamesRun, texts};
 ghost use Rattle.heap_trace.specs.Image.{image_of};
 ghost use Rattle.trace_program.specs.Answer.{BeginsAnswer, HasAnswered, refusal_line, refusal_status};
 ghost use Rattle.trace_program.specs.Device.{AppendsBeginning, ReadsFew, most_read};
 ghost use Rattle.heap_command.specs.Answer.{IsAnswer, IsRunAnswer, image_shown};
 ghost use Rattle.heap_command.specs.Text.{usage_line, word_line};
-ghost use Rattle.heap_command.specs.Words.{IsTextOf};
+ghost use Rattle.heap_command.specs.Hex.{IsTextOf};
 
 use crate::lines::line_of;
 use cap_codec::from_bytes;

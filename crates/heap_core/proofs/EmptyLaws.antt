@@ -9,7 +9,7 @@ use Rattle.heap_core.specs.Table.{IsTable, blocks_of, is_held, is_live, is_taken
 use Rattle.heap_core.proofs.LateLaws.{AreLate-none, bits_of-none, either-none_left}
 use Rattle.heap_core.proofs.ShadowLaws.{length-bits_of}
 use Rattle.tag_memory.specs.Laws.{is_set_zero}
-use Rattle.tag_memory.specs.Span.{is_base, is_size}
+use Rattle.tag_memory.specs.Extent.{is_base, is_size}
 use Rattle.tag_memory.specs.Tags.{is_set, is_set_for}
 
 abbrev pub zeros : ℕ → List ℕ
@@ -43,10 +43,10 @@ IsTable-zeros base n pages count size place =
       apart = λ j k lt block. absurd (omega (arith, get_or-zeros n k));
     }
 
-get_or-none : (n k : ℕ) → get_or (replicate n false) k false ≡ false
-get_or-none zero k = refl
-get_or-none (suc n) zero = refl
-get_or-none (suc n) (suc k) = get_or-none n k
+pub get_or-falses : (n k : ℕ) → get_or (replicate n false) k false ≡ false
+get_or-falses zero k = refl
+get_or-falses (suc n) zero = refl
+get_or-falses (suc n) (suc k) = get_or-falses n k
 
 -- No bit of such a row is 1.
 pub is_set-zeros : (words k : ℕ) → is_set_for (zeros words) k ≡ false
@@ -56,7 +56,7 @@ pub bits_of-zeros : (words n : ℕ) → n ≡ 64 * words → bits_of (zeros word
 bits_of-zeros words n whole =
     let long : length (bits_of (zeros words)) ≡ n = length-bits_of (zeros words) ∙ ap (λ (w : ℕ). 64 * w) (length-replicate words zero) ∙ sym whole in
     ext_get_or false (bits_of (zeros words)) (replicate n false) (long ∙ sym (length-replicate n false))
-    (λ k lt. bits_of-none (zeros words) (is_set-zeros words) k ∙ sym (get_or-none n k))
+    (λ k lt. bits_of-none (zeros words) (is_set-zeros words) k ∙ sym (get_or-falses n k))
 
 pub heap_state-zeros : (base n pages : ℕ) → n ≡ 256 * pages
     → heap_state base (zeros n) (replicate n false) (replicate n false) false ≡ empty_heap base pages
@@ -65,4 +65,4 @@ heap_state-zeros base n pages count =
     rw (length-replicate n zero, size, either-none_left n (replicate n false) (length-replicate n false), blocks_of-zeros is_live base 0 n, blocks_of-zeros is_held base 0 n) refl
 
 pub AreLate-zeros : (n : ℕ) → AreLate (zeros n) (replicate n false) (replicate n false) false
-AreLate-zeros n = AreLate-none (zeros n) (replicate n false) (replicate n false) false (length-replicate n false ∙ sym (length-replicate n zero)) (get_or-none n)
+AreLate-zeros n = AreLate-none (zeros n) (replicate n false) (replicate n false) false (length-replicate n false ∙ sym (length-replicate n zero)) (get_or-falses n)

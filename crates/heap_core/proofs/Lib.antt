@@ -12,7 +12,7 @@ pub mod RunLaws
 pub mod ShadowLaws
 pub mod SizeLaws
 pub mod SoundLaws
-pub mod SpanLaws
+pub mod ExtentLaws
 pub mod StartLaws
 pub mod StateLaws
 pub mod StoredLaws

@@ -144,7 +144,7 @@ blocks-part base lengths marks first last from to same some a b order =
 within_parts : (from to k : ℕ) → is_within from to k ≡ true → (from ≤ k) × (k < to)
 within_parts from to k is = let both = and_parts (nat_le from k) (nat_lt k to) is in (leb-true from k both.0, ltb-true k to both.1)
 
-within_of : (from to k : ℕ) → from ≤ k → k < to → is_within from to k ≡ true
+pub within_of : (from to k : ℕ) → from ≤ k → k < to → is_within from to k ≡ true
 within_of from to k low high = grind (arith, nat_tests)
 
 -- An address lies in one of them exactly where its granule is between the starts, and in a held block.

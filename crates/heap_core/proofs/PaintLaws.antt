@@ -6,6 +6,7 @@ use Rattle.std.specs.Int.{bit_at}
 use Rattle.std.proofs.lemmas.Bool.{and_parts, cases_lt, eq-eqb, eqb-true, lt-ltb, ne_eqb, or_cases, or_parts, true≢false}
 use Rattle.std.proofs.lemmas.Bool.Decides.{nat_tests}
 use Rattle.std.proofs.lemmas.Nat.Bits.{bit_at-lt, bit_at_or}
+use Rattle.std.proofs.Math.Bool.{and_comm}
 use Rattle.granule_rows.specs.Runs.{is_within}
 use Rattle.heap_core.specs.Painting.{IsPainted}
 use Rattle.mark_board.specs.Bits.{bit, gains, has, without}
@@ -13,6 +14,7 @@ use Rattle.mark_board.specs.Board.{BoardState, IsOf, IsSeat, SeatState, word_cou
 use Rattle.mark_board.specs.Laws.{bit-gains_other, bit-gains_same, bit-without, gains-keep, length-gains}
 use Rattle.tag_memory.specs.Laws.{is_set-and, is_set_zero}
 use Rattle.tag_memory.specs.Tags.{is_set, is_set_for}
+use Rattle.heap_core.proofs.StoredLaws.{and_false}
 
 -- Nothing is painted.
 pub painted-none : (board : BoardState) (seat : SeatState) → IsOf board seat → IsPainted (λ k. false) board seat seat
@@ -92,16 +94,6 @@ painted-mark board old new w mask answer found of parts sound inside fits fits_f
 
 -- ---- words of a row
 
-and_swap : (a b : Bool) → (a && b) ≡ (b && a)
-and_swap true true = refl
-and_swap true false = refl
-and_swap false true = refl
-and_swap false false = refl
-
-nothing : (a b : Bool) → b ≡ false → (a && b) ≡ false
-nothing true b none = none
-nothing false b none = refl
-
 distribute : (a b c x : Bool) → c ≡ (a || b) → (c && x) ≡ ((a && x) || (b && x))
 distribute true true c true e = rw e refl
 distribute true true c false e = rw e refl
@@ -126,14 +118,14 @@ word_painted row w range from to bits k = dite (ℕ_discrete (k / 64) w)
     let at : 64 * w + k % 64 ≡ k = omega (arith, here) in
     let inside : is_set range (k % 64) ≡ is_within from to k = bits (k % 64) (omega arith) ∙ ap (is_within from to) at in
     let there : is_set_for row k ≡ is_set (get_or row w 0) (k % 64) = ap (λ (v : ℕ). is_set (get_or row v 0) (k % 64)) here in
-    ap (λ (b : Bool). (k / 64 == w) && b) (and_swap (is_within from to k) (is_set_for row k) ∙ (λ i. there i && sym inside i) ∙ sym (is_set-and (get_or row w 0) range (k % 64))))
+    ap (λ (b : Bool). (k / 64 == w) && b) (and_comm (is_within from to k) (is_set_for row k) ∙ (λ i. there i && sym inside i) ∙ sym (is_set-and (get_or row w 0) range (k % 64))))
     (λ other. rw (ne_eqb (k / 64) w other) refl)
 
 -- Where the mask is 0 there are none.
 pub word_none : (row : List ℕ) (w range from to : ℕ) → ((j : ℕ) → j < 64 → is_set range j ≡ (nat_le from (64 * w + j) && nat_lt (64 * w + j) to))
     → bit_and (get_or row w 0) range ≡ 0 → (k : ℕ) → ((k / 64 == w) && (is_within from to k && is_set_for row k)) ≡ false
 word_none row w range from to bits none k =
-    word_painted row w range from to bits k ∙ (ap (λ (mask : ℕ). (k / 64 == w) && is_set mask (k % 64)) none ∙ nothing (k / 64 == w) (is_set 0 (k % 64)) (is_set_zero (k % 64)))
+    word_painted row w range from to bits k ∙ (ap (λ (mask : ℕ). (k / 64 == w) && is_set mask (k % 64)) none ∙ and_false (k / 64 == w) (is_set 0 (k % 64)) (is_set_zero (k % 64)))
 
 -- One word more.
 pub word_more : (row : List ℕ) (w from to : ℕ) (k : ℕ)

@@ -11,7 +11,7 @@ use Rattle.heap_core.proofs.BlockLaws.{All-block, All-blocks_of}
 use Rattle.heap_core.proofs.LateLaws.{get_or-either, length-either, no_held}
 use Rattle.heap_core.proofs.RunLaws.{is_taken_by, run_is_apart}
 use Rattle.heap_core.proofs.SizeLaws.{HasShape, le-block_length}
-use Rattle.heap_core.proofs.SpanLaws.{LiesWithin-table}
+use Rattle.heap_core.proofs.ExtentLaws.{LiesWithin-table}
 
 -- Each block shares no address with a free run.
 All-IsApart : (keeps : Bool → Bool) (base : ℕ) (lengths : List ℕ) (marks : List Bool) (p n : ℕ) → IsGap lengths p n

@@ -13,6 +13,7 @@ use Rattle.heap_core.proofs.BlockLaws.{All-blocks_of, blocks_of-set}
 use Rattle.heap_core.proofs.KeptLaws.{any-block, any-no_block}
 use Rattle.heap_core.proofs.LateLaws.{get_or-either, length-either}
 use Rattle.heap_core.proofs.SumLaws.{bytes_in-blocks_with, bytes_of_both}
+use Rattle.heap_core.proofs.SoundLaws.{IsTable-marks}
 
 -- ---- which block has these bounds
 
@@ -134,15 +135,7 @@ held_blocks-held base lengths marks start top k same at live =
     (set-get_or lengths k 0) (more ∙ ap (λ (x : ℕ). blocks_with (start, x) (blocks_of is_held base 0 lengths marks)) bytes)
 
 pub IsTable-held : (base : ℕ) (lengths : List ℕ) (marks : List Bool) (k : ℕ) → IsTable base lengths marks → IsTable base lengths (set marks k true)
-IsTable-held base lengths marks k table = record {
-  same = length-set marks k true ∙ table.same;
-  pages = table.pages;
-  count = table.count;
-  size = table.size;
-  place = table.place;
-  inside = table.inside;
-  apart = table.apart;
-}
+IsTable-held base lengths marks k table = IsTable-marks base lengths marks (set marks k true) (length-set marks k true ∙ table.same) table
 
 -- The bytes of the block go from the live to the held ones.
 pub record HasMoved (base : ℕ) (lengths : List ℕ) (marks : List Bool) (k : ℕ) : Type 0 where

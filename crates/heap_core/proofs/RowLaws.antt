@@ -1,12 +1,12 @@
 -- Rows over the granules of a heap, written and given back.
 use Rattle.std.proofs.Common.{◌≡◌, ◌<◌, ◌≤◌, ◌+◌, ◌*◌, ◌/◌, ◌%◌, ◌^◌, ◌&&◌, ◌||◌, not, inl, inr, ℕ, Bool, true, false, List, length, get_or, ◌++◌, drop, take, refl, sym, ap, ◌∙◌, subst, arith}
-use Rattle.std.proofs.lemmas.Bool.{and_parts, both_ways, cases_Bool, cases_eq, cases_lt, or_cases}
+use Rattle.std.proofs.lemmas.Bool.{and_parts, both_ways, cases_Bool, cases_eq, cases_lt, or_cases, or_parts}
 use Rattle.std.proofs.Math.Bool.{and-true, or-false}
 use Rattle.std.proofs.lemmas.Bool.Decides.{nat_tests}
 use Rattle.granule_rows.specs.Laws.{whole_written}
 use Rattle.granule_rows.specs.Runs.{is_within}
 use Rattle.heap_core.proofs.EmptyLaws.{get_or-zeros, zeros}
-use Rattle.heap_core.specs.Rows.{AreGiven, AreRows, granules_of}
+use Rattle.heap_core.specs.Rows.{AreGiven, AreRows, row_granules}
 use Rattle.heap_core.specs.declared.rows.Rows.{Rows}
 use Rattle.tag_memory.specs.Laws.{is_set_zero}
 use Rattle.tag_memory.specs.Tags.{is_set, is_set_for}
@@ -47,18 +47,13 @@ inside_pages start end to pages page to_is le is =
       | inr past ↦ absurd (grind (arith, nat_tests, is, past))
     ]
 
-no_bit : (a b : Bool) → (a || b) ≡ false → (a ≡ false) × (b ≡ false)
-no_bit false false none = (refl, refl)
-no_bit true b none = absurd (both_ways true none refl)
-no_bit false true none = absurd (both_ways true none refl)
-
-pub AreRows-held : (r s : Rows) (start end to : ℕ) → AreRows r → to ≡ (end + 255) / 256 → end ≤ granules_of r → s.free ≡ r.free → s.starts ≡ r.starts
+pub AreRows-held : (r s : Rows) (start end to : ℕ) → AreRows r → to ≡ (end + 255) / 256 → end ≤ row_granules r → s.free ≡ r.free → s.starts ≡ r.starts
     → length s.held.items ≡ length r.held.items → length s.held_pages.items ≡ length r.held_pages.items
     → ((k : ℕ) → is_set_for s.held.items k ≡ (is_within start end k || is_set_for r.held.items k))
     → ((page : ℕ) → is_set_for s.held_pages.items page ≡ (is_within (start / 256) to page || is_set_for r.held_pages.items page))
     → AreRows s
 AreRows-held r s start end to rows to_is le free starts held held_pages bits page_bits =
-    let count : granules_of s ≡ granules_of r = ap (λ x. 64 * length x.items) starts in
+    let count : row_granules s ≡ row_granules r = ap (λ x. 64 * length x.items) starts in
     record {
       pages = rows.pages;
       whole = count ∙ rows.whole;
@@ -72,7 +67,7 @@ AreRows-held r s start end to rows to_is le free starts held held_pages bits pag
         | inr old ↦ rows.inside page old
       ];
       marked = λ k clear.
-          let none = no_bit _ _ (sym (page_bits (k / 256)) ∙ clear) in
+          let none = or_parts _ _ (sym (page_bits (k / 256)) ∙ clear) in
           bits k ∙ (ap (λ b. b || is_set_for r.held.items k) (within_pages start end to k to_is none.0) ∙ rows.marked k none.1);
     }
 
@@ -99,7 +94,7 @@ given_starts true true false = refl
 given_starts true true true = refl
 
 -- What lies in some granules is given back.
-pub AreGiven-within : (r s : Rows) (test : ℕ → Bool) → granules_of s ≡ granules_of r → s.held_pages ≡ r.held_pages
+pub AreGiven-within : (r s : Rows) (test : ℕ → Bool) → row_granules s ≡ row_granules r → s.held_pages ≡ r.held_pages
     → ((k : ℕ) → is_set_for s.free k ≡ ((test k && is_set_for r.held.items k) || is_set_for r.free k))
     → ((k : ℕ) → is_set_for s.starts.items k ≡ (is_set_for r.starts.items k && not (test k && is_set_for r.held.items k)))
     → ((k : ℕ) → is_set_for s.held.items k ≡ (is_set_for r.held.items k && not (test k)))
@@ -139,7 +134,7 @@ pub AreRows-unmarked : (r s : Rows) (page : ℕ) → AreRows r → ((k : ℕ) �
     → ((p : ℕ) → is_set_for s.held_pages.items p ≡ (is_set_for r.held_pages.items p && not (is_within page (page + 1) p)))
     → AreRows s
 AreRows-unmarked r s page rows gone free starts held long bits =
-    let count : granules_of s ≡ granules_of r = ap (λ x. 64 * length x.items) starts in
+    let count : row_granules s ≡ row_granules r = ap (λ x. 64 * length x.items) starts in
     record {
       pages = rows.pages;
       whole = count ∙ rows.whole;

@@ -9,7 +9,7 @@ use Rattle.heap_core.specs.Heap.{HeapState, IsInside, IsSound}
 use Rattle.heap_core.specs.Table.{IsTable, blocks_of, is_held, is_live}
 use Rattle.heap_core.proofs.BlockLaws.{All-blocks_of, AllPairs-blocks_of}
 use Rattle.heap_core.proofs.LateLaws.{get_or-either, length-either}
-use Rattle.heap_core.proofs.SpanLaws.{LiesWithin-table}
+use Rattle.heap_core.proofs.ExtentLaws.{LiesWithin-table}
 
 -- A table stays one with other marks.
 pub IsTable-marks : (base : ℕ) (lengths : List ℕ) (marks others : List Bool) → length others ≡ length lengths → IsTable base lengths marks → IsTable base lengths others

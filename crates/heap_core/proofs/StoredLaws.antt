@@ -8,12 +8,12 @@ use Rattle.std.proofs.lemmas.List.FromFn.{get_or-map-range_with_len, length-map-
 use Rattle.granule_rows.specs.Counts.{count_below, is_both}
 use Rattle.granule_rows.specs.Runs as rows
 use Rattle.granule_rows.specs.Runs.{IsFirstMultiple, is_within}
-use Rattle.heap_core.proofs.EmptyLaws.{get_or-zeros, is_taken-zeros, zeros}
-use Rattle.heap_core.proofs.NthLaws.{count-marks_of, count-take-marks_of}
+use Rattle.heap_core.proofs.EmptyLaws.{get_or-falses, get_or-zeros, is_taken-zeros, zeros}
+use Rattle.heap_core.proofs.NthLaws.{count-marks_of, count-take-marks_of, within_of}
 use Rattle.heap_core.proofs.KeptLaws.{get_or-kept, get_or-kept_lengths, get_or-not_kept, kept-le, length-kept_lengths}
 use Rattle.heap_core.proofs.ShadowLaws.{get_or-bits_of, length-bits_of}
 use Rattle.heap_core.proofs.RunLaws.{is_taken-set_other, is_taken_by, is_taken_none, is_taken_within}
-use Rattle.heap_core.specs.Rows.{AreRows, granules_of}
+use Rattle.heap_core.specs.Rows.{AreRows, row_granules}
 use Rattle.heap_core.specs.Shadow.{bits_of}
 use Rattle.heap_core.specs.Stored.{AreStored, length_in, lengths_of, marks_of}
 use Rattle.heap_core.specs.Table.{AreBlocks, IsFirstGap, IsGap, IsHeldStart, held_count, is_held, is_live, is_taken, kept_lengths}
@@ -22,7 +22,8 @@ use Rattle.heap_core.specs.declared.table.Table.TheInside.{Inside}
 use Rattle.tag_memory.specs.Laws.{is_set_zero}
 use Rattle.tag_memory.specs.Tags.{is_set, is_set_for}
 
-and_false : (a b : Bool) → b ≡ false → (a && b) ≡ false
+-- A test fails where its second part does.
+pub and_false : (a b : Bool) → b ≡ false → (a && b) ≡ false
 and_false false b none = refl
 and_false true b none = none
 
@@ -74,9 +75,6 @@ within_before first end k lt = grind (arith, nat_tests)
 
 within_behind : (first end k : ℕ) → end ≤ k → is_within first end k ≡ false
 within_behind first end k le = grind (arith, nat_tests)
-
-within : (first end k : ℕ) → first ≤ k → k < end → is_within first end k ≡ true
-within first end k le lt = grind (arith, nat_tests)
 
 -- ---- a block is put
 
@@ -167,7 +165,7 @@ free-put lengths free p n count k end long none is some =
       | inr from ↦ elim (cases_lt k (p + n)) [
         | inr past ↦ (let out = within_behind p (p + n) k past in rw (is, out, is_taken-set_other lengths p n k none (inr past)) (and-true (nat_lt k count && not (is_taken k lengths))))
         | inl inside ↦
-            let in_block = within p (p + n) k from inside in
+            let in_block = within_of p (p + n) k from inside in
             rw (in_block, is_taken_within (set lengths p n) p k from (omega arith)) (and_false (free k) false refl ∙ sym (and_false (nat_lt k count) false refl))
       ]
     ]
@@ -258,7 +256,7 @@ module _ (t : Inside) (stored : AreStored t) where
         (marks_of-put t.rows.starts.items s.starts.items t.rows.held.items n p (omega (arith, run_inside run, run.some)) starts
         (not_held p (omega (arith, run_inside run, run.some)) (run.free p (omega arith) (omega (arith, run.some)))))
 
-    pub AreStored-put : (new : Inside) → new.rows ≡ s → new.lengths.items ≡ set t.lengths.items p m → AreRows s → granules_of s ≡ granules_of t.rows
+    pub AreStored-put : (new : Inside) → new.rows ≡ s → new.lengths.items ≡ set t.lengths.items p m → AreRows s → row_granules s ≡ row_granules t.rows
         → ((k : ℕ) → is_set_for s.free k ≡ (is_set_for t.rows.free k && not (is_within p (p + m) k))) → AreStored new
     AreStored-put new rows_are items are_rows count free =
         let long : length (set t.lengths.items p m) ≡ n = length-set t.lengths.items p m in
@@ -282,18 +280,13 @@ lengths_of-none starts lengths none =
     ext_get_or 0 (lengths_of starts lengths) (zeros (length lengths)) (length-lengths_of starts lengths ∙ sym (length-replicate (length lengths) 0))
     (λ k lt. get_or-lengths_of starts lengths k ∙ (length_in-none starts lengths k (none k) ∙ sym (get_or-zeros (length lengths) k)))
 
-get_or-falses : (n k : ℕ) → get_or (replicate n false) k false ≡ false
-get_or-falses zero k = refl
-get_or-falses (suc n) zero = refl
-get_or-falses (suc n) (suc k) = get_or-falses n k
-
 pub marks_of-none : (starts held : List ℕ) (n : ℕ) → ((k : ℕ) → (is_set_for starts k && is_set_for held k) ≡ false) → marks_of starts held n ≡ replicate n false
 marks_of-none starts held n none =
     ext_get_or false (marks_of starts held n) (replicate n false) (length-marks_of starts held n ∙ sym (length-replicate n false))
     (λ k lt. get_or-marks_of starts held n k (omega (arith, lt, length-marks_of starts held n)) ∙ (none k ∙ sym (get_or-falses n k)))
 
 -- Where no block starts, and nothing is held, all granules are free.
-pub AreStored-new : (t : Inside) (n : ℕ) → t.lengths.items ≡ zeros n → AreRows t.rows → granules_of t.rows ≡ n
+pub AreStored-new : (t : Inside) (n : ℕ) → t.lengths.items ≡ zeros n → AreRows t.rows → row_granules t.rows ≡ n
     → ((k : ℕ) → is_set_for t.rows.free k ≡ is_within 0 n k) → ((k : ℕ) → is_set_for t.rows.starts.items k ≡ false)
     → ((k : ℕ) → is_set_for t.rows.held.items k ≡ false) → AreStored t
 AreStored-new t n items are_rows count free starts held =
@@ -401,7 +394,7 @@ taken_put lengths p n k none inside =
       | inl before ↦ (let out = within_before p (p + n) k before in rw (out, is_taken-set_other lengths p n k none (inl before)) refl)
       | inr from ↦ elim (cases_lt k (p + n)) [
         | inr past ↦ (let out = within_behind p (p + n) k past in rw (out, is_taken-set_other lengths p n k none (inr past)) refl)
-        | inl in_block ↦ (let is = within p (p + n) k from in_block in rw (is, is_taken_within (set lengths p n) p k from (omega arith)) refl)
+        | inl in_block ↦ (let is = within_of p (p + n) k from in_block in rw (is, is_taken_within (set lengths p n) p k from (omega arith)) refl)
       ]
     ]
 
@@ -463,7 +456,7 @@ module _ (t : Inside) (stored : AreStored t) (s : Rows) (i : ℕ) (inside : i < 
       get_or-marks_of t.rows.starts.items s.held.items (length t.lengths.items) k inside_k
       ∙ elim (cases_eq k i) [
         | inl at ↦
-            let in_block = within i (i + get_or (lengths_of t.rows.starts.items t.lengths.items) i 0) i (omega arith) (omega arith) in
+            let in_block = within_of i (i + get_or (lengths_of t.rows.starts.items t.lengths.items) i 0) i (omega arith) (omega arith) in
             let now : is_set_for s.held.items k ≡ true = rw at (held i ∙ ap (λ b. b || is_set_for t.rows.held.items i) in_block) in
             let start : is_set_for t.rows.starts.items k ≡ true = rw at start_is in
             let right : get_or (set marks_now i true) k false ≡ true = rw at (get_or-set_same marks_now i true false (omega (arith, below, length-marks_of t.rows.starts.items t.rows.held.items (length t.lengths.items)))) in
@@ -473,7 +466,7 @@ module _ (t : Inside) (stored : AreStored t) (s : Rows) (i : ℕ) (inside : i < 
             ∙ sym (get_or-set_other marks_now i k true false other ∙ get_or-marks_of t.rows.starts.items t.rows.held.items (length t.lengths.items) k inside_k)
       ]))
 
-  pub AreStored-hold : get_or marks_now i false ≡ false → (new : Inside) → new.rows ≡ s → new.lengths ≡ t.lengths → AreRows s → granules_of s ≡ granules_of t.rows → s.free ≡ t.rows.free → AreStored new
+  pub AreStored-hold : get_or marks_now i false ≡ false → (new : Inside) → new.rows ≡ s → new.lengths ≡ t.lengths → AreRows s → row_granules s ≡ row_granules t.rows → s.free ≡ t.rows.free → AreStored new
   AreStored-hold live new rows_are items are_rows count free =
       let none : get_or (kept_lengths is_held (lengths_of t.rows.starts.items t.lengths.items) marks_now) i 0 ≡ 0 =
       get_or-not_kept is_held (lengths_of t.rows.starts.items t.lengths.items) marks_now i false (same_count t stored) inside live in
@@ -606,7 +599,7 @@ module _ (t : Inside) (stored : AreStored t) (s : Rows)
         rw (stored.free k, there) (past_row t.rows.held.items k (omega (arith, stored.count, stored.rows.held)))
   ]
 
-  pub AreStored-drop : (new : Inside) → new.rows ≡ s → new.lengths ≡ t.lengths → AreRows s → granules_of s ≡ granules_of t.rows
+  pub AreStored-drop : (new : Inside) → new.rows ≡ s → new.lengths ≡ t.lengths → AreRows s → row_granules s ≡ row_granules t.rows
       → ((k : ℕ) → is_set_for s.free k ≡ (is_set_for t.rows.free k || is_set_for t.rows.held.items k)) → AreStored new
   AreStored-drop new rows_are items are_rows count free = record {
     rows = rw rows_are are_rows;

@@ -32,8 +32,8 @@ pub record AreLate (lengths : List ℕ) (marks lates : List Bool) (is_open : Boo
   pub closed : is_open ≡ false → (k : ℕ) → slice_index_or lates k false ≡ false
 
 -- What a caller sees of a heap.
-abbrev pub state_of : Inside → HeapState
-state_of h = heap_state h.base h.table.lengths h.table.marks (bits_of h.late.items) h.is_open
+abbrev pub heap_inside : Inside → HeapState
+heap_inside h = heap_state h.base h.table.lengths h.table.marks (bits_of h.late.items) h.is_open
 
 -- The parts of a heap agree.
 pub record IsConsistent (h : Inside) : Type 0 where

@@ -4,7 +4,7 @@
 -- for the next one.
 use Rattle.std.specs.Prelude.{◌≡◌, ◌<◌, ◌≤◌, ◌+◌, ◌*◌, ◌%◌, ℕ, Bool, false, true, List, [], All, AllPairs, if◌then◌else◌}
 use Rattle.heap_core.specs.Blocks.{IsApart, IsBefore, Span, bytes_in, end_of, length_of, start_of}
-use Rattle.tag_memory.specs.Span.{is_base, is_size}
+use Rattle.tag_memory.specs.Extent.{is_base, is_size}
 
 -- The heap is the `size` addresses from `base` on. The held blocks are those that wait and those that are painted;
 -- an epoch is open or none is.

@@ -1,7 +1,7 @@
 -- How a table is stored: as rows of bits, and lengths that count only where a block starts.
 use Rattle.std.specs.Prelude.{◌≡◌, ◌<◌, ◌&&◌, not, nat_lt, if◌then◌else◌, ℕ, Bool, true, List, length, map, slice_index}
 use Rattle.std.specs.List.{range_with_len}
-use Rattle.heap_core.specs.Rows.{AreRows, granules_of}
+use Rattle.heap_core.specs.Rows.{AreRows, row_granules}
 use Rattle.heap_core.specs.Table.{TableState, is_held, is_taken, kept_lengths}
 use Rattle.heap_core.specs.declared.table.Table.TheInside.{Inside}
 use Rattle.tag_memory.specs.Tags.{is_set_for}
@@ -28,7 +28,7 @@ view_of t = record {
 -- The rows tell of each granule whether it lies in no block, and whether in a held one. No block is empty.
 pub record AreStored (t : Inside) : Type 0 where
   pub rows : AreRows t.rows
-  pub count : length t.lengths.items ≡ granules_of t.rows
+  pub count : length t.lengths.items ≡ row_granules t.rows
   pub some : (k : ℕ) → is_set_for t.rows.starts.items k ≡ true → 0 < slice_index t.lengths.items k
   pub free : (k : ℕ) → is_set_for t.rows.free k ≡ (nat_lt k (length t.lengths.items) && not (is_taken k (view_of t).lengths))
   pub held : (k : ℕ) → k < length t.lengths.items

@@ -3,7 +3,7 @@
 -- have marks apart from it: `Consistent.antt`.)
 use Rattle.std.specs.Prelude.{◌≡◌, ◌<◌, ◌≤◌, ◌+◌, ◌*◌, ◌%◌, nat_lt, ◌&&◌, ◌||◌, not, if◌then◌else◌, ℕ, zero, suc, Bool, true, false, List, [], ◌∷◌, ◌++◌, count_by, length, slice_index, slice_index_or, take}
 use Rattle.heap_core.specs.Blocks.{Span}
-use Rattle.tag_memory.specs.Span.{is_base, is_size}
+use Rattle.tag_memory.specs.Extent.{is_base, is_size}
 
 -- The table of a heap.
 pub record TableState : Type 0 where

@@ -6,7 +6,7 @@ ghost use Rattle.heap_core.specs.Blocks.{bytes_in};
 ghost use Rattle.heap_core.specs.Heap.{IsSound, empty_heap};
 ghost use Rattle.heap_core.specs.Heap as heap;
 ghost use Rattle.heap_core.specs.Place.{IfOkSome, IsFree, IsPlace, block_length, with_live};
-ghost use Rattle.tag_memory.specs.Span as span;
+ghost use Rattle.tag_memory.specs.Extent as span;
 
 mod painting;
 mod quarantine;
@@ -40,9 +40,9 @@ impl Model for Heap {
 
     ghost Value = { HeapState };
 
-    ghost use Rattle.heap_core.specs.Consistent.{IsConsistent, state_of};
+    ghost use Rattle.heap_core.specs.Consistent.{IsConsistent, heap_inside};
 
-    ghost view = { state_of };
+    ghost view = { heap_inside };
 
     ghost invariant = { IsConsistent };
 }
@@ -119,11 +119,16 @@ impl Heap {
         Ok(Some(Block { base, top }))
     }
 
+    /// Tells what holds of every heap. Nothing is done.
+    pub fn whole(&self)
+        ensures { IsSound self.now }
+    {
+        let _ = &self.table;
+    }
+
     /// Whether an epoch of revocation is open.
     pub fn is_open(&self) -> bool
-        ensures value { result ≡ self.now.is_open }
-        // What holds of every heap.
-        ensures sound { IsSound self.now }
+        ensures { result ≡ self.now.is_open }
     {
         self.is_open
     }
@@ -137,18 +142,14 @@ impl Heap {
 
     /// The bytes of the held blocks, of those that wait and the painted ones.
     pub fn held_bytes(&self) -> u64
-        ensures value { result ≡ heap.held_bytes self.now }
-        // What holds of every heap.
-        ensures sound { IsSound self.now }
+        ensures { result ≡ heap.held_bytes self.now }
     {
         GRANULE * (u64::from(self.held_granules) + u64::from(self.late_granules))
     }
 
     /// The bytes of the heap that lie in no block.
     pub fn free_bytes(&self) -> u64
-        ensures rest { bytes_in self.now.live + heap.held_bytes self.now + result ≡ self.now.size }
-        // What holds of every heap.
-        ensures sound { IsSound self.now }
+        ensures { bytes_in self.now.live + heap.held_bytes self.now + result ≡ self.now.size }
     {
         let granules = self.table.granules() as u64;
         let held = u64::from(self.held_granules) + u64::from(self.late_granules);

@@ -2,7 +2,7 @@
 
 ghost use Rattle.std.specs.Prelude.{◌≡◌, ◌<◌, ◌≤◌, ◌+◌, ◌*◌, ◌%◌, ◌^◌, ◌&&◌, ◌||◌, ◌/◌, not, ℕ, IfOk, false, length};
 ghost use Rattle.granule_rows.specs.Runs.{is_within};
-ghost use Rattle.heap_core.specs.Rows.{AreGiven, AreRows, granules_of};
+ghost use Rattle.heap_core.specs.Rows.{AreGiven, AreRows, row_granules};
 ghost use Rattle.tag_memory.specs.Tags.{is_set_for};
 
 use granule_rows::{FreeRow, clear_run, clear_words, row_bit, set_run};
@@ -34,7 +34,7 @@ impl Rows {
         requires limit { granules ≤ 2 ^ 18 }
         requires whole { granules % 256 ≡ 0 }
         ensures rows { IfOk result AreRows }
-        ensures count { IfOk result (λ rows. granules_of rows ≡ granules) }
+        ensures count { IfOk result (λ rows. row_granules rows ≡ granules) }
         ensures free { IfOk result (λ rows. (k : ℕ) → is_set_for rows.free k ≡ is_within 0 granules k) }
         ensures starts { IfOk result (λ rows. (k : ℕ) → is_set_for rows.starts.items k ≡ false) }
         ensures held { IfOk result (λ rows. (k : ℕ) → is_set_for rows.held.items k ≡ false) }
@@ -58,9 +58,9 @@ impl Rows {
     pub fn put(&mut self, start: usize, n: usize)
         requires rows { AreRows self.old }
         requires some { 0 < n }
-        requires end { start + n ≤ granules_of self.old }
+        requires end { start + n ≤ row_granules self.old }
         ensures rows { AreRows self.new }
-        ensures count { granules_of self.new ≡ granules_of self.old }
+        ensures count { row_granules self.new ≡ row_granules self.old }
         ensures free { (k : ℕ) → is_set_for self.new.free k ≡ (is_set_for self.old.free k && not (is_within start (start + n) k)) }
         ensures starts { (k : ℕ) → is_set_for self.new.starts.items k ≡ (is_within start (start + 1) k || is_set_for self.old.starts.items k) }
         ensures held { self.new.held.items ≡ self.old.held.items }
@@ -72,9 +72,9 @@ impl Rows {
     /// Makes the block of `n` granules at granule `start` held.
     pub fn hold(&mut self, start: usize, n: usize)
         requires rows { AreRows self.old }
-        requires end { start + n ≤ granules_of self.old }
+        requires end { start + n ≤ row_granules self.old }
         ensures rows { AreRows self.new }
-        ensures count { granules_of self.new ≡ granules_of self.old }
+        ensures count { row_granules self.new ≡ row_granules self.old }
         ensures free { self.new.free ≡ self.old.free }
         ensures starts { self.new.starts.items ≡ self.old.starts.items }
         ensures held { (k : ℕ) → is_set_for self.new.held.items k ≡ (is_within start (start + n) k || is_set_for self.old.held.items k) }
@@ -92,7 +92,7 @@ impl Rows {
     pub fn give_back(&mut self)
         requires rows { AreRows self.old }
         ensures rows { AreRows self.new }
-        ensures count { granules_of self.new ≡ granules_of self.old }
+        ensures count { row_granules self.new ≡ row_granules self.old }
         ensures free { (k : ℕ) → is_set_for self.new.free k ≡ (is_set_for self.old.free k || is_set_for self.old.held.items k) }
         ensures starts { (k : ℕ) → is_set_for self.new.starts.items k ≡ (is_set_for self.old.starts.items k && not (is_set_for self.old.held.items k)) }
         ensures held { (k : ℕ) → is_set_for self.new.held.items k ≡ false }
@@ -135,7 +135,7 @@ impl Rows {
     // Gives back the granules of one page.
     fn give_page(&mut self, page: usize)
         requires rows { AreRows self.old }
-        requires inside { 256 * page + 256 ≤ granules_of self.old }
+        requires inside { 256 * page + 256 ≤ row_granules self.old }
         ensures rows { AreRows self.new }
         ensures given { AreGiven self.old self.new }
         ensures gone { (k : ℕ) → k / 256 ≡ page → is_set_for self.new.held.items k ≡ false }

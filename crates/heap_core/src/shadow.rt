@@ -32,7 +32,7 @@ impl Model for Shadow {
 
 impl Shadow {
     // The shadow that has the bits of a row.
-    pub fn of_row(alloc: Global, row: &[u64]) -> Result<Shadow, AllocError>
+    pub(crate) fn of_row(alloc: Global, row: &[u64]) -> Result<Shadow, AllocError>
         requires limit { 64 * length row.now < 2 ^ 64 }
         ensures { IfOk result (λ shadow. shadow ≡ bits_of row.now) }
     {

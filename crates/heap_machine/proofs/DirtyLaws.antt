@@ -5,7 +5,7 @@ use Rattle.std.proofs.lemmas.List.{get_or-map, get_or-set_other, get_or-set_same
 use Rattle.heap_core.specs.Blocks.{Span}
 use Rattle.heap_core.specs.Heap.{HeapState, empty_heap}
 use Rattle.sweep_pool.specs.Sweep.{AreInDirtyPages, is_revoked, swept_granule, swept_granules, takes_tag}
-use Rattle.tag_memory.specs.Cells.{Granule, cell_of, is_dirty_at, marked}
+use Rattle.tag_memory.specs.Cells.{Granule, cell_of, is_dirty_at, marks_after}
 use Rattle.trace_text.specs.declared.trace.Command.{Command}
 use Rattle.trace_text.specs.declared.trace.Command.TheVariants.{Malloc, Free, Copy, SetAddr, Narrow, AndPerm, StoreCap, LoadCap, Write, Show, Sweep, Begin, End}
 use Rattle.heap_reply.specs.declared.reply.Reply.{Reply}
@@ -79,7 +79,7 @@ still_dirty dirty page j is =
 
 -- A granule written, with its page.
 InDirtyPages-put : (held : List Span) (cells : List Granule) (dirty : List Bool) (i : ℕ) (granule : Granule) → length cells ≡ 256 * length dirty → AreInDirtyPages cells dirty held
-    → AreInDirtyPages (set cells i granule) (marked dirty i granule.1) held
+    → AreInDirtyPages (set cells i granule) (marks_after dirty i granule.1) held
 InDirtyPages-put held cells dirty i (bits, false) pages stand k taken =
     elim (cases_eq k i) [
       | inl same ↦

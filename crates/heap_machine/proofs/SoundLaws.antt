@@ -8,7 +8,7 @@ use Rattle.std.proofs.lemmas.List.Elements.{All-get_or, All-nil, All-replicate, 
 use Rattle.heap_core.specs.Heap.{HeapState, IsInside, IsSound as IsSoundHeap, empty_heap}
 use Rattle.cap_codec.specs.declared.word.Word.{Word}
 use Rattle.heap_core.specs.Blocks.{IsApart, Span}
-use Rattle.tag_memory.specs.Span.{is_base, is_size}
+use Rattle.tag_memory.specs.Extent.{is_base, is_size}
 use Rattle.tag_memory.specs.Cells.{Cell, Granule, cell_of, new_registers, null_cell}
 use Rattle.heap_machine.specs.Safety.{HoldsGuarded, IsGuarded, IsLiveOrHeld, IsSafe}
 use Rattle.heap_machine.specs.Sound.{IsMachine}

@@ -4,13 +4,13 @@ use Rattle.std.specs.Prelude.{count_ones, nat_le, sum_by}
 use Rattle.std.proofs.lemmas.Bool.{and_parts, cases_Bool, leb-true, true≢false}
 use Rattle.heap_core.specs.Blocks.{Span}
 use Rattle.sweep_pool.specs.Sweep.{AreInDirtyPages, takes_tag}
-use Rattle.tag_memory.specs.Cells.{Cell, Granule, MemoryState, cell_of, is_dirty_at, null_cell, register_at}
+use Rattle.tag_memory.specs.Cells.{Cell, Granule, MemoryState, cell_of, is_dirty_at, null_cell, register_at, without_tag_if}
 use Rattle.tag_memory.specs.Tags.{is_set, without_tags}
 use Rattle.heap_machine.specs.Revoked.{AreRevoked, AreTaken}
 use Rattle.heap_machine.specs.Sound.{IsMachine}
 use Rattle.heap_machine.specs.State.{State}
 use Rattle.heap_machine.specs.declared.parts.revocation.RevokedTags.{RevokedTags}
-use Rattle.heap_machine.proofs.ClearedRegisters.{registers-swept, without_tag_if}
+use Rattle.heap_machine.proofs.ClearedRegisters.{registers-swept}
 use Rattle.heap_machine.proofs.CountLaws.{ones-masks, ones-registers}
 use Rattle.heap_machine.proofs.SweptState.{granules_taken-untouched, swept_granules-untouched, without_tags-swept}
 

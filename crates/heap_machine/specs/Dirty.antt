@@ -2,7 +2,7 @@
 -- an epoch began. No command's step depends on them: they are what the last pass of an epoch is made by.
 use Rattle.std.specs.Prelude.{◌≡◌, ◌*◌, List, Bool, Option, Some, None, length}
 use Rattle.sweep_pool.specs.Sweep.{AreInDirtyPages}
-use Rattle.tag_memory.specs.Cells.{all_clean, marked}
+use Rattle.tag_memory.specs.Cells.{all_clean, marks_after}
 use Rattle.trace_text.specs.declared.trace.Command.{Command}
 use Rattle.trace_text.specs.declared.trace.Command.TheVariants.{Malloc, Free, Copy, SetAddr, Narrow, AndPerm, StoreCap, LoadCap, Write, Show, Sweep, Begin, End}
 use Rattle.heap_reply.specs.declared.reply.Trap.{Trap}
@@ -13,7 +13,7 @@ use Rattle.heap_machine.specs.Step.{checks, first_failed, index_in}
 -- and a store of a tagged word makes its page dirty.
 abbrev pub dirty_by : Option Trap → State → Command → List Bool → List Bool
 dirty_by (Some trap) s command dirty = dirty
-dirty_by None s (StoreCap ra rs) dirty = marked dirty (index_in s (register s ra).0) (register s rs).1
+dirty_by None s (StoreCap ra rs) dirty = marks_after dirty (index_in s (register s ra).0) (register s rs).1
 dirty_by None s Begin dirty = all_clean dirty
 dirty_by None s (Malloc rd size) dirty = dirty
 dirty_by None s (Free rs) dirty = dirty

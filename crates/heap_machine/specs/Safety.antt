@@ -13,7 +13,7 @@ use Rattle.heap_reply.specs.declared.reply.Reply.{Reply}
 use Rattle.heap_reply.specs.declared.reply.Reply.TheVariants.{Block, BlockAfter, NoSpace, NoSpaceAfter, Held, Done, Cleared, Swept, Begun, Shown, Trap}
 use Rattle.heap_machine.specs.State.{State}
 use Rattle.heap_machine.specs.Step.{swept}
-use Rattle.cap_codec.specs.Words.{bounds_in}
+use Rattle.cap_codec.specs.Words.{base_of, bounds_in}
 
 -- The bounds lie in the block, and aren't empty.
 pub record LieIn (bounds : Bounds) (block : Span) : Type 0 where
@@ -46,8 +46,8 @@ pub record IsSafe (s : State) : Type 0 where
 -- The cell is tagged, and its base lies from `base` to before `top`.
 pub record HasBaseIn (base top : ℕ) (c : Cell) : Type 0 where
   pub tagged : IsTrue c.1
-  pub from : base ≤ (bounds_in c.0).base
-  pub before : (bounds_in c.0).base < top
+  pub from : base ≤ base_of c.0
+  pub before : base_of c.0 < top
 
 -- No tagged word of the state, in a register or in memory, has its base there.
 abbrev pub HasNoBase : State → ℕ → ℕ → Type 0

@@ -1,7 +1,7 @@
 //! The laws of commands: each has one reply and leaves one state, and from a safe state a safe one.
 
 ghost use Rattle.std.specs.Prelude.{◌≡◌, ℕ, Bool, List, true};
-ghost use Rattle.tag_memory.specs.Span.{is_base, is_size};
+ghost use Rattle.tag_memory.specs.Extent.{is_base, is_size};
 ghost use Rattle.trace_text.specs.declared.trace.Command.{Command as TheCommand};
 ghost use Rattle.heap_reply.specs.declared.reply.Reply.{Reply as TheReply};
 ghost use Rattle.heap_machine.specs.Dirty.{HasPages, IsDirtied, dirty_after};

@@ -9,4 +9,4 @@ mod parts;
 pub use crate::fault::MachineFault;
 pub use crate::laws::steps;
 pub use crate::machine::Machine;
-pub use heap_reply::{Hexadecimal, Place, Reply, Shown, Trap, bit};
+pub use heap_reply::{Hexadecimal, Place, Reply, Shown, Trap, flag_number};

@@ -3,7 +3,7 @@
 ghost use Rattle.std.specs.Prelude.{◌≡◌, ◌↔◌, ◌+◌, IfErr, IfOk, IsOk, OnErr, OnOk, false, replicate, true};
 ghost use Rattle.heap_core.specs.Blocks.{bytes_in};
 ghost use Rattle.heap_core.specs.Heap as heap;
-ghost use Rattle.tag_memory.specs.Span as span;
+ghost use Rattle.tag_memory.specs.Extent as span;
 ghost use Rattle.trace_text.specs.Command.{IsValid};
 ghost use Rattle.heap_machine.specs.Dirty.{IsDirtied, dirty_after};
 ghost use Rattle.heap_machine.specs.Safety.{IsSafe, IsUnused, LeavesInUse};

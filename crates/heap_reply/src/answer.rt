@@ -3,7 +3,7 @@
 ghost use Rattle.std.specs.Prelude.{◌≡◌, ◌≤◌, Some, length};
 ghost use Rattle.heap_reply.specs.Answer.{answer_text, shown_text, trap_name};
 
-use crate::display::{Hexadecimal, Place, bit};
+use crate::display::{Hexadecimal, Place, flag_number};
 use crate::reply::{Reply, Shown, Trap};
 use std::fmt;
 
@@ -32,7 +32,7 @@ impl fmt::Display for Shown {
     ghost output = { λ s. Some (shown_text s) };
 
     fn fmt<W: fmt::Write>(&self, f: &mut fmt::Formatter<W>) -> fmt::Result {
-        let tag = bit(self.tag);
+        let tag = flag_number(self.tag);
         let place = Place {
             address: self.address,
             base: self.base,

@@ -44,7 +44,7 @@ impl fmt::Display for Place {
 }
 
 /// A flag as the number that it is shown by.
-pub fn bit(flag: bool) -> u8
+pub fn flag_number(flag: bool) -> u8
     ensures { result ≡ bit_of flag }
 {
     u8::from(flag)

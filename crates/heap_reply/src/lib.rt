@@ -5,5 +5,5 @@ mod answer;
 mod display;
 mod reply;
 
-pub use crate::display::{Hexadecimal, Place, bit};
+pub use crate::display::{Hexadecimal, Place, flag_number};
 pub use crate::reply::{Reply, Shown, Trap};

@@ -4,7 +4,7 @@ ghost use Rattle.std.specs.Prelude.{◌≡◌, ◌++◌, IfErr, IfOk, OnOk};
 ghost use Rattle.heap_trace.specs.Image.{granule_text, image_line, image_of};
 
 use cap_codec::{Word, to_bytes};
-use heap_machine::{MachineFault, bit};
+use heap_machine::{MachineFault, flag_number};
 use reply_text::ShortText;
 use std::alloc::{AllocError, Global};
 use tag_memory::{GRANULE, Memory};
@@ -52,7 +52,7 @@ fn push_line(text: &mut Vec<u8>, address: u64, bits: u128, tag: bool) -> Result<
     line.put("\n");
     line.put_bytes(to_bytes(Word { bits }));
     line.put(" ");
-    line.put_decimal(u64::from(bit(tag)));
+    line.put_decimal(u64::from(flag_number(tag)));
     line.put(" ");
     line.put_hexadecimal(address);
     text.extend_from_slice(line.as_bytes())

@@ -6,7 +6,7 @@ ghost use Rattle.trace_text.specs.Reading.{Script};
 ghost use Rattle.heap_reply.specs.declared.reply.Reply.{Reply as TheReply};
 ghost use Rattle.heap_machine.specs.Safety.{FitsTypes};
 ghost use Rattle.heap_machine.specs.State.{State, first_state};
-ghost use Rattle.tag_memory.specs.Span.{is_base, is_size};
+ghost use Rattle.tag_memory.specs.Extent.{is_base, is_size};
 ghost use Rattle.heap_trace.specs.declared.running.Outcome.{Outcome as TheOutcome};
 ghost use Rattle.heap_trace.specs.Outcome.{Answers, IsOutcome};
 ghost use Rattle.heap_trace.specs.Run.{IsSafeRun, Run};

@@ -9,5 +9,7 @@ mod running;
 pub use crate::image::image_text;
 pub use crate::laws::runs;
 pub use crate::running::{Outcome, RunFault, run};
-pub use heap_machine::{Hexadecimal, Machine, MachineFault, Place, Reply, Shown, Trap, bit, steps};
+pub use heap_machine::{
+    Hexadecimal, Machine, MachineFault, Place, Reply, Shown, Trap, flag_number, steps,
+};
 pub use trace_text::{Command, LONGEST_TEXT, Trace, TraceFault, command_lines, parse, texts};

@@ -50,8 +50,8 @@ abbrev pub first_seat : BoardState → SeatState
 first_seat board = record { board = board; parts = board.parts; mine = no_bits board; seen = no_bits board }
 
 -- Laid on this word, no bit of the mask stands at or past the end of the board.
-abbrev pub IsMask : BoardState → ℕ → ℕ → Type 0
-IsMask board word mask = mask < 2 ^ (board.bits - 64 * word)
+abbrev pub IsMaskOf : BoardState → ℕ → ℕ → Type 0
+IsMaskOf board word mask = mask < 2 ^ (board.bits - 64 * word)
 
 -- The bits found in this word are all that the seat had seen there, and maybe more.
 abbrev pub HasAllSeen : SeatState → ℕ → ℕ → Type 0

@@ -8,7 +8,7 @@ use Rattle.std.specs.Int.{bit_at, bit_not, w64}
 use Rattle.std.specs.Prelude.{bit_or}
 use mathlib.Core.Logic.{dite}
 use Rattle.mark_board.specs.Bits.{LiesOnBoard, bit, gains, united, without}
-use Rattle.mark_board.specs.Board.{BoardState, IsMask, IsOf, IsSeat, SeatState, word_count}
+use Rattle.mark_board.specs.Board.{BoardState, IsMaskOf, IsOf, IsSeat, SeatState, word_count}
 
 -- The empty set has no bit.
 pub bit-none : (count w j : ℕ) → bit (replicate count 0) w j ≡ 0
@@ -83,15 +83,15 @@ seat-of_board board seat is s = subst (λ (b : BoardState). (length seat.mine �
     (s.mine_width, s.seen_width, s.parts, s.inside)
 
 -- A mask of a board has no bit at or past the board's end.
-pub mask-inside : (board : BoardState) (word mask j : ℕ) → IsMask board word mask → board.bits ≤ 64 * word + j → bit_at mask j ≡ 0
+pub mask-inside : (board : BoardState) (word mask j : ℕ) → IsMaskOf board word mask → board.bits ≤ 64 * word + j → bit_at mask j ≡ 0
 mask-inside board word mask j fits past = bit_at_above mask (board.bits - 64 * word) j fits (omega arith)
 
 -- One bit before the board's end is a mask of it,
-pub mask-one : (board : BoardState) (word j : ℕ) → 64 * word + j < board.bits → IsMask board word (2 ^ j)
+pub mask-one : (board : BoardState) (word j : ℕ) → 64 * word + j < board.bits → IsMaskOf board word (2 ^ j)
 mask-one board word j before = pow_below j (board.bits - 64 * word) (omega arith)
 
 -- and so are any bits of a word that lies before it.
-pub mask-whole : (board : BoardState) (word mask : ℕ) → 64 * word + 64 ≤ board.bits → mask < 2 ^ 64 → IsMask board word mask
+pub mask-whole : (board : BoardState) (word mask : ℕ) → 64 * word + 64 ≤ board.bits → mask < 2 ^ 64 → IsMaskOf board word mask
 mask-whole board word mask before fits =
     let n : ℕ = board.bits - 64 * word in
     dite (ℕ_discrete n 64)

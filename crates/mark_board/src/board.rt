@@ -5,7 +5,7 @@ ghost use Rattle.std.specs.Int.{bit_at};
 ghost use Rattle.std.specs.Slots.{IsFull, slots_items, slots_len};
 ghost use Rattle.mark_board.specs.Bits.{Apart, LiesOnBoard, bit, gains, united, without};
 ghost use Rattle.mark_board.specs.Board as spec;
-ghost use Rattle.mark_board.specs.Board.{HasAllSeen, IsBoard, IsMask, IsOf, IsSeat, are_parts, first_seat, is_board_size, no_bits, word_count};
+ghost use Rattle.mark_board.specs.Board.{HasAllSeen, IsBoard, IsMaskOf, IsOf, IsSeat, are_parts, first_seat, is_board_size, no_bits, word_count};
 
 use crate::fault::BoardFault;
 use crate::rule::{Both, Cut, Marks, Settles, Shape, View};
@@ -67,18 +67,23 @@ impl Board {
         Ok((Board { table, bits }, MarkSeat { seat, parts }))
     }
 
+    /// Tells what holds of every board. Nothing is done.
+    pub fn whole(&self)
+        ensures { IsBoard self.now }
+    {
+        let _ = &self.table;
+    }
+
     /// How many words the bits take.
     pub fn words(&self) -> usize
-        ensures value { result ≡ word_count self.now }
-        ensures limits { IsBoard self.now }
+        ensures { result ≡ word_count self.now }
     {
         words_for(self.bits)
     }
 
     /// How many bits there are.
     pub fn bits(&self) -> u32
-        ensures value { result ≡ self.now.bits }
-        ensures limits { IsBoard self.now }
+        ensures { result ≡ self.now.bits }
     {
         self.bits
     }
@@ -88,7 +93,7 @@ impl Board {
     pub fn mark(&self, seat: &mut MarkSeat, word: usize, mask: u64) -> u64
         requires board { IsOf self.now seat.old }
         requires word { word < word_count self.now }
-        requires mask { IsMask self.now word mask }
+        requires mask { IsMaskOf self.now word mask }
         ensures board { IsOf self.now seat.new }
         ensures parts { seat.new.parts ≡ seat.old.parts }
         ensures fresh { (j : ℕ) → (bit_at result j + bit seat.old.mine word j ≤ 1)

@@ -1,4 +1,4 @@
-//! Tests of words, memory, boards and heaps. They are a crate of their own, so
+//! Tests of memory, rows of bits, boards and heaps. They are a crate of their own, so
 //! that no crate of the product is proved once more for them.
 #![tactic(auto)]
 
@@ -9,4 +9,4 @@ mod heap;
 #[cfg(test)]
 mod memory;
 #[cfg(test)]
-mod words;
+mod rows;

@@ -1,15 +1,11 @@
-//! Tests of the programs and their words, over devices of the tests' own and the standard library's. They are a crate of their own, so
+//! Tests of the programs, over devices of the tests' own and the standard library's. They are a crate of their own, so
 //! that no crate of the product is proved once more for them.
 #![tactic(auto)]
 
 #[cfg(test)]
-mod asked;
-#[cfg(test)]
 mod devices;
 #[cfg(test)]
 mod large;
-#[cfg(test)]
-mod process;
 #[cfg(test)]
 mod runs;
 #[cfg(test)]

@@ -1,9 +1,12 @@
 //! Traces whose states are told, words that are refused, and devices that fail.
 
 use crate::devices::{Fixed, Short, Slow};
+use heap_trace::RunFault;
+use state_text::states;
 use states_command::states_tool;
 use std::alloc::Global;
 use std::thread::Threads;
+use sweep_pool::Cutting;
 
 // What the program writes for these words and this text, read in pieces of so many bytes, to a writer with this room, after
 // its status.
@@ -115,5 +118,24 @@ fn a_refused_allocation_of_told_states_is_told(rt: HostRuntime) {
     } else {
         assert_eq!(rt; status, 1);
         assert_eq!(rt; writer.text(), b"fault memory\n".as_slice());
+    }
+}
+
+// A block that is freed, and a sweep that finds its capability in a register.
+const SWEPT: &str = "{\"heap\":{\"base\":\"0x40000000\",\"pages\":1}}
+{\"line\":2,\"text\":\"malloc c1 16\",\"reply\":\"block 0x40000000 0x40000010\",\"registers\":[{\"r\":1,\"tag\":true,\"word\":\"00000040000000000480050400003d00\",\"address\":\"0x40000000\",\"base\":\"0x40000000\",\"top\":\"0x40000010\",\"perms\":61,\"type\":262143,\"exponent\":0}],\"granules\":[],\"blocks\":[{\"base\":\"0x40000000\",\"top\":\"0x40000010\",\"state\":\"live\"}]}
+{\"line\":3,\"text\":\"free c1\",\"reply\":\"held 16\",\"registers\":[],\"granules\":[],\"blocks\":[{\"base\":\"0x40000000\",\"top\":\"0x40000010\",\"state\":\"waiting\"}]}
+{\"line\":4,\"text\":\"sweep\",\"reply\":\"cleared 1 released 16\",\"registers\":[{\"r\":1,\"tag\":false,\"word\":\"00000040000000000480050400003d00\",\"address\":\"0x40000000\",\"base\":\"0x40000000\",\"top\":\"0x40000010\",\"perms\":61,\"type\":262143,\"exponent\":0}],\"granules\":[],\"blocks\":[{\"base\":\"0x40000000\",\"top\":\"0x40000010\",\"state\":\"free\"}],\"taken\":{\"registers\":[1],\"granules\":[]}}
+{\"end\":{\"live\":0,\"held\":0,\"free\":4096,\"tags\":0}}
+";
+
+// Run with each allocation refused in turn, too.
+#[test]
+fn a_refused_allocation_of_states_is_told(rt: HostRuntime) {
+    let text = b"heap 0x40000000 1\nmalloc c1 16\nfree c1\nsweep".as_slice();
+    let cutting = Cutting::new(1, 16).expect(&rt, "it is a cutting");
+    match states(&rt, rt.alloc(), text, cutting) {
+        Ok(data) => assert_eq!(rt; data.as_slice(), SWEPT.as_bytes()),
+        Err(fault) => assert_eq!(rt; fault, RunFault::Memory),
     }
 }

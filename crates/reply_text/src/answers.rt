@@ -4,7 +4,7 @@ ghost use Rattle.std.specs.Prelude.{◌≡◌, ◌≤◌, ◌+◌, ◌++◌, len
 ghost use Rattle.heap_reply.specs.Answer.{answer_text, block_text, shown_text};
 
 use crate::short_text::ShortText;
-use heap_reply::{Reply, Shown, bit};
+use heap_reply::{Reply, Shown, flag_number};
 
 // Puts what is shown of a register before what stands.
 #[inline(always)]
@@ -21,7 +21,7 @@ fn put_shown(text: &mut ShortText, shown: Shown)
     text.put(" perms ");
     text.put_place(shown.address, shown.base, shown.top);
     text.put(" ");
-    text.put_decimal(u64::from(bit(shown.tag)));
+    text.put_decimal(u64::from(flag_number(shown.tag)));
     text.put("tag ");
 }
 

@@ -8,7 +8,7 @@ use Rattle.json.specs.Token.{Token}
 use Rattle.trace_text.specs.declared.trace.Command.{Command}
 use Rattle.state_text.specs.Blocks.{blocks_tokens}
 use Rattle.state_text.specs.Changes.{granules_tokens, registers_tokens}
-use Rattle.state_text.specs.States.{Tells, line_text, line_tokens, parts_tokens, pass_tokens}
+use Rattle.state_text.specs.States.{Tells, data_line_text, line_tokens, parts_tokens, pass_tokens}
 use Rattle.state_text.specs.Told.{Follows, IsSeen, Recorded, Records, before_of, blocks_told, due_seen, given_up, granules_told, is_stale, open_after, painted_after, pass_told, told_tokens, waiting_after, written}
 use Rattle.state_text.specs.declared.seen.Before.{Before}
 use Rattle.state_text.specs.declared.seen.Seen.{Seen}
@@ -47,13 +47,13 @@ seen-is old c r new seen later before is safe step read follows =
 
 pub records : (old : State) (n : ℕ) (c : Command) (r : Reply) (new : State) (seen later : Seen) (before : Before) (text told : List ℕ)
     → IsSeen seen old → IsSafe old → IsSafe new → Step old c r new → before ≡ before_of old c → Follows seen later before r new
-    → told ≡ text ++ line_text (told_tokens n c r seen before new.registers new.cells) → Records old n c new later text told
+    → told ≡ text ++ data_line_text (told_tokens n c r seen before new.registers new.cells) → Records old n c new later text told
 records old n c r new seen later before text told is safe after step read follows line = record {
   reply = r;
   step = step;
   safe = after;
   is_seen = seen-is old c r new seen later before is safe step read follows;
-  text = line ∙ ap (λ (tokens : List Token). text ++ line_text tokens) (told-is old n c r new seen before is safe after step read);
+  text = line ∙ ap (λ (tokens : List Token). text ++ data_line_text tokens) (told-is old n c r new seen before is safe after step read);
 }
 
 -- There are as many granules after a command as before it.
@@ -63,25 +63,25 @@ count-after old c r new seen is step = is.count ∙ sym (count-is old (written o
 -- ---- one command more
 
 Tells-push : (first : State) (items : List (ℕ × Command)) (lines : List ℕ) (mid new : State) (c : ℕ × Command) (r : Reply) → Tells first items lines mid → Step mid c.1 r new
-    → Tells first (items ++ c ∷ []) (lines ++ line_text (line_tokens c.0 c.1 r mid new)) new
+    → Tells first (items ++ c ∷ []) (lines ++ data_line_text (line_tokens c.0 c.1 r mid new)) new
 Tells-push first [] lines mid new c r tells step =
-    subst (λ (s : State). Tells s (c ∷ []) (lines ++ line_text (line_tokens c.0 c.1 r mid new)) new) tells.1
-    (r, new, [], step, (refl, refl), (λ i. tells.0 i ++ line_text (line_tokens c.0 c.1 r mid new)) ∙ sym (append-nil (line_text (line_tokens c.0 c.1 r mid new))))
+    subst (λ (s : State). Tells s (c ∷ []) (lines ++ data_line_text (line_tokens c.0 c.1 r mid new)) new) tells.1
+    (r, new, [], step, (refl, refl), (λ i. tells.0 i ++ data_line_text (line_tokens c.0 c.1 r mid new)) ∙ sym (append-nil (data_line_text (line_tokens c.0 c.1 r mid new))))
 Tells-push first (item ∷ items) lines mid new c r (reply, next, rest, done, more, is) step = (
   reply,
   next,
-  rest ++ line_text (line_tokens c.0 c.1 r mid new),
+  rest ++ data_line_text (line_tokens c.0 c.1 r mid new),
   done,
   Tells-push next items rest mid new c r more step,
-  ap (λ (text : List ℕ). text ++ line_text (line_tokens c.0 c.1 r mid new)) is ∙ append_assoc (line_text (line_tokens item.0 item.1 reply first next)) rest (line_text (line_tokens c.0 c.1 r mid new)),
+  ap (λ (text : List ℕ). text ++ data_line_text (line_tokens c.0 c.1 r mid new)) is ∙ append_assoc (data_line_text (line_tokens item.0 item.1 reply first next)) rest (data_line_text (line_tokens c.0 c.1 r mid new)),
 )
 
 pub Recorded-push : (first : State) (items : List (ℕ × Command)) (mid new : State) (seen later : Seen) (before text told : List ℕ) (c : ℕ × Command)
     → Recorded first items mid seen before text → Records mid c.0 c.1 new later text told → Recorded first (items ++ c ∷ []) new later before told
 Recorded-push first items mid new seen later before text told c so_far more = record {
-  lines = so_far.lines ++ line_text (line_tokens c.0 c.1 more.reply mid new);
+  lines = so_far.lines ++ data_line_text (line_tokens c.0 c.1 more.reply mid new);
   tells = Tells-push first items so_far.lines mid new c more.reply so_far.tells more.step;
   safe = more.safe;
   is_seen = more.is_seen;
-  text_is = more.text ∙ (ap (λ (t : List ℕ). t ++ line_text (line_tokens c.0 c.1 more.reply mid new)) so_far.text_is ∙ append_assoc before so_far.lines (line_text (line_tokens c.0 c.1 more.reply mid new)));
+  text_is = more.text ∙ (ap (λ (t : List ℕ). t ++ data_line_text (line_tokens c.0 c.1 more.reply mid new)) so_far.text_is ∙ append_assoc before so_far.lines (data_line_text (line_tokens c.0 c.1 more.reply mid new)));
 }

@@ -89,24 +89,24 @@ abbrev pub end_tokens : State → List Token
 end_tokens s = begin_object ∷ key (codes "end") ∷ begin_object ∷ (end_numbers s ++ end_object ∷ end_object ∷ [])
 
 -- A line of these tokens.
-abbrev pub line_text : List Token → List ℕ
-line_text tokens = print tokens ++ codes "\n"
+abbrev pub data_line_text : List Token → List ℕ
+data_line_text tokens = print tokens ++ codes "\n"
 
 -- The commands, one step after another, have these lines and leave the state new.
 abbrev pub Tells : State → List (ℕ × Command) → List ℕ → State → Type 0
 Tells old [] text new = (text ≡ []) × (new ≡ old)
 Tells old (c ∷ cs) text new =
-    (r : Reply) × (mid : State) × (rest : List ℕ) × Step old c.1 r mid × Tells mid cs rest new × (text ≡ line_text (line_tokens c.0 c.1 r old mid) ++ rest)
+    (r : Reply) × (mid : State) × (rest : List ℕ) × Step old c.1 r mid × Tells mid cs rest new × (text ≡ data_line_text (line_tokens c.0 c.1 r old mid) ++ rest)
 
 -- The data of a trace.
-pub record IsData (script : Script) (text : List ℕ) : Type 0 where
+pub record IsScriptData (script : Script) (text : List ℕ) : Type 0 where
   pub last : State
   pub lines : List ℕ
   pub tells : Tells (first_state script.base script.pages) script.commands lines last
-  pub text_is : text ≡ line_text (heap_tokens script.base script.pages) ++ (lines ++ line_text (end_tokens last))
+  pub text_is : text ≡ data_line_text (heap_tokens script.base script.pages) ++ (lines ++ data_line_text (end_tokens last))
 
 -- The data of the trace that a text is.
 pub record IsDataOf (text told : List ℕ) : Type 0 where
   pub script : Script
   pub trace : trace_of text ≡ Ok script
-  pub is_data : IsData script told
+  pub is_data : IsScriptData script told

@@ -2,7 +2,7 @@
 use Rattle.std.specs.Prelude.{ℕ, ◌&&◌, ◌==◌, nat_lt, ◌-◌, ◌*◌, ◌<◌, ◌≤◌, ◌≡◌, Bool, false, true, not, List, [], ◌∷◌, ◌++◌, Option, Some, None, codes, filter, if◌then◌else◌, length, slice_index_or}
 use Rattle.json.specs.Token.{Token, begin_object, end_object, key}
 use Rattle.state_text.specs.Taken.{is_register_taken, is_tag_gone, taken_tokens}
-use Rattle.cap_codec.specs.Words.{bounds_in}
+use Rattle.cap_codec.specs.Words.{base_of}
 use Rattle.heap_core.specs.Blocks.{Span, blocks_with, has_bounds}
 use Rattle.heap_machine.specs.State.{State, register}
 use Rattle.heap_machine.specs.Safety.{IsSafe}
@@ -17,7 +17,7 @@ use Rattle.state_text.specs.Blocks.{told_blocks}
 use Rattle.state_text.specs.Changes.{below, change_tokens, registers_tokens, tag_change}
 use Rattle.state_text.specs.Line.{list_tokens}
 use Rattle.state_text.specs.Spans.{spans_of}
-use Rattle.state_text.specs.States.{Tells, line_text, line_tokens, parts_tokens, tells_pass, tells_registers}
+use Rattle.state_text.specs.States.{Tells, data_line_text, line_tokens, parts_tokens, tells_pass, tells_registers}
 use Rattle.state_text.specs.declared.seen.Before.{Before}
 use Rattle.state_text.specs.declared.seen.Seen.{Seen}
 
@@ -49,7 +49,7 @@ written s End = None
 -- Where a block starts that a command may give up: the base of a register's bounds.
 abbrev pub given_up : State → Command → ℕ
 given_up s (Malloc rd size) = 0
-given_up s (Free rs) = (bounds_in (register s rs).0).base
+given_up s (Free rs) = base_of (register s rs).0
 given_up s (Copy rd rs) = 0
 given_up s (SetAddr rd rs address) = 0
 given_up s (Narrow rd rs length) = 0
@@ -206,7 +206,7 @@ pub record Records (old : State) (n : ℕ) (c : Command) (new : State) (seen : S
   pub step : Step old c reply new
   pub safe : IsSafe new
   pub is_seen : IsSeen seen new
-  pub text : after ≡ before ++ line_text (line_tokens n c reply old new)
+  pub text : after ≡ before ++ data_line_text (line_tokens n c reply old new)
 
 -- These commands were done, from the first state to this one; their lines were added to the text; and this is seen now.
 pub record Recorded (first : State) (items : List (ℕ × Command)) (now : State) (seen : Seen) (before text : List ℕ) : Type 0 where

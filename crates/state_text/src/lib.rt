@@ -12,7 +12,5 @@ mod seen;
 mod spelling;
 mod taken;
 mod telling;
-#[cfg(test)]
-mod tests;
 
 pub use crate::recording::states;

@@ -5,7 +5,7 @@ ghost use Rattle.tag_memory.specs.Cells.{null_cell};
 ghost use Rattle.heap_machine.specs.Safety.{IsSafe};
 ghost use Rattle.heap_machine.specs.State.{tags_of};
 ghost use Rattle.state_text.specs.Line.{added};
-ghost use Rattle.state_text.specs.States.{IsData, IsDataOf, Tells, end_numbers, end_tokens, heap_tokens, line_text};
+ghost use Rattle.state_text.specs.States.{IsScriptData, IsDataOf, Tells, end_numbers, end_tokens, heap_tokens, data_line_text};
 ghost use Rattle.state_text.specs.Told.{HasOrder, IsSeen, Records, told_tokens};
 ghost use Rattle.trace_text.specs.Command.{IsListed, IsValid};
 ghost use Rattle.trace_text.specs.Heap.{IsHeap};
@@ -35,7 +35,7 @@ struct Lines {
 // The data with the line's JSON and a line feed after it.
 fn with_line(text: Vec<u8>, line: DataLine) -> Result<Lines, AllocError>
     requires { line.before ≡ [] }
-    ensures { IfOk result (λ lines. lines.text.items ≡ text.items ++ line_text line.tokens) }
+    ensures { IfOk result (λ lines. lines.text.items ≡ text.items ++ data_line_text line.tokens) }
 {
     let mut text = text;
     let mut room = line.finish();
@@ -58,7 +58,7 @@ fn told(
     requires tags { 64 * length seen.now.tags.items ≡ length machine.now.state.cells }
     requires inside { IfSome before.granule (λ at. at.0 < length machine.now.state.cells) }
     requires order { HasOrder of.2 }
-    ensures { IfOk result (λ told. told.text.items ≡ so_far.text.items ++ line_text (told_tokens of.0 of.1 of.2 seen.now before machine.now.state.registers machine.now.state.cells)) }
+    ensures { IfOk result (λ told. told.text.items ≡ so_far.text.items ++ data_line_text (told_tokens of.0 of.1 of.2 seen.now before machine.now.state.registers machine.now.state.cells)) }
 {
     let Lines { text, room } = so_far;
     let mut line = DataLine::within(room);
@@ -119,7 +119,7 @@ fn tell_commands<R: Threads + Sync>(
 
 // The line of the heap, as the first of the data.
 fn tell_heap(alloc: Global, base: u64, pages: u32) -> Result<Lines, AllocError>
-    ensures { IfOk result (λ told. told.text.items ≡ line_text (heap_tokens base pages)) }
+    ensures { IfOk result (λ told. told.text.items ≡ data_line_text (heap_tokens base pages)) }
 {
     let mut line = DataLine::within(Vec::new(alloc));
     line.open()?;
@@ -161,7 +161,7 @@ fn put_end_line(line: &mut DataLine, machine: &Machine) -> Result<(), AllocError
 
 // The data with the line of the end.
 fn tell_end(so_far: Lines, machine: &Machine) -> Result<Lines, AllocError>
-    ensures { IfOk result (λ told. told.text.items ≡ so_far.text.items ++ line_text (end_tokens machine.now.state)) }
+    ensures { IfOk result (λ told. told.text.items ≡ so_far.text.items ++ data_line_text (end_tokens machine.now.state)) }
 {
     let Lines { text, room } = so_far;
     let mut line = DataLine::within(room);
@@ -178,7 +178,7 @@ fn tell_trace<R: Threads + Sync>(
 ) -> Option<Vec<u8>>
     requires heap { IsHeap trace.now.base trace.now.pages }
     requires valid { All IsListed trace.now.commands.items }
-    ensures { IfSome result (λ text. IsData (script_of trace.now) text.items) }
+    ensures { IfSome result (λ text. IsScriptData (script_of trace.now) text.items) }
 {
     let Ok(mut machine) = Machine::new(alloc, trace.base, trace.pages, cutting) else {
         return None;

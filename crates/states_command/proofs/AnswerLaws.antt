@@ -3,7 +3,7 @@ use Rattle.std.proofs.Common.{◌≡◌, ◌≢◌, ℕ, sym, subst, List, Optio
 use Rattle.command_line.specs.declared.asked.Options.{Options}
 use Rattle.command_line.specs.declared.asked.Refusal.{Refusal}
 use Rattle.command_line.specs.declared.asked.Refusal.TheVariants.{Memory, Words}
-use Rattle.command_line.specs.Words.{NamesStates, Text}
+use Rattle.command_line.specs.Asked.{NamesStates, Text}
 use Rattle.heap_trace.specs.Reading.{trace_of}
 use Rattle.trace_text.specs.declared.fault.TraceFault.{TraceFault}
 use Rattle.trace_program.specs.declared.answer.Answer.{Answer}

@@ -1,7 +1,7 @@
 -- What the program answers: its exit status, and what it writes with it.
 use Rattle.std.specs.Prelude.{◌≡◌, ℕ, List, Option, Err, codes}
 use Rattle.command_line.specs.declared.asked.Options.{Options}
-use Rattle.command_line.specs.Words.{NamesStates, Text}
+use Rattle.command_line.specs.Asked.{NamesStates, Text}
 use Rattle.heap_trace.specs.Reading.{trace_of}
 use Rattle.state_text.specs.States.{IsDataOf}
 use Rattle.trace_program.specs.Answer.{line_of_fault, memory_line}

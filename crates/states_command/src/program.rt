@@ -3,7 +3,7 @@
 ghost use Rattle.std.specs.Prelude.{◌≡◌, ◌≢◌, ◌↔◌, ◌||◌, IfErr, IfOk, false, true};
 ghost use Rattle.std.specs.Io.KnownBytes.{Appends};
 ghost use Rattle.command_line.specs.declared.asked.Options.{Options as TheOptions};
-ghost use Rattle.command_line.specs.Words.{AreWithinLimits, NamesStates, texts};
+ghost use Rattle.command_line.specs.Asked.{AreWithinLimits, NamesStates, texts};
 ghost use Rattle.trace_program.specs.Answer.{BeginsAnswer, HasAnswered, refusal_line, refusal_status};
 ghost use Rattle.trace_program.specs.Device.{AppendsBeginning, ReadsFew, most_read};
 ghost use Rattle.states_command.specs.Answer.{IsAnswer, IsStatesAnswer, usage_line};

@@ -5,8 +5,8 @@ use Rattle.std.proofs.lemmas.List.Elements.{All-append, All-push, All-weaker}
 use Rattle.std.proofs.lemmas.Option.{get_or_from_slice_get, slice_get_within}
 use Rattle.mark_board.specs.Bits.{Apart, Within, united}
 use Rattle.mark_board.specs.Board.{SeatState}
-use Rattle.sweep_pool.specs.ClaimLaws.{Accounts-join, Accounts-more, HasRun-join, HasRun-next, each_once, times-hit}
-use Rattle.sweep_pool.specs.Claims.{Accounts, AreAllSwept, HasRun, IsDone, claimed}
+use Rattle.sweep_pool.specs.ClaimLaws.{Accounts-join, Accounts-more, HasAll-join, HasAll-next, each_once, times-hit}
+use Rattle.sweep_pool.specs.Claims.{Accounts, AreAllSwept, HasAll, IsDone, claimed}
 use Rattle.mark_board.specs.Bits.{has}
 use Rattle.sweep_pool.specs.Gather.{IsFaultOf, IsSized, IsSwept, times}
 use Rattle.sweep_pool.specs.Laws.{AreBits-words, below_of-IsTask}
@@ -19,12 +19,12 @@ use Rattle.tag_memory.specs.Cells.{MemoryState}
 -- What one more claimed task leaves.
 pub grown : (m : MemoryState) (shadow : List Bool) (c : Cut) (ws ws' saw saw' : List ℕ) (from next : ℕ) (list list' : List Swept) (s : Swept)
     → list' ≡ list ++ s ∷ [] → IsSwept m shadow c s → s.task / 64 < length ws → Within saw saw'
-    → All (IsSwept m shadow c) list → Accounts ws list → HasRun saw from next
-    → (has ws s.task ≡ 0) × (ws' ≡ claimed ws s.task) × HasRun saw' next (s.task + 1)
-    → All (IsSwept m shadow c) list' × Accounts ws' list' × HasRun saw' from (s.task + 1)
+    → All (IsSwept m shadow c) list → Accounts ws list → HasAll saw from next
+    → (has ws s.task ≡ 0) × (ws' ≡ claimed ws s.task) × HasAll saw' next (s.task + 1)
+    → All (IsSwept m shadow c) list' × Accounts ws' list' × HasAll saw' from (s.task + 1)
 grown m shadow c ws ws' saw saw' from next list list' s is swept inside more all accounts run got =
-    subst (λ (z : List Swept). All (IsSwept m shadow c) z × Accounts ws' z × HasRun saw' from (s.task + 1)) (sym is)
-    (All-push (IsSwept m shadow c) list s all swept, Accounts-more ws ws' list s inside got.0 got.1 accounts, HasRun-next saw saw' from next (s.task + 1) more run got.2)
+    subst (λ (z : List Swept). All (IsSwept m shadow c) z × Accounts ws' z × HasAll saw' from (s.task + 1)) (sym is)
+    (All-push (IsSwept m shadow c) list s all swept, Accounts-more ws ws' list s inside got.0 got.1 accounts, HasAll-next saw saw' from next (s.task + 1) more run got.2)
 
 -- Two lists with the seats that account for them.
 pub together : (m : MemoryState) (shadow : List Bool) (c : Cut) (tasks : ℕ) (a b both : SeatState) (xs ys zs : List Swept)
@@ -33,11 +33,11 @@ pub together : (m : MemoryState) (shadow : List Bool) (c : Cut) (tasks : ℕ) (a
 together m shadow c tasks a b both xs ys zs is apart mine seen one two =
     let swept : All (IsSwept m shadow c) (xs ++ ys) = All-append (IsSwept m shadow c) xs ys one.swept two.swept in
     let accounts : Accounts (united a.mine b.mine) (xs ++ ys) = Accounts-join a.mine b.mine xs ys apart one.accounts two.accounts in
-    let tried : HasRun (united a.seen b.seen) 0 tasks = HasRun-join a.seen b.seen 0 tasks one.tried in
+    let tried : HasAll (united a.seen b.seen) 0 tasks = HasAll-join a.seen b.seen 0 tasks one.tried in
     record {
       swept = subst (λ (z : List Swept). All (IsSwept m shadow c) z) (sym is) swept;
       accounts = subst (λ (z : List Swept). Accounts both.mine z) (sym is) (subst (λ (z : List ℕ). Accounts z (xs ++ ys)) (sym mine) accounts);
-      tried = subst (λ (z : List ℕ). HasRun z 0 tasks) (sym seen) tried;
+      tried = subst (λ (z : List ℕ). HasAll z 0 tasks) (sym seen) tried;
     }
 
 -- At the end the bits that are set are those claimed, and those seen: each task was claimed once.

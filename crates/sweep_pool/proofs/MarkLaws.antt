@@ -7,9 +7,9 @@ use Rattle.std.specs.Int.{bit_at, bit_not, w64}
 use Rattle.std.proofs.lemmas.Nat.{one_shl, div-add-mod', mod_below, and_comm}
 use Rattle.std.proofs.lemmas.Nat.Bits.{and_pow, bit_at-lt, bit_at_or, bit_at-pow_same}
 use Rattle.mark_board.specs.Bits.{Within, gains, without}
-use Rattle.mark_board.specs.Board.{BoardState, IsMask}
+use Rattle.mark_board.specs.Board.{BoardState, IsMaskOf}
 use Rattle.mark_board.specs.Laws.{bit-gains_same, gains-keep, gains-none, mask-one}
-use Rattle.sweep_pool.specs.Claims.{HasRun, claimed}
+use Rattle.sweep_pool.specs.Claims.{HasAll, claimed}
 use Rattle.mark_board.specs.Bits.{has}
 
 -- The mask of a task, as it is computed.
@@ -19,8 +19,8 @@ mask k = 1 * 2 ^ (k % 64) % 2 ^ 64
 pub mask_is : (k : ℕ) → mask k ≡ 2 ^ (k % 64)
 mask_is k = one_shl (k % 64) 64 (mod_below k 64 (omega arith))
 
-pub IsMask-task : (board : BoardState) (k : ℕ) → k < board.bits → IsMask board (k / 64) (mask k)
-IsMask-task board k below =
+pub IsMaskOf-task : (board : BoardState) (k : ℕ) → k < board.bits → IsMaskOf board (k / 64) (mask k)
+IsMaskOf-task board k below =
     let whole = div-add-mod' k 64 in
     subst (λ (z : ℕ). z < 2 ^ (board.bits - 64 * (k / 64))) (sym (mask_is k)) (mask-one board (k / 64) (k % 64) (omega arith))
 
@@ -38,7 +38,7 @@ won k found some_bit =
     e ∙ times_bit (bit_at x (k % 64)) m (bit_at-lt x (k % 64)) (λ z. some_bit (e ∙ z))
 
 -- A mark of task k adds it to a run that ends there.
-run_on : (ws : List ℕ) (a k found : ℕ) → k / 64 < length ws → HasRun ws a k → HasRun (gains ws (k / 64) (bit_or found (mask k))) a (k + 1)
+run_on : (ws : List ℕ) (a k found : ℕ) → k / 64 < length ws → HasAll ws a k → HasAll (gains ws (k / 64) (bit_or found (mask k))) a (k + 1)
 run_on ws a k found inside run j low high =
     let ws' : List ℕ = gains ws (k / 64) (bit_or found (mask k)) in
     dite (ℕ_discrete j k)
@@ -57,9 +57,9 @@ kept : (first ws : List ℕ) (k found : ℕ) → k / 64 < length ws → Within f
 kept first ws k found inside h i j = let a = h i j in let g = gains-keep ws (k / 64) (bit_or found (mask k)) i j inside in omega arith
 
 -- What the seat has seen after one more mark.
-pub saw : (first ws ws' : List ℕ) (a k found : ℕ) → k / 64 < length ws → ws' ≡ gains ws (k / 64) (bit_or found (mask k)) → Within first ws → HasRun ws a k
-    → Within first ws' × HasRun ws' a (k + 1)
-saw first ws ws' a k found inside is h run = subst (λ (z : List ℕ). Within first z × HasRun z a (k + 1)) (sym is) (kept first ws k found inside h, run_on ws a k found inside run)
+pub saw : (first ws ws' : List ℕ) (a k found : ℕ) → k / 64 < length ws → ws' ≡ gains ws (k / 64) (bit_or found (mask k)) → Within first ws → HasAll ws a k
+    → Within first ws' × HasAll ws' a (k + 1)
+saw first ws ws' a k found inside is h run = subst (λ (z : List ℕ). Within first z × HasAll z a (k + 1)) (sym is) (kept first ws k found inside h, run_on ws a k found inside run)
 
 -- A seat's own bits after a mark that answered something, and after one that answered nothing.
 pub took : (first ws ws' : List ℕ) (k found answer : ℕ) → ws ≡ first → answer ≡ without (mask k) found → ws' ≡ gains ws (k / 64) answer → answer ≢ 0 → ws' ≡ claimed first k

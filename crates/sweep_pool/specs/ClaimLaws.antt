@@ -8,7 +8,7 @@ use Rattle.std.proofs.lemmas.Nat.Bits.{bit_at-lt, bit_at-pow_other, bit_at-pow_s
 use Rattle.mark_board.specs.Bits.{Apart, Within, bit, united}
 use Rattle.mark_board.specs.Board.{BoardState, no_bits}
 use Rattle.mark_board.specs.Laws.{bit-gains_other, bit-gains_same, bit-none, bit-united}
-use Rattle.sweep_pool.specs.Claims.{Accounts, HasRun, claimed}
+use Rattle.sweep_pool.specs.Claims.{Accounts, HasAll, claimed}
 use Rattle.mark_board.specs.Bits.{has}
 use Rattle.sweep_pool.specs.Gather.{times}
 use Rattle.sweep_pool.specs.declared.task.Swept.{Swept}
@@ -74,21 +74,21 @@ Accounts-join a b xs ys apart h g k =
 -- ---- runs of bits
 
 -- Two runs, the second of them in a set that has all that the first is in.
-pub HasRun-next : (ws ws' : List ℕ) (a b c : ℕ) → Within ws ws' → HasRun ws a b → HasRun ws' b c → HasRun ws' a c
-HasRun-next ws ws' a b c more r s k low high = dite (dec_lt k b)
+pub HasAll-next : (ws ws' : List ℕ) (a b c : ℕ) → Within ws ws' → HasAll ws a b → HasAll ws' b c → HasAll ws' a c
+HasAll-next ws ws' a b c more r s k low high = dite (dec_lt k b)
     (λ h. let e = r k low h in let m = more (k / 64) (k % 64) in let l : has ws' k < 2 = bit_at-lt _ (k % 64) in omega arith)
     (λ n. s k (omega arith) high)
 
 -- Two seats joined.
-pub HasRun-join : (a b : List ℕ) (from to : ℕ) → HasRun a from to → HasRun (united a b) from to
-HasRun-join a b from to h k low high =
+pub HasAll-join : (a b : List ℕ) (from to : ℕ) → HasAll a from to → HasAll (united a b) from to
+HasAll-join a b from to h k low high =
     let r = h k low high in let u = bit-united a b (k / 64) (k % 64) in
     let l : has b k < 2 = bit_at-lt _ (k % 64) in omega arith
 
 -- ---- the end
 
 -- Once the set bits are those that the seat set, and those that it has seen, each task was claimed once.
-pub each_once : (tasks : ℕ) (words mine seen : List ℕ) (items : List Swept) → words ≡ mine → words ≡ seen → Accounts mine items → HasRun seen 0 tasks
+pub each_once : (tasks : ℕ) (words mine seen : List ℕ) (items : List Swept) → words ≡ mine → words ≡ seen → Accounts mine items → HasAll seen 0 tasks
     → ((k : ℕ) → times k items ≤ 1) × ((k : ℕ) → k < tasks → times k items ≡ 1)
 each_once tasks words mine seen items mine_is seen_is accounts run = (
   λ k. let a = accounts k in let l : has mine k < 2 = bit_at-lt _ (k % 64) in omega arith,

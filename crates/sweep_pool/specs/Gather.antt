@@ -6,7 +6,7 @@ use Rattle.sweep_pool.specs.declared.gathering.GatherFault.{GatherFault}
 use Rattle.sweep_pool.specs.declared.gathering.GatherFault.TheVariants.{Double, Memory, Missing, Stranger, WrongSize}
 use Rattle.sweep_pool.specs.declared.task.Swept.{Swept}
 use Rattle.tag_memory.specs.Cells.{MemoryState}
-use Rattle.tag_memory.specs.Span.{page_words}
+use Rattle.tag_memory.specs.Extent.{page_words}
 
 -- The item has the masks of its task.
 abbrev pub IsSwept : MemoryState → List Bool → Cut → Swept → Type 0
@@ -40,7 +40,7 @@ pub record AreGathered (c : Cut) (tasks pages : ℕ) (items : List Swept) (masks
   pub placed : All (IsPlaced c masks) items
 
 -- Item s stands in the list at a place before which nothing is wrong. `before` is what stands there.
-pub record IsFirst (c : Cut) (tasks pages : ℕ) (items before : List Swept) (s : Swept) : Type 0 where
+pub record IsFirstOf (c : Cut) (tasks pages : ℕ) (items before : List Swept) (s : Swept) : Type 0 where
   pub place : ℕ
   pub here : slice_get items place ≡ Some s
   pub before_it : before ≡ take place items
@@ -50,11 +50,11 @@ pub record IsFirst (c : Cut) (tasks pages : ℕ) (items before : List Swept) (s 
 -- then by its size. Where nothing is wrong with them, the least task that is missing is told.
 abbrev pub IsFaultOf : Cut → ℕ → ℕ → List Swept → GatherFault → Type 0
 IsFaultOf c tasks pages items Memory = Unit {0}
-IsFaultOf c tasks pages items (Stranger k) = (before : List Swept) × (s : Swept) × IsFirst c tasks pages items before s
+IsFaultOf c tasks pages items (Stranger k) = (before : List Swept) × (s : Swept) × IsFirstOf c tasks pages items before s
     × (s.task ≡ k) × (tasks ≤ k)
-IsFaultOf c tasks pages items (Double k) = (before : List Swept) × (s : Swept) × IsFirst c tasks pages items before s
+IsFaultOf c tasks pages items (Double k) = (before : List Swept) × (s : Swept) × IsFirstOf c tasks pages items before s
     × (s.task ≡ k) × (k < tasks) × (times k before ≡ 1)
-IsFaultOf c tasks pages items (WrongSize k) = (before : List Swept) × (s : Swept) × IsFirst c tasks pages items before s
+IsFaultOf c tasks pages items (WrongSize k) = (before : List Swept) × (s : Swept) × IsFirstOf c tasks pages items before s
     × (s.task ≡ k) × (k < tasks) × (times k before ≡ 0) × (length s.masks.items ≢ task_words c pages k)
 IsFaultOf c tasks pages items (Missing k) = AreSound c tasks pages items
     × (k < tasks) × (times k items ≡ 0) × ((j : ℕ) → j < k → times j items ≡ 1)

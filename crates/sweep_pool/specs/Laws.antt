@@ -1,6 +1,5 @@
 -- What callers of this crate need of tasks, and of masks by a heap's shadow.
-use Rattle.std.proofs.Common.{◌≡◌, ◌∙◌, ◌<◌, ◌≤◌, ◌+◌, ◌-◌, ◌*◌, ◌/◌, ◌^◌, ◌==◌, ◌&&◌, ℕ, Bool, false, true, inl, inr, List, length, get_or, refl, sym, ap, arith}
-use Rattle.std.specs.Prelude.{◌⊎◌}
+use Rattle.std.proofs.Common.{◌≡◌, ◌∙◌, ◌<◌, ◌+◌, ◌-◌, ◌*◌, ◌/◌, ◌^◌, ◌==◌, ◌&&◌, ℕ, Bool, false, true, inl, inr, List, length, get_or, refl, sym, ap, arith}
 use Rattle.std.proofs.Math.Decide.{dec_lt}
 use Rattle.std.proofs.lemmas.Bool.{cases_lt, le-leb, lt-leb}
 use Rattle.std.proofs.lemmas.Bool.Decides.{nat_tests}
@@ -18,7 +17,7 @@ use Rattle.heap_core.specs.Quarantine.{IsShadow}
 use Rattle.sweep_pool.specs.Sweep.{AreBits, AreDirtyMasks, AreInDirtyPages, AreMasks, ArePageMasks, IsShadowOf, TakePageTags, TakeTags, is_hit, is_hit_at, is_painted, takes_tag}
 use Rattle.sweep_pool.specs.Tasks.{Cut, IsTask, IsTaskCount}
 use Rattle.tag_memory.specs.Cells.{Cell, MemoryState, cell_of, is_dirty_at}
-use Rattle.tag_memory.specs.Span.{page_granules, page_words}
+use Rattle.tag_memory.specs.Extent.{page_granules, page_words}
 
 -- ---- tasks
 

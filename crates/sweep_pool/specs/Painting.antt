@@ -20,7 +20,7 @@ abbrev pub is_due_at : HeapState → ℕ → Bool
 is_due_at s k = lies_in (due s) (s.base + 16 * k)
 
 -- Share i, not yet painted: a seat with one part that has set nothing.
-pub record IsBlank (board : BoardState) (workers i : ℕ) (share : Share) : Type 0 where
+pub record IsUnpainted (board : BoardState) (workers i : ℕ) (share : Share) : Type 0 where
   pub number : share.number ≡ i
   pub few : i < workers
   pub seat : IsOf board share.seat

@@ -7,7 +7,7 @@ use Rattle.heap_core.specs.Blocks.{Span, lies_in}
 use Rattle.heap_core.specs.Heap.{HeapState, IsSound}
 use Rattle.heap_core.specs.Quarantine.{IsShadow}
 use Rattle.tag_memory.specs.Cells.{Cell, Granule, MemoryState, cell_of, is_dirty_at}
-use Rattle.tag_memory.specs.Span.{page_granules}
+use Rattle.tag_memory.specs.Extent.{page_granules}
 use Rattle.tag_memory.specs.Tags.{is_set_for}
 
 -- ---- what a sweep does
@@ -65,7 +65,7 @@ AreMasks m shadow masks = AreBits (is_hit_at m shadow) (length m.cells) masks
 
 -- The masks of the pages `from` to `end - 1`, of 256 granules each: a 1 for each granule that is hit.
 abbrev pub ArePageMasks : MemoryState → List Bool → ℕ → ℕ → List ℕ → Type 0
-ArePageMasks m shadow from end masks = AreBits (λ i. is_hit_at m shadow (256 * from + i)) (256 * (end - from)) masks
+ArePageMasks m shadow from end masks = AreBits (λ i. is_hit_at m shadow (page_granules * from + i)) (page_granules * (end - from)) masks
 
 -- So is granule i, in a dirty page.
 abbrev pub is_dirty_hit_at : MemoryState → List Bool → ℕ → Bool
@@ -93,7 +93,7 @@ TakeTags m held masks = AreBits (takes_tag_at m held) (length m.cells) masks
 
 -- The masks of the pages `from` to `end - 1`: a 1 for each granule whose tag the sweep takes.
 abbrev pub TakePageTags : MemoryState → List Span → ℕ → ℕ → List ℕ → Type 0
-TakePageTags m held from end masks = AreBits (λ i. takes_tag_at m held (256 * from + i)) (256 * (end - from)) masks
+TakePageTags m held from end masks = AreBits (λ i. takes_tag_at m held (page_granules * from + i)) (page_granules * (end - from)) masks
 
 -- ---- dirty pages
 

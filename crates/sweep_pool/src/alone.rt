@@ -2,6 +2,7 @@
 
 ghost use Rattle.std.specs.Prelude.{◌≡◌, ◌<◌, ◌≤◌, ◌+◌, ◌*◌, ◌/◌, ℕ, IfErr, IfOk, length};
 ghost use Rattle.sweep_pool.specs.Sweep.{AreMasks, is_hit_at};
+ghost use Rattle.tag_memory.specs.Extent.{page_granules, page_words};
 ghost use Rattle.tag_memory.specs.Tags.{is_set_for};
 
 use crate::cutting::Cutting;
@@ -15,11 +16,11 @@ use tag_memory::{Memory, PAGE_WORDS};
 // Makes the masks of the pages `from` to `end - 1`, where those before are made.
 fn fill_more(memory: &Memory, shadow: &Shadow, from: u32, end: u32, masks: &mut Vec<u64>)
     requires order { from ≤ end }
-    requires room { 4 * end ≤ length masks.old.items }
-    requires within { 256 * end ≤ length memory.now.cells }
-    requires before { (i : ℕ) → i / 256 < from → is_set_for masks.old.items i ≡ is_hit_at memory.now shadow.now i }
+    requires room { page_words * end ≤ length masks.old.items }
+    requires within { page_granules * end ≤ length memory.now.cells }
+    requires before { (i : ℕ) → i / page_granules < from → is_set_for masks.old.items i ≡ is_hit_at memory.now shadow.now i }
     ensures count { length masks.new.items ≡ length masks.old.items }
-    ensures done { (i : ℕ) → i / 256 < end → is_set_for masks.new.items i ≡ is_hit_at memory.now shadow.now i }
+    ensures done { (i : ℕ) → i / page_granules < end → is_set_for masks.new.items i ≡ is_hit_at memory.now shadow.now i }
 {
     for page in from..end {
         fill_page(memory, shadow, 0, page, masks);

@@ -1,9 +1,10 @@
 //! A sweep of the dirty pages of a memory, by the calling thread.
 
 ghost use Rattle.heap_core.specs.Heap.{HeapState, due};
-ghost use Rattle.std.specs.Prelude.{◌≡◌, ◌<◌, ◌≤◌, ◌+◌, ◌*◌, ◌/◌, ℕ, IfErr, IfOk, length, slice_index, true};
+ghost use Rattle.std.specs.Prelude.{◌≡◌, ◌<◌, ◌≤◌, ◌+◌, ◌*◌, ◌/◌, ◌↔◌, ℕ, IfErr, IfOk, false, length, slice_index, true};
 ghost use Rattle.sweep_pool.specs.Sweep.{AreDirtyMasks, AreInDirtyPages, IsShadowOf, TakeTags, is_dirty_hit_at};
 ghost use Rattle.tag_memory.specs.Cells.{is_dirty_at};
+ghost use Rattle.tag_memory.specs.Extent.{page_granules, page_words};
 ghost use Rattle.tag_memory.specs.Tags.{is_set_for};
 
 use crate::cutting::Cutting;
@@ -17,14 +18,14 @@ use tag_memory::{Memory, PAGE_WORDS};
 
 // Makes the masks of a dirty page, where those of the pages before are made, and those from it on are 0.
 fn fill_dirty_page(memory: &Memory, shadow: &Shadow, page: u32, masks: &mut Vec<u64>)
-    requires room { 4 * page + 4 ≤ length masks.old.items }
-    requires within { 256 * page + 256 ≤ length memory.now.cells }
+    requires room { page_words * page + page_words ≤ length masks.old.items }
+    requires within { page_granules * page + page_granules ≤ length memory.now.cells }
     requires dirty { is_dirty_at memory.now.dirty page ≡ true }
-    requires before { (i : ℕ) → i / 256 < page → is_set_for masks.old.items i ≡ is_dirty_hit_at memory.now shadow.now i }
-    requires rest { (w : ℕ) → 4 * page ≤ w → slice_index masks.old.items w ≡ 0 }
+    requires before { (i : ℕ) → i / page_granules < page → is_set_for masks.old.items i ≡ is_dirty_hit_at memory.now shadow.now i }
+    requires rest { (w : ℕ) → page_words * page ≤ w → slice_index masks.old.items w ≡ 0 }
     ensures count { length masks.new.items ≡ length masks.old.items }
-    ensures done { (i : ℕ) → i / 256 < page + 1 → is_set_for masks.new.items i ≡ is_dirty_hit_at memory.now shadow.now i }
-    ensures rest { (w : ℕ) → 4 * page + 4 ≤ w → slice_index masks.new.items w ≡ 0 }
+    ensures done { (i : ℕ) → i / page_granules < page + 1 → is_set_for masks.new.items i ≡ is_dirty_hit_at memory.now shadow.now i }
+    ensures rest { (w : ℕ) → page_words * page + page_words ≤ w → slice_index masks.new.items w ≡ 0 }
 {
     let may_hold = memory.may_hold_tags(page);
     let at = PAGE_WORDS * page as usize;
@@ -37,13 +38,14 @@ fn fill_dirty_page(memory: &Memory, shadow: &Shadow, page: u32, masks: &mut Vec<
 // whether one of the pages is dirty.
 fn fill_dirty(memory: &Memory, shadow: &Shadow, from: u32, end: u32, masks: &mut Vec<u64>) -> bool
     requires order { from ≤ end }
-    requires room { 4 * end ≤ length masks.old.items }
-    requires within { 256 * end ≤ length memory.now.cells }
-    requires before { (i : ℕ) → i / 256 < from → is_set_for masks.old.items i ≡ is_dirty_hit_at memory.now shadow.now i }
-    requires rest { (w : ℕ) → 4 * from ≤ w → slice_index masks.old.items w ≡ 0 }
+    requires room { page_words * end ≤ length masks.old.items }
+    requires within { page_granules * end ≤ length memory.now.cells }
+    requires before { (i : ℕ) → i / page_granules < from → is_set_for masks.old.items i ≡ is_dirty_hit_at memory.now shadow.now i }
+    requires rest { (w : ℕ) → page_words * from ≤ w → slice_index masks.old.items w ≡ 0 }
     ensures count { length masks.new.items ≡ length masks.old.items }
-    ensures done { (i : ℕ) → i / 256 < end → is_set_for masks.new.items i ≡ is_dirty_hit_at memory.now shadow.now i }
-    ensures rest { (w : ℕ) → 4 * end ≤ w → slice_index masks.new.items w ≡ 0 }
+    ensures done { (i : ℕ) → i / page_granules < end → is_set_for masks.new.items i ≡ is_dirty_hit_at memory.now shadow.now i }
+    ensures rest { (w : ℕ) → page_words * end ≤ w → slice_index masks.new.items w ≡ 0 }
+    ensures dirty { (result ≡ false) ↔ ((page : ℕ) → from ≤ page → page < end → is_dirty_at memory.now.dirty page ≡ false) }
 {
     let mut some = false;
     for page in from..end {

@@ -5,7 +5,7 @@ ghost use Rattle.heap_core.specs.Painting.{is_in_due};
 ghost use Rattle.heap_core.specs.Quarantine.{IsShadow};
 ghost use Rattle.mark_board.specs.Board.{IsOf, IsSeat, first_seat, no_bits};
 ghost use Rattle.std.specs.Prelude.{◌≡◌, ◌<◌, ◌≤◌, ◌+◌, ◌*◌, ◌/◌, IfErr, IfOk, length, vec_len};
-ghost use Rattle.sweep_pool.specs.Painting.{EachAt, HasGranules, HasPainted, IsBlank, IsPaintedShare, share_start};
+ghost use Rattle.sweep_pool.specs.Painting.{EachAt, HasGranules, HasPainted, IsUnpainted, IsPaintedShare, share_start};
 
 use crate::cutting::Cutting;
 use crate::gate::Gate;
@@ -47,6 +47,7 @@ pub fn paint_shadow<R: Threads + Sync, G: Gate + Sync>(
     ensures shadow { IfOk result (IsShadow heap.now) }
     ensures err { IfErr result (λ fault. fault ≡ SweepFault.Memory) }
 {
+    cutting.whole();
     let workers = cutting.workers();
     if workers == 1 {
         let shadow = copied(alloc, heap)?;
@@ -104,6 +105,7 @@ fn board_for(alloc: Global, heap: &Heap, workers: u32) -> Result<(Board, MarkSea
     ensures sound { IfOk result (λ made. IsSeat made.1) }
     ensures err { IfErr result (λ fault. fault ≡ SweepFault.Memory) }
 {
+    heap.whole();
     match Board::new(alloc, heap.granules() as u32, workers) {
         Ok(made) => Ok(made),
         Err(fault) => match fault {
@@ -126,7 +128,7 @@ fn deal(
     requires none { seat.mine ≡ no_bits board.now }
     requires sound { IsSeat seat }
     ensures count { IfOk result (λ shares. vec_len shares ≡ workers) }
-    ensures blank { IfOk result (λ shares. EachAt (IsBlank board.now workers) shares.items) }
+    ensures blank { IfOk result (λ shares. EachAt (IsUnpainted board.now workers) shares.items) }
     ensures err { IfErr result (λ fault. fault ≡ SweepFault.Memory) }
 {
     let mut shares = Vec::with_capacity(alloc, workers as usize)?;
@@ -165,7 +167,7 @@ fn share_of(number: u32, workers: u32, blocks: usize) -> (usize, usize)
 
 // What one worker does.
 fn painted_by<G: Gate>(painting: &Painting<'_, G>, share: Share) -> MarkSeat
-    requires blank { IsBlank painting.now.board.now painting.now.workers share.number share }
+    requires blank { IsUnpainted painting.now.board.now painting.now.workers share.number share }
     requires granules { HasGranules painting.now.heap.now painting.now.board.now }
     requires most { painting.now.workers ≤ 64 }
     ensures { IsPaintedShare painting.now.heap.now painting.now.board.now painting.now.workers share.number result }
@@ -183,7 +185,7 @@ fn painted<R: Threads + Sync, G: Gate + Sync>(
     painting: &Painting<'_, G>,
     shares: Vec<Share>,
 ) -> Result<Vec<MarkSeat>, AllocError>
-    requires blank { EachAt (IsBlank painting.now.board.now painting.now.workers) shares.items }
+    requires blank { EachAt (IsUnpainted painting.now.board.now painting.now.workers) shares.items }
     requires granules { HasGranules painting.now.heap.now painting.now.board.now }
     requires most { painting.now.workers ≤ 64 }
     ensures count { IfOk result (λ seats. vec_len seats ≡ vec_len shares) }
@@ -222,5 +224,6 @@ fn finished(alloc: Global, heap: &Heap, board: Board, seat: MarkSeat) -> Result<
     let Ok(words) = board.finish(alloc, seat) else {
         return Err(SweepFault::Memory);
     };
+    heap.whole();
     Ok(Shadow::from_words(words, heap.granules()))
 }

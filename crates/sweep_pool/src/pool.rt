@@ -92,6 +92,7 @@ fn workers_for(memory: &Memory, cutting: &Cutting) -> u32
     ensures most { result ≤ 64 }
 {
     let tasks = tasks_of(memory, cutting);
+    cutting.whole();
     cutting.workers().min(tasks)
 }
 

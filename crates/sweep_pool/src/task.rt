@@ -5,6 +5,7 @@ ghost use Rattle.std.specs.Prelude.{◌≡◌, ◌<◌, ◌≤◌, ◌+◌, ◌-
 ghost use Rattle.sweep_pool.specs.Gather.{IsSwept};
 ghost use Rattle.sweep_pool.specs.Sweep.{IsShadowOf, TakePageTags, is_hit_at};
 ghost use Rattle.sweep_pool.specs.Tasks.{IsTask, end_page, first_page, page_count, task_words};
+ghost use Rattle.tag_memory.specs.Extent.{page_granules, page_words};
 ghost use Rattle.tag_memory.specs.Tags.{is_set_for};
 
 use crate::cutting::Cutting;
@@ -69,11 +70,11 @@ pub(crate) fn fill_page(
     masks: &mut Vec<u64>,
 )
     requires order { first ≤ page }
-    requires room { 4 * (page - first) + 4 ≤ length masks.old.items }
-    requires within { 256 * page + 256 ≤ length memory.now.cells }
-    requires before { (i : ℕ) → i / 256 < page - first → is_set_for masks.old.items i ≡ is_hit_at memory.now shadow.now (256 * first + i) }
+    requires room { page_words * (page - first) + page_words ≤ length masks.old.items }
+    requires within { page_granules * page + page_granules ≤ length memory.now.cells }
+    requires before { (i : ℕ) → i / page_granules < page - first → is_set_for masks.old.items i ≡ is_hit_at memory.now shadow.now (page_granules * first + i) }
     ensures count { length masks.new.items ≡ length masks.old.items }
-    ensures done { (i : ℕ) → i / 256 < page + 1 - first → is_set_for masks.new.items i ≡ is_hit_at memory.now shadow.now (256 * first + i) }
+    ensures done { (i : ℕ) → i / page_granules < page + 1 - first → is_set_for masks.new.items i ≡ is_hit_at memory.now shadow.now (page_granules * first + i) }
 {
     let may_hold = memory.may_hold_tags(page);
     let at = PAGE_WORDS * (page - first) as usize;

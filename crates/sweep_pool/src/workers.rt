@@ -2,7 +2,7 @@
 
 ghost use Rattle.mark_board.specs.Board.{IsOf, IsSeat, no_bits};
 ghost use Rattle.std.specs.Prelude.{◌≡◌, ◌<◌, ◌≤◌, ◌+◌, All, IfErr, IfOk, OnOk, vec_len};
-ghost use Rattle.sweep_pool.specs.Claims.{Accounts, HasRun, HasTasks, IsDone};
+ghost use Rattle.sweep_pool.specs.Claims.{Accounts, HasAll, HasTasks, IsDone};
 ghost use Rattle.sweep_pool.specs.Gather.{IsSwept};
 ghost use Rattle.sweep_pool.specs.Work.{IsJob, IsWork};
 
@@ -67,7 +67,7 @@ fn sweep_from<G: Gate>(
     ensures parts { seat.new.parts ≡ seat.old.parts }
     ensures swept { OnOk result (All (IsSwept shared.now.memory.now shared.now.shadow.now shared.now.cutting.now) found.new.items) }
     ensures accounts { OnOk result (Accounts seat.new.mine found.new.items) }
-    ensures tried { OnOk result (HasRun seat.new.seen from shared.now.board.now.bits) }
+    ensures tried { OnOk result (HasAll seat.new.seen from shared.now.board.now.bits) }
     ensures sound { IsSeat seat.new }
     ensures err { IfErr result (λ fault. fault ≡ SweepFault.Memory) }
 {
@@ -159,6 +159,7 @@ pub(crate) fn deal(
     ensures jobs { IfOk result (λ jobs. All (IsJob board.now) jobs.items) }
     ensures err { IfErr result (λ fault. fault ≡ SweepFault.Memory) }
 {
+    board.whole();
     let tasks = board.bits();
     let mut jobs = Vec::with_capacity(alloc, workers as usize)?;
     let mut rest = seat;

@@ -8,13 +8,13 @@ use Rattle.std.proofs.lemmas.List.{get_or_past, get_or_read, take_all}
 use Rattle.std.proofs.lemmas.List.Elements.{All-from_get_or}
 use Rattle.std.proofs.lemmas.Nat.{and_le_r, div_below}
 use Rattle.std.proofs.lemmas.Option.{slice_get-get_or}
-use Rattle.tag_memory.specs.Cells.{AreUntagged, Granule, IsMemory, MemoryState, is_dirty_at, marked, may_hold_at}
+use Rattle.tag_memory.specs.Cells.{AreUntagged, Granule, IsMemory, MemoryState, is_dirty_at, marks_after, may_hold_at}
 use Rattle.tag_memory.specs.Tags.{AreBlank, HasTag, granules_of, is_set, is_set_for, is_tagged, tag_word, without_tags}
 use Rattle.tag_memory.specs.declared.memory.Memory.TheInside.{Inside}
 use Rattle.tag_memory.specs.contracts.memory.Memory.{the_view, the_invariant}
 use Rattle.tag_memory.proofs.PageLaws.{blank-marked, blank-unmarked, marks_by, untagged_by}
 use Rattle.tag_memory.proofs.TagLaws.{length-granules_of, get_or-granules_of, granules_of-set, is_set-granules_of, tag_word-granules_of, count_more, without_tags-granules_of}
-use Rattle.tag_memory.proofs.TakenLaws.{AreTaken, blank-taken, some-taken}
+use Rattle.tag_memory.proofs.TakenLaws.{ArePageTagsTaken, blank-taken, some-taken}
 
 -- A memory with these fields is seen as this state.
 pub record Packs (m : Inside) (state : MemoryState) : Type 0 where
@@ -26,7 +26,7 @@ cells p = ap (λ (s : MemoryState). s.cells) p.view
 
 -- how many granules there are
 pub count : {m : Inside} {state : MemoryState} → Packs m state → length state.cells ≡ 256 * m.pages
-count {m = m} p = ap length (sym (cells p)) ∙ (length-granules_of m.bits.items m.tags.items ∙ p.invariant.0)
+count {m = m} p = ap length (sym (cells p)) ∙ (length-granules_of m.bits.items m.tags.items ∙ p.invariant.granules)
 
 abbrev has_128_bits : Granule → Type 0
 has_128_bits granule = granule.0 < 2 ^ 128
@@ -36,7 +36,7 @@ numbers : {m : Inside} {state : MemoryState} → Packs m state → All has_128_b
 numbers {m = m} p =
     let below = λ (i : ℕ) (h : i < length (granules_of m.bits.items m.tags.items)).
     let at : i < length m.bits.items = omega (arith, h, length-granules_of m.bits.items m.tags.items) in
-    subst has_128_bits (sym (get_or-granules_of m.bits.items m.tags.items i at)) (p.invariant.4 i 0 at) in
+    subst has_128_bits (sym (get_or-granules_of m.bits.items m.tags.items i at)) (p.invariant.numbers i 0 at) in
     subst (All has_128_bits) (cells p) (All-from_get_or has_128_bits _ (0, false) below)
 
 -- which pages may hold tags
@@ -44,11 +44,11 @@ marks : {m : Inside} {state : MemoryState} → Packs m state → m.may_hold.item
 marks p = ap (λ (s : MemoryState). s.may_hold) p.view
 
 pub marks_count : {m : Inside} {state : MemoryState} → Packs m state → length state.may_hold ≡ m.pages
-marks_count p = ap length (sym (marks p)) ∙ p.invariant.5
+marks_count p = ap length (sym (marks p)) ∙ p.invariant.marks
 
 pub untagged : {m : Inside} {state : MemoryState} → Packs m state → AreUntagged state.cells state.may_hold
 untagged {m = m} {state = state} p =
-    let of_fields : AreUntagged (granules_of m.bits.items m.tags.items) m.may_hold.items = untagged_by m.bits.items m.tags.items m.may_hold.items p.invariant.6 in
+    let of_fields : AreUntagged (granules_of m.bits.items m.tags.items) m.may_hold.items = untagged_by m.bits.items m.tags.items m.may_hold.items p.invariant.blank in
     subst (λ (marks : List Bool). AreUntagged state.cells marks) (marks p)
     (subst (λ (granules : List Granule). AreUntagged granules m.may_hold.items) (cells p) of_fields)
 
@@ -63,7 +63,7 @@ dirt : {m : Inside} {state : MemoryState} → Packs m state → m.dirty.items �
 dirt p = ap (λ (s : MemoryState). s.dirty) p.view
 
 pub dirty_count : {m : Inside} {state : MemoryState} → Packs m state → length state.dirty ≡ m.pages
-dirty_count p = ap length (sym (dirt p)) ∙ p.invariant.7
+dirty_count p = ap length (sym (dirt p)) ∙ p.invariant.dirty_marks
 
 -- whether one is, read
 pub dirty_at : {m : Inside} {state : MemoryState} → Packs m state → (page : ℕ) (read : Bool) → 256 * page < length state.cells → read ≡ get_or m.dirty.items page read
@@ -79,8 +79,8 @@ whole {m = m} p = record {
   marks = marks_count p;
   dirty_marks = dirty_count p;
   untagged = untagged p;
-  size = p.invariant.2;
-  place = rw (← (ap (λ (s : MemoryState). s.base) p.view)) p.invariant.3;
+  size = p.invariant.size;
+  place = rw (← (ap (λ (s : MemoryState). s.base) p.view)) p.invariant.place;
   numbers = numbers p;
 }
 
@@ -161,7 +161,7 @@ cleared {m = m} p masks kept new h fits same each =
 
 -- how many granules there are then
 pub cleared_count : {m : Inside} {state : MemoryState} → Packs m state → (kept new : List ℕ) → kept ≡ m.bits.items → length (granules_of kept new) ≡ length state.cells
-cleared_count p kept new same = length-granules_of kept new ∙ (ap length same ∙ (p.invariant.0 ∙ sym (count p)))
+cleared_count p kept new same = length-granules_of kept new ∙ (ap length same ∙ (p.invariant.granules ∙ sym (count p)))
 
 -- ---- a granule written, and its page
 
@@ -172,7 +172,7 @@ page_place {m = m} p i h = omega (arith, count p, p.invariant, h)
 -- what holds of the fields then
 pub put_marked : {m : Inside} {state : MemoryState} → Packs m state → (i word : ℕ) → i < length state.cells
     → AreBlank (set m.tags.items (i / 64) word) (set m.may_hold.items (i / 256) true)
-put_marked {m = m} p i word h = blank-marked m.tags.items m.may_hold.items i word (page_place p i h) p.invariant.6
+put_marked {m = m} p i word h = blank-marked m.tags.items m.may_hold.items i word (page_place p i h) p.invariant.blank
 
 pub put_unmarked : {m : Inside} {state : MemoryState} → Packs m state → (i word old : ℕ) (tag : Bool) → i < length state.cells → word < 2 ^ 64 → old ≡ get_or m.tags.items (i / 64) old → tag ≡ false
     → ((j : ℕ) → j < 64 → is_set word j ≡ (if j == i % 64 then tag else is_set old j))
@@ -182,28 +182,28 @@ put_unmarked {m = m} p i word old tag h fits e off each =
     let old_is : old ≡ get_or m.tags.items (i / 64) 0 = get_or_read m.tags.items (i / 64) old at.1 e 0 in
     let bits : (j : ℕ) → j < 64 → is_set word j ≡ (if j == i % 64 then false else is_set (get_or m.tags.items (i / 64) 0) j) =
     λ j below. each j below ∙ (λ k. if j == i % 64 then off k else is_set (old_is k) j) in
-    blank-unmarked m.tags.items m.may_hold.items i word fits at.1 bits p.invariant.6
+    blank-unmarked m.tags.items m.may_hold.items i word fits at.1 bits p.invariant.blank
 
 -- which pages may hold tags then
-pub put_mark : {m : Inside} {state : MemoryState} → Packs m state → (i : ℕ) (tag : Bool) → tag ≡ true → set m.may_hold.items (i / 256) true ≡ marked state.may_hold i tag
-put_mark {state = state} p i tag on = ap (λ (pages : List Bool). set pages (i / 256) true) (marks p) ∙ ap (marked state.may_hold i) (sym on)
+pub put_mark : {m : Inside} {state : MemoryState} → Packs m state → (i : ℕ) (tag : Bool) → tag ≡ true → set m.may_hold.items (i / 256) true ≡ marks_after state.may_hold i tag
+put_mark {state = state} p i tag on = ap (λ (pages : List Bool). set pages (i / 256) true) (marks p) ∙ ap (marks_after state.may_hold i) (sym on)
 
-pub put_no_mark : {m : Inside} {state : MemoryState} → Packs m state → (i : ℕ) (tag : Bool) → tag ≡ false → m.may_hold.items ≡ marked state.may_hold i tag
-put_no_mark {state = state} p i tag off = marks p ∙ ap (marked state.may_hold i) (sym off)
+pub put_no_mark : {m : Inside} {state : MemoryState} → Packs m state → (i : ℕ) (tag : Bool) → tag ≡ false → m.may_hold.items ≡ marks_after state.may_hold i tag
+put_no_mark {state = state} p i tag off = marks p ∙ ap (marks_after state.may_hold i) (sym off)
 
 -- which are dirty then
-pub put_dirt : {m : Inside} {state : MemoryState} → Packs m state → (i : ℕ) (tag : Bool) → tag ≡ true → set m.dirty.items (i / 256) true ≡ marked state.dirty i tag
-put_dirt {state = state} p i tag on = ap (λ (pages : List Bool). set pages (i / 256) true) (dirt p) ∙ ap (marked state.dirty i) (sym on)
+pub put_dirt : {m : Inside} {state : MemoryState} → Packs m state → (i : ℕ) (tag : Bool) → tag ≡ true → set m.dirty.items (i / 256) true ≡ marks_after state.dirty i tag
+put_dirt {state = state} p i tag on = ap (λ (pages : List Bool). set pages (i / 256) true) (dirt p) ∙ ap (marks_after state.dirty i) (sym on)
 
-pub put_no_dirt : {m : Inside} {state : MemoryState} → Packs m state → (i : ℕ) (tag : Bool) → tag ≡ false → m.dirty.items ≡ marked state.dirty i tag
-put_no_dirt {state = state} p i tag off = dirt p ∙ ap (marked state.dirty i) (sym off)
+pub put_no_dirt : {m : Inside} {state : MemoryState} → Packs m state → (i : ℕ) (tag : Bool) → tag ≡ false → m.dirty.items ≡ marks_after state.dirty i tag
+put_no_dirt {state = state} p i tag off = dirt p ∙ ap (marks_after state.dirty i) (sym off)
 
 -- ---- the tags of masks taken
 
 -- what was taken of all pages
-module _ {m : Inside} {state : MemoryState} (p : Packs m state) {masks after : List ℕ} {left : List Bool} {page : ℕ} (t : AreTaken masks m.tags.items after m.may_hold.items left page) (all : length left ≤ page) where
+module _ {m : Inside} {state : MemoryState} (p : Packs m state) {masks after : List ℕ} {left : List Bool} {page : ℕ} (t : ArePageTagsTaken masks m.tags.items after m.may_hold.items left page) (all : length left ≤ page) where
   pub taken_blank : AreBlank after left
-  taken_blank = blank-taken t all (p.invariant.1 ∙ ap (λ (n : ℕ). 4 * n) (sym p.invariant.5))
+  taken_blank = blank-taken t all (p.invariant.words ∙ ap (λ (n : ℕ). 4 * n) (sym p.invariant.marks))
 
   pub taken_word : (w : ℕ) → w < length m.tags.items → get_or after w 0 ≡ bit_and (get_or m.tags.items w 0) (bit_not w64 (get_or masks w 0))
   taken_word w h = t.done w (omega (arith, h, all, t.marks, p.invariant))

@@ -8,7 +8,7 @@ use Rattle.tag_memory.specs.Tags.{AreBlank, HasWord, IsBlank}
 
 -- Of the pages before this one the tags of the masks are taken, and each is marked just where one of its tags is
 -- left. The rest is as before.
-pub record AreTaken (masks before after : List ℕ) (held left : List Bool) (page : ℕ) : Type 0 where
+pub record ArePageTagsTaken (masks before after : List ℕ) (held left : List Bool) (page : ℕ) : Type 0 where
   pub count : length after ≡ length before
   pub marks : length left ≡ length held
   pub done : (w : ℕ) → w / 4 < page → get_or after w 0 ≡ bit_and (get_or before w 0) (bit_not w64 (get_or masks w 0))
@@ -17,7 +17,7 @@ pub record AreTaken (masks before after : List ℕ) (held left : List Bool) (pag
   pub none : (p : ℕ) → p < page → may_hold_at left p ≡ false → IsBlank after p
   pub some : (p : ℕ) → p < page → may_hold_at left p ≡ true → HasWord after p
 
-pub taken-none : (masks before : List ℕ) (held : List Bool) → AreTaken masks before before held held 0
+pub taken-none : (masks before : List ℕ) (held : List Bool) → ArePageTagsTaken masks before before held held 0
 taken-none masks before held = record {
   count = refl;
   marks = refl;
@@ -38,13 +38,13 @@ same_word {page = page} next rest p below has = record {
 }
 
 -- One page more.
-pub taken-more : {masks before after : List ℕ} {held left : List Bool} {page : ℕ} → AreTaken masks before after held left page → (next : List ℕ) (answer : Bool) → page < length held
+pub taken-more : {masks before after : List ℕ} {held left : List Bool} {page : ℕ} → ArePageTagsTaken masks before after held left page → (next : List ℕ) (answer : Bool) → page < length held
     → length next ≡ length after
     → ((w : ℕ) → w / 4 ≡ page → get_or next w 0 ≡ bit_and (get_or after w 0) (bit_not w64 (get_or masks w 0)))
     → ((w : ℕ) → w / 4 ≢ page → get_or next w 0 ≡ get_or after w 0)
     → (answer ≡ false → IsBlank next page)
     → (answer ≡ true → HasWord next page)
-    → AreTaken masks before next held (set left page answer) (page + 1)
+    → ArePageTagsTaken masks before next held (set left page answer) (page + 1)
 taken-more {masks = masks} {before = before} {after = after} {held = held} {left = left} {page = page} t next answer inside count words rest none some =
     let here : may_hold_at (set left page answer) page ≡ answer = get_or-set_same left page answer false (omega (arith, inside, t.marks)) in
     let other = λ (p : ℕ) (apart : p ≢ page). get_or-set_other left page p answer false apart in
@@ -74,7 +74,7 @@ taken-more {masks = masks} {before = before} {after = after} {held = held} {left
     }
 
 -- Where all pages are done, those that may hold no tags have none.
-pub blank-taken : {masks before after : List ℕ} {held left : List Bool} {page : ℕ} → AreTaken masks before after held left page → length left ≤ page → length before ≡ 4 * length held → AreBlank after left
+pub blank-taken : {masks before after : List ℕ} {held left : List Bool} {page : ℕ} → ArePageTagsTaken masks before after held left page → length left ≤ page → length before ≡ 4 * length held → AreBlank after left
 unfolding AreBlank
 blank-taken {after = after} {page = page} t all long p unmarked w of_page = elim (cases_lt p page) [
   | inl below ↦ t.none p below unmarked w of_page
@@ -82,14 +82,14 @@ blank-taken {after = after} {page = page} t all long p unmarked w of_page = elim
 ]
 
 -- And those that may hold some have one.
-pub some-taken : {masks before after : List ℕ} {held left : List Bool} {page : ℕ} → AreTaken masks before after held left page → length left ≤ page → (p : ℕ) → may_hold_at left p ≡ true → HasWord after p
+pub some-taken : {masks before after : List ℕ} {held left : List Bool} {page : ℕ} → ArePageTagsTaken masks before after held left page → length left ≤ page → (p : ℕ) → may_hold_at left p ≡ true → HasWord after p
 some-taken {left = left} {page = page} t all p marked = elim (cases_lt p page) [
   | inl below ↦ t.some p below marked
   | inr past ↦ absurd (true≢false (sym marked ∙ get_or_past left p false (omega (arith, past, all))))
 ]
 
 -- A page that may hold no tags, before it is its turn.
-pub still_blank : {masks before after : List ℕ} {held left : List Bool} {page : ℕ} → AreTaken masks before after held left page → (read : Bool) → page < length left → read ≡ get_or left page read → read ≡ false
+pub still_blank : {masks before after : List ℕ} {held left : List Bool} {page : ℕ} → ArePageTagsTaken masks before after held left page → (read : Bool) → page < length left → read ≡ get_or left page read → read ≡ false
     → AreBlank before held → IsBlank after page
 unfolding AreBlank
 still_blank {left = left} {page = page} t read inside e unmarked blank w of_page =

@@ -1,9 +1,9 @@
 -- Tagged memory and registers as lists of cells (CHERI ISA version 9, UCAM-CL-TR-987: tagged memory; one
 -- tag a granule of 16 bytes; register 0 is the null register of RISC-V).
-use Rattle.std.specs.Prelude.{◌≡◌, ◌<◌, ◌*◌, ◌/◌, ◌^◌, ◌==◌, ℕ, Bool, IsTrue, List, false, if◌then◌else◌, length, replicate, slice_index_or, slice_set, true}
+use Rattle.std.specs.Prelude.{◌≡◌, ◌<◌, ◌*◌, ◌/◌, ◌^◌, ◌==◌, ◌&&◌, ℕ, Bool, IsTrue, List, false, if◌then◌else◌, length, not, replicate, slice_index_or, slice_set, true}
 use Rattle.std.specs.List.{All}
 use Rattle.cap_codec.specs.declared.word.Word.{Word}
-use Rattle.tag_memory.specs.Span.{is_base, is_size, page_granules}
+use Rattle.tag_memory.specs.Extent.{is_base, is_size, page_granules}
 
 -- ---- memory
 
@@ -23,7 +23,7 @@ pub record MemoryState : Type 0 where
 abbrev pub new_memory : ℕ → ℕ → MemoryState
 new_memory base pages = record {
   base = base;
-  cells = replicate (256 * pages) (0, false);
+  cells = replicate (page_granules * pages) (0, false);
   may_hold = replicate pages false;
   dirty = replicate pages false;
 }
@@ -46,14 +46,14 @@ AreUntagged cells may_hold = (i : ℕ) → may_hold_at may_hold (i / page_granul
 
 -- Marks of pages once granule i is written with this tag: where it is one its own page is marked too. So do the
 -- pages change that may hold tags, and those that are dirty.
-abbrev pub marked : List Bool → ℕ → Bool → List Bool
-marked pages i tag = if tag then slice_set pages (i / page_granules) true else pages
+abbrev pub marks_after : List Bool → ℕ → Bool → List Bool
+marks_after pages i tag = if tag then slice_set pages (i / page_granules) true else pages
 
 -- What holds of every memory: it is some whole pages that may begin at its base, of granules whose
 -- numbers have 128 bits, and pages that may hold no tags have none.
 pub record IsMemory (m : MemoryState) : Type 0 where
   pub pages : ℕ
-  pub count : length m.cells ≡ 256 * pages
+  pub count : length m.cells ≡ page_granules * pages
   pub marks : length m.may_hold ≡ pages
   pub dirty_marks : length m.dirty ≡ pages
   pub untagged : AreUntagged m.cells m.may_hold
@@ -88,6 +88,10 @@ pub record AreRegisters (cells : List Cell) : Type 0 where
 -- The 32 registers of a new machine.
 abbrev pub new_registers : List Cell
 new_registers = replicate register_count null_cell
+
+-- A cell without its tag, where the test passes.
+abbrev pub without_tag_if : Bool → Cell → Cell
+without_tag_if test cell = (cell.0, cell.1 && not test)
 
 -- What register r reads as. Register 0 is always null.
 abbrev pub register_at : List Cell → ℕ → Cell

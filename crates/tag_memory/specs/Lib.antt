@@ -1,4 +1,5 @@
 pub mod Cells
+pub mod Extent
 pub mod Laws
-pub mod Span
+pub mod Packed
 pub mod Tags

@@ -3,7 +3,7 @@ use Rattle.std.specs.Prelude.{◌≡◌, ◌≢◌, ℕ, Bool, List, [], ◌∷�
 use Rattle.std.specs.Int.{bit_at}
 use Rattle.std.specs.List.{enumerate_from}
 use Rattle.tag_memory.specs.Cells.{Granule, may_hold_at}
-use Rattle.tag_memory.specs.Span.{page_granules, page_words}
+use Rattle.tag_memory.specs.Extent.{page_granules, page_words}
 
 -- f of each element and its index, which is counted from 0.
 abbrev pub map_with_index : {X Y : Type 0} → (ℕ → X → Y) → List X → List Y

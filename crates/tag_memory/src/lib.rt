@@ -2,12 +2,12 @@
 #![tactic(auto)]
 
 mod bits;
+mod extent;
 mod memory;
 mod pages;
 mod registers;
-mod span;
 
 pub use crate::bits::{WORD_GRANULES, bit, with_bit};
+pub use crate::extent::{GRANULE, MOST_PAGES, PAGE, PAGE_GRANULES, is_base, is_size};
 pub use crate::memory::{Memory, MemoryFault, PAGE_WORDS};
 pub use crate::registers::{REGISTERS, Registers};
-pub use crate::span::{GRANULE, MOST_PAGES, PAGE, PAGE_GRANULES, is_base, is_size};

@@ -1,14 +1,14 @@
 //! Tagged memory.
 
 ghost use Rattle.std.specs.Prelude.{◌≡◌, ◌↔◌, ◌<◌, ◌+◌, ◌*◌, ◌/◌, ℕ, IfOk, Some, count_by, false, length, slice_get, slice_set, true};
-ghost use Rattle.tag_memory.specs.Cells.{IsMemory, all_clean, is_dirty_at, marked, may_hold_at, new_memory};
-ghost use Rattle.tag_memory.specs.Span as span;
+ghost use Rattle.tag_memory.specs.Cells.{IsMemory, all_clean, is_dirty_at, marks_after, may_hold_at, new_memory};
+ghost use Rattle.tag_memory.specs.Extent as extent;
 ghost use Rattle.tag_memory.specs.Tags.{HasTag, is_set, is_tagged, without_tags};
 ghost use Rattle.tag_memory.specs.Tags as tags;
 
 use crate::bits::{WORD_GRANULES, bit, with_bit};
+use crate::extent::{PAGE_GRANULES, is_base, is_size};
 use crate::pages::take_tags;
-use crate::span::{PAGE_GRANULES, is_base, is_size};
 use std::alloc::Global;
 use std::marker::Model;
 use thiserror::Error;
@@ -44,26 +44,24 @@ pub struct Memory {
 }
 
 impl Model for Memory {
-    ghost use Rattle.std.specs.List.{All};
-    ghost use Rattle.std.specs.Prelude.{◌≡◌, ◌<◌, ◌*◌, ◌^◌, length, true};
     ghost use Rattle.tag_memory.specs.Cells.{MemoryState};
-    ghost use Rattle.tag_memory.specs.Span.{is_base, is_size, page_words};
-    ghost use Rattle.tag_memory.specs.Tags.{AreBlank, granules_of};
 
     ghost Value = { MemoryState };
 
-    ghost view = { λ m. record { base = m.base; cells = granules_of m.bits.items m.tags.items; may_hold = m.may_hold.items; dirty = m.dirty.items } };
+    ghost use Rattle.tag_memory.specs.Packed.{ArePacked, memory_inside};
 
-    ghost invariant = { λ m. (length m.bits.items ≡ 256 * m.pages) × (length m.tags.items ≡ page_words * m.pages) × (is_size m.pages ≡ true) × (is_base m.base m.pages ≡ true) × All (λ number. number < 2 ^ 128) m.bits.items × (length m.may_hold.items ≡ m.pages) × AreBlank m.tags.items m.may_hold.items × (length m.dirty.items ≡ m.pages) };
+    ghost view = { memory_inside };
+
+    ghost invariant = { ArePacked };
 }
 
 impl Memory {
     /// A memory of so many pages from `base` on, all zero and untagged. The size is judged before the
     /// base.
     pub fn new(alloc: Global, base: u64, pages: u32) -> Result<Memory, MemoryFault>
-        ensures bad_size { (result ≡ Err MemoryFault.BadSize) ↔ (span.is_size pages ≡ false) }
+        ensures bad_size { (result ≡ Err MemoryFault.BadSize) ↔ (extent.is_size pages ≡ false) }
         ensures bad_base { (result ≡ Err MemoryFault.BadBase)
-            ↔ ((span.is_size pages ≡ true) × (span.is_base base pages ≡ false)) }
+            ↔ ((extent.is_size pages ≡ true) × (extent.is_base base pages ≡ false)) }
         ensures made { IfOk result (λ memory. memory ≡ new_memory base pages) }
     {
         if !is_size(u64::from(pages)) {
@@ -136,7 +134,7 @@ impl Memory {
     /// Writes a granule's bytes and its tag. With one, its page may hold tags from then on, and is dirty.
     pub fn put(&mut self, i: usize, bits: u128, tag: bool)
         requires { i < length self.old.cells }
-        ensures { self.new ≡ record self.old { cells = slice_set self.old.cells i (bits, tag); may_hold = marked self.old.may_hold i tag; dirty = marked self.old.dirty i tag } }
+        ensures { self.new ≡ record self.old { cells = slice_set self.old.cells i (bits, tag); may_hold = marks_after self.old.may_hold i tag; dirty = marks_after self.old.dirty i tag } }
     {
         self.bits[i] = bits;
         let word = &mut self.tags[i / WORD_GRANULES];

@@ -1,7 +1,7 @@
 //! The registers of a machine.
 
-ghost use Rattle.std.specs.Prelude.{◌≡◌, ◌<◌, ◌&&◌, ℕ, count_by, drop, false, length, not, slice_index_or};
-ghost use Rattle.tag_memory.specs.Cells.{AreRegisters, new_registers, null_cell, register_at, register_count, with_register};
+ghost use Rattle.std.specs.Prelude.{◌≡◌, ◌<◌, ℕ, count_by, drop, false, length, slice_index_or};
+ghost use Rattle.tag_memory.specs.Cells.{AreRegisters, new_registers, null_cell, register_at, register_count, with_register, without_tag_if};
 ghost use Rattle.tag_memory.specs.Tags.{is_set};
 
 use crate::bits::bit;
@@ -79,10 +79,7 @@ impl Registers {
         ensures count { length self.new ≡ register_count }
         ensures zero { slice_index_or self.new 0 null_cell ≡ null_cell }
         ensures cells { (r : ℕ) → r < register_count → slice_index_or self.new r null_cell
-            ≡ (
-              (slice_index_or self.old r null_cell).0,
-              (slice_index_or self.old r null_cell).1 && not (is_set mask r),
-            ) }
+            ≡ without_tag_if (is_set mask r) (slice_index_or self.old r null_cell) }
     {
         for r in 0..REGISTERS as usize {
             self.cells[r].1 &= !bit(u64::from(mask), r);

@@ -8,8 +8,8 @@ use Rattle.trace_text.specs.declared.trace.Command.TheVariants.{Malloc, Free, Co
 use Rattle.trace_text.specs.declared.fault.LineFault.{LineFault}
 use Rattle.trace_text.specs.declared.fault.LineFault.TheVariants as line_fault
 use Rattle.trace_text.specs.Grammar.{FirstLacks, Form, Register, Number, Mask, Data, HasFault, HasForm, HaveForms, IsCommand, IsData, IsMask, IsNumber, IsRegister, form_fault, forms_of}
-use Rattle.trace_text.specs.Reading.{◌>>=◌, below, command_of, data_from, data_in, mask_in, none_of, number_in, number_of, one_of, register_in, register_of, three_of, two_of}
-use Rattle.trace_text.proofs.Operands.{IsMask-read, IsNumber-read, IsRegister-read, below-IsMask, number_of-IsNumber, register_of-IsRegister, same_bytes}
+use Rattle.trace_text.specs.Reading.{◌>>=◌, limited, command_of, data_from, data_in, mask_in, none_of, number_in, number_of, one_of, register_in, register_of, three_of, two_of}
+use Rattle.trace_text.proofs.Operands.{IsMask-read, IsNumber-read, IsRegister-read, limited-IsMask, number_of-IsNumber, register_of-IsRegister, same_bytes}
 
 -- ---- one word
 
@@ -30,10 +30,10 @@ reads_number word = go (number_of word) refl where
   go None is = rw is (refl, λ h. let e = number_of-IsNumber word h.0 h.1 in absurd cc)
 
 reads_mask : (word : List ℕ) → Reads Mask word (mask_in word)
-reads_mask word = go (below 65536 (number_of word)) refl where
-  go : (found : Option ℕ) → below 65536 (number_of word) ≡ found → Reads Mask word (mask_in word)
+reads_mask word = go (limited 65536 (number_of word)) refl where
+  go : (found : Option ℕ) → limited 65536 (number_of word) ≡ found → Reads Mask word (mask_in word)
   go (Some mask) is = rw is (mask, IsMask-read word mask is)
-  go None is = rw is (refl, λ h. let e = below-IsMask word h.0 h.1 in absurd cc)
+  go None is = rw is (refl, λ h. let e = limited-IsMask word h.0 h.1 in absurd cc)
 
 reads_data : (word : List ℕ) → Reads Data word (data_in word)
 reads_data word = go (decode_sized word 16) refl where
@@ -52,7 +52,7 @@ number_in_is : (word : List ℕ) (number : ℕ) → number_in word ≡ Ok number
 number_in_is word number e = IsNumber-read word number (Ok_from line_fault.BadNumber (number_of word) number e)
 
 mask_in_is : (word : List ℕ) (mask : ℕ) → mask_in word ≡ Ok mask → IsMask word mask
-mask_in_is word mask e = IsMask-read word mask (Ok_from line_fault.BadNumber (below 65536 (number_of word)) mask e)
+mask_in_is word mask e = IsMask-read word mask (Ok_from line_fault.BadNumber (limited 65536 (number_of word)) mask e)
 
 data_in_is : (word bytes : List ℕ) → data_in word ≡ Ok bytes → IsData word bytes
 data_in_is word bytes = go (decode_sized word 16) where
@@ -314,7 +314,7 @@ command_of-IsCommand words (Free rs) h = rw (h.1, register_of-IsRegister h.0 rs 
 command_of-IsCommand words (Copy rd rs) h = rw (h.2, register_of-IsRegister h.0 rd h.3, register_of-IsRegister h.1 rs h.4) refl
 command_of-IsCommand words (SetAddr rd rs address) h = rw (h.3, register_of-IsRegister h.0 rd h.4, register_of-IsRegister h.1 rs h.5, number_of-IsNumber h.2 address h.6) refl
 command_of-IsCommand words (Narrow rd rs length) h = rw (h.3, register_of-IsRegister h.0 rd h.4, register_of-IsRegister h.1 rs h.5, number_of-IsNumber h.2 length h.6) refl
-command_of-IsCommand words (AndPerm rd rs mask) h = rw (h.3, register_of-IsRegister h.0 rd h.4, register_of-IsRegister h.1 rs h.5, below-IsMask h.2 mask h.6) refl
+command_of-IsCommand words (AndPerm rd rs mask) h = rw (h.3, register_of-IsRegister h.0 rd h.4, register_of-IsRegister h.1 rs h.5, limited-IsMask h.2 mask h.6) refl
 command_of-IsCommand words (StoreCap ra rs) h = rw (h.2, register_of-IsRegister h.0 ra h.3, register_of-IsRegister h.1 rs h.4) refl
 command_of-IsCommand words (LoadCap rd ra) h = rw (h.2, register_of-IsRegister h.0 rd h.3, register_of-IsRegister h.1 ra h.4) refl
 command_of-IsCommand words (Write ra bytes) h = rw (h.2, register_of-IsRegister h.0 ra h.3, h.4) refl

@@ -7,7 +7,7 @@ use Rattle.trace_text.specs.Grammar.{BeginsAsHeap, IsHeapLine, IsNumber}
 use Rattle.trace_text.specs.Heap.{IsHeap}
 use Rattle.trace_text.specs.Lines.{is_passed_over}
 use Rattle.trace_text.specs.Reading.{◌>>=◌, heap_at, heap_from, heap_of, is_heap, number_of}
-use Rattle.tag_memory.specs.Span.{is_base, is_size}
+use Rattle.tag_memory.specs.Extent.{is_base, is_size}
 use Rattle.trace_text.proofs.Digits.{and_true}
 use Rattle.trace_text.proofs.Operands.{IsNumber-read, number_of-IsNumber, same_bytes, when}
 

@@ -9,7 +9,7 @@ use Rattle.std.proofs.lemmas.List.{take-append-drop}
 use Rattle.std.proofs.lemmas.Slice.Eq.{bytes_eq-Decides}
 use Rattle.std.proofs.lemmas.Str.Parse.{IsNumeralModel, numerals_by_value, tells_digits}
 use Rattle.trace_text.specs.Grammar.{AreDigits, IsMask, IsNumber, IsRegister}
-use Rattle.trace_text.specs.Reading.{all_digits_in, are_digits, below, has_leading_zero, number_of, numeral_of, register_of}
+use Rattle.trace_text.specs.Reading.{all_digits_in, are_digits, limited, has_leading_zero, number_of, numeral_of, register_of}
 use Rattle.trace_text.proofs.Digits.{all_digits_are, and_true}
 
 pub when : {A : Type 0} (t : Bool) (x y : A) → cond t (Some x) None ≡ Some y → (t ≡ true) × (x ≡ y)
@@ -80,14 +80,14 @@ number_of-IsNumber word number (inr h) = ap number_of h.1 ∙ numeral_of-AreDigi
 own : IsNumeralModel (AllDigits 10) (digits_value 10)
 own = numerals_by_value (AllDigits 10) tells_digits
 
-below-some : (limit : ℕ) (found : Option ℕ) (number : ℕ) → below limit found ≡ Some number → (found ≡ Some number) × (number < limit)
-below-some limit None number e = absurd cc
-below-some limit (Some n) number e =
+limited-some : (limit : ℕ) (found : Option ℕ) (number : ℕ) → limited limit found ≡ Some number → (found ≡ Some number) × (number < limit)
+limited-some limit None number e = absurd cc
+limited-some limit (Some n) number e =
     let test = when (nat_lt n limit) n number e in
     (ap Some test.1, grind (arith, nat_tests, test.0, test.1))
 
-below-is : (limit number : ℕ) → number < limit → below limit (Some number) ≡ Some number
-below-is limit number lt = let t : nat_lt number limit ≡ true = grind (arith, nat_tests, lt) in rw t refl
+limited-is : (limit number : ℕ) → number < limit → limited limit (Some number) ≡ Some number
+limited-is limit number lt = let t : nat_lt number limit ≡ true = grind (arith, nat_tests, lt) in rw t refl
 
 only_zero : (digits : List ℕ) → not (has_leading_zero digits) ≡ true → 0 < length digits → get_or digits 0 0 ≡ 48 → length digits ≡ 1
 only_zero [] e some starts = absurd (omega arith)
@@ -96,9 +96,9 @@ only_zero (d ∷ d' ∷ ds) e some starts = absurd (grind (arith, nat_tests, e, 
 
 pub IsRegister-read : (word : List ℕ) (register : ℕ) → register_of word ≡ Some register → IsRegister word register
 IsRegister-read word register e = go (bytes_eq (take 1 word) (codes "c")) (not (has_leading_zero (drop 1 word))) refl refl e where
-  go : (t u : Bool) → bytes_eq (take 1 word) (codes "c") ≡ t → not (has_leading_zero (drop 1 word)) ≡ u → cond (t && u) (below 32 (numeral_of 10 2 (drop 1 word))) None ≡ Some register → IsRegister word register
+  go : (t u : Bool) → bytes_eq (take 1 word) (codes "c") ≡ t → not (has_leading_zero (drop 1 word)) ≡ u → cond (t && u) (limited 32 (numeral_of 10 2 (drop 1 word))) None ≡ Some register → IsRegister word register
   go true true is plain h =
-      let found = below-some 32 (numeral_of 10 2 (drop 1 word)) register h in
+      let found = limited-some 32 (numeral_of 10 2 (drop 1 word)) register h in
       let digits = AreDigits-read 10 2 (drop 1 word) register found.0 in
       let value : digits_value 10 (drop 1 word) < 2 ^ 64 = omega (arith, digits.value, digits.fits) in
       let text : decimal (digits_value 10 (drop 1 word)) ≡ drop 1 word = decimal-digits_value own (drop 1 word) digits.all (omega (arith, digits.some)) (only_zero (drop 1 word) plain (omega (arith, digits.some))) value in
@@ -125,14 +125,14 @@ register_of-IsRegister word register h =
       value = digits_value-decimal own register (omega (arith, h.0));
       fits = omega (arith, h.0);
     } in
-    ap register_of h.1 ∙ rw (no_zero register h.0, numeral_of-AreDigits 10 2 (decimal register) register digits) (below-is 32 register h.0)
+    ap register_of h.1 ∙ rw (no_zero register h.0, numeral_of-AreDigits 10 2 (decimal register) register digits) (limited-is 32 register h.0)
 
 -- ---- masks
 
-pub IsMask-read : (word : List ℕ) (mask : ℕ) → below 65536 (number_of word) ≡ Some mask → IsMask word mask
+pub IsMask-read : (word : List ℕ) (mask : ℕ) → limited 65536 (number_of word) ≡ Some mask → IsMask word mask
 IsMask-read word mask e =
-    let found = below-some 65536 (number_of word) mask e in
+    let found = limited-some 65536 (number_of word) mask e in
     (IsNumber-read word mask found.0, omega arith)
 
-pub below-IsMask : (word : List ℕ) (mask : ℕ) → IsMask word mask → below 65536 (number_of word) ≡ Some mask
-below-IsMask word mask h = ap (below 65536) (number_of-IsNumber word mask h.0) ∙ below-is 65536 mask (omega arith)
+pub limited-IsMask : (word : List ℕ) (mask : ℕ) → IsMask word mask → limited 65536 (number_of word) ≡ Some mask
+limited-IsMask word mask h = ap (limited 65536) (number_of-IsNumber word mask h.0) ∙ limited-is 65536 mask (omega arith)

@@ -14,7 +14,7 @@ use Rattle.trace_text.specs.declared.trace.Command.{Command}
 use Rattle.trace_text.specs.declared.trace.Command.TheVariants.{Malloc, Free, Copy, SetAddr, Narrow, AndPerm, StoreCap, LoadCap, Write, Show, Sweep, Begin, End}
 use Rattle.trace_text.specs.declared.trace.Trace.{Trace}
 use Rattle.trace_text.specs.Lines.{is_passed_over, lines_of, longest_text, words_of}
-use Rattle.tag_memory.specs.Span.{is_base, is_size}
+use Rattle.tag_memory.specs.Extent.{is_base, is_size}
 use Rattle.tag_memory.specs.Cells.{register_count}
 
 -- then, unless there is a fault
@@ -47,9 +47,9 @@ number_of word =
     else numeral_of 10 20 word
 
 -- a number that is below a limit
-abbrev pub below : ℕ → Option ℕ → Option ℕ
-below limit None = None
-below limit (Some number) = if nat_lt number limit then Some number else None
+abbrev pub limited : ℕ → Option ℕ → Option ℕ
+limited limit None = None
+limited limit (Some number) = if nat_lt number limit then Some number else None
 
 -- a zero with another digit after it
 abbrev pub has_leading_zero : List ℕ → Bool
@@ -59,7 +59,7 @@ has_leading_zero digits = nat_lt 1 (length digits) && starts_with nat_eq digits 
 abbrev pub register_of : List ℕ → Option ℕ
 register_of word =
     if bytes_eq (take 1 word) (codes "c") && not (has_leading_zero (drop 1 word))
-    then below register_count (numeral_of 10 2 (drop 1 word)) else None
+    then limited register_count (numeral_of 10 2 (drop 1 word)) else None
 
 -- a register, or what is wrong with a word that names none
 abbrev pub register_in : List ℕ → Result ℕ LineFault
@@ -71,7 +71,7 @@ number_in word = ok_or (number_of word) line_fault.BadNumber
 
 -- a mask of 16 bits, or what is wrong with a word that writes none
 abbrev pub mask_in : List ℕ → Result ℕ LineFault
-mask_in word = ok_or (below 65536 (number_of word)) line_fault.BadNumber
+mask_in word = ok_or (limited 65536 (number_of word)) line_fault.BadNumber
 
 -- the bytes that were decoded, or that a word writes none
 abbrev pub data_from : {F : Type 0} → Result (List ℕ) F → Result (List ℕ) LineFault

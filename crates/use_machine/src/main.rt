@@ -1,7 +1,7 @@
 //! A machine by hand: a block, its release, the sweep, and what is left of its capability.
 #![tactic(auto)]
 
-use heap_machine::{Machine, bit};
+use heap_machine::{Machine, flag_number};
 use std::io;
 use sweep_pool::{Cutting, Open};
 use trace_text::Command;
@@ -28,5 +28,5 @@ fn main(rt: HostRuntime) -> io::Result<()> {
         }
     }
     let (_, tag) = machine.registers().get(1);
-    println!(rt; "tag of register 1: {}", bit(tag))
+    println!(rt; "tag of register 1: {}", flag_number(tag))
 }

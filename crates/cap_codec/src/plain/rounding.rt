@@ -6,7 +6,7 @@ ghost use Rattle.cap_codec.specs.Mantissas.{exponent_of};
 ghost use Rattle.cap_codec.specs.Rounding.{Fits, IsExact, IsExponent, IsNearExponent, exponent_for, length_for, outward, round_down, round_up, unit_for, with_bounds_of};
 ghost use Rattle.cap_codec.specs.Words.{bounds_in, is_exact, narrowed};
 
-use crate::plain::words::{fields, word_of};
+use crate::plain::metadata::{fields, word_of};
 use crate::word::{Bounds, Fields, Word};
 
 // Bounds shorter than this are held as they are, with no exponent.

@@ -1,7 +1,7 @@
 //! The shadow painted by several threads, on a board with a bit for each granule.
 
 ghost use Rattle.std.specs.Prelude.{◌≡◌, ◌≤◌, ◌*◌, ◌^◌, length};
-ghost use Rattle.heap_core.specs.Heap.{IsSound, due};
+ghost use Rattle.heap_core.specs.Heap.{due};
 ghost use Rattle.heap_core.specs.Painting.{IsPainted, is_in_due};
 ghost use Rattle.mark_board.specs.Board.{IsOf};
 
@@ -11,9 +11,7 @@ use mark_board::{Board, MarkSeat};
 impl Heap {
     /// How many granules of 16 bytes the heap has.
     pub fn granules(&self) -> usize
-        ensures value { 16 * result ≡ self.now.size }
-        // What holds of every heap.
-        ensures sound { IsSound self.now }
+        ensures { 16 * result ≡ self.now.size }
     {
         self.table.granules()
     }

@@ -54,6 +54,7 @@ impl Parts {
         ensures may { result ≡ true → MaySweep (state_of self.now) }
         ensures not { result ≡ false → ¬ MaySweep (state_of self.now) }
     {
+        self.heap.whole();
         !self.heap.is_open() && self.heap.held_bytes() != 0
     }
 }

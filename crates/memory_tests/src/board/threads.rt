@@ -1,7 +1,7 @@
 //! Threads that mark one board at a time.
 
 ghost use Rattle.std.specs.Prelude.{◌≡◌, ◌+◌, ◌<◌, ℕ};
-ghost use Rattle.mark_board.specs.Board.{IsMask, IsOf};
+ghost use Rattle.mark_board.specs.Board.{IsMaskOf, IsOf};
 
 use mark_board::{Board, MarkSeat};
 use std::process::Abort;
@@ -112,7 +112,7 @@ fn each_bit_is_set_first_by_one_of_four(rt: HostRuntime) {
 fn meet(board: &Board, mut seat: MarkSeat, own: u64, other: u64) -> (MarkSeat, bool)
     requires board { IsOf board.now seat }
     requires bits { 0 < board.now.bits }
-    requires mask { IsMask board.now 0 own }
+    requires mask { IsMaskOf board.now 0 own }
     ensures board { IsOf board.entry.now result.0 }
     ensures parts { result.0.parts ≡ seat.parts }
 {

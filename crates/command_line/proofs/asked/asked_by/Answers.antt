@@ -4,7 +4,7 @@ use Rattle.clap.specs.Matches.{subcommand_name_of}
 use Rattle.clap.proofs.WalkLemmas.{first_value-rows}
 use Rattle.clap.specs.Walk.{texts}
 use Rattle.clap.specs.declared.parser.matches.ArgMatches.{ArgMatches}
-use Rattle.command_line.specs.Words.{AreTaken, Names, NamesRun, NamesWord, subcommand_named}
+use Rattle.command_line.specs.Asked.{AreAccepted, Names, NamesRun, NamesWord, subcommand_named}
 use Rattle.command_line.specs.Laws.{NamesRun-unique, NamesWord-unique, Names-unique}
 use Rattle.command_line.specs.NumberLaws.{GivesNumber-cut, GivesNumber-workers}
 use Rattle.command_line.proofs.asked.asked_by.Goals as goal
@@ -18,7 +18,7 @@ both f g n r (Some b) e h =
     ap₂ (λ x y. Some (x, y)) is_n is_r
 
 -- The matches name this subcommand, with these entries.
-names_this : (words : List Text) (m : ArgMatches) (this : Text) (inner : List Row) → AreTaken words → subcommand_rows_of m ≡ subcommand_named words → subcommand_name_of m ≡ Some this
+names_this : (words : List Text) (m : ArgMatches) (this : Text) (inner : List Row) → AreAccepted words → subcommand_rows_of m ≡ subcommand_named words → subcommand_name_of m ≡ Some this
     → Some inner ≡ option_map (λ (p : Text × List Row). p.1) (subcommand_rows_of m) → Names words this inner
 names_this words m this inner taken matches name rows =
     let found : subcommand_rows_of m ≡ Some (this, inner) = both _ _ _ _ _ name (sym rows) in

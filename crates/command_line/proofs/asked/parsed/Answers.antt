@@ -5,7 +5,7 @@ use Rattle.clap.specs.declared.parser.matches.ArgMatches.{ArgMatches}
 use Rattle.clap.specs.Kinds.{Kinds}
 use Rattle.clap.specs.declared.error.Error.{Error}
 use Rattle.clap.specs.declared.error.kind.ErrorKind.TheVariants.{OutOfMemory}
-use Rattle.command_line.specs.Words.{AreTaken, subcommand_named, tool_app}
+use Rattle.command_line.specs.Asked.{AreAccepted, subcommand_named, tool_app}
 use Rattle.command_line.proofs.asked.parsed.Goals as goal
 
 no_fault : {T : Type 0} (kinds : Kinds) (r : Result T Error) → FailsBy kinds r → OnOk r (kinds ≡ [])
@@ -27,11 +27,11 @@ fails c =
     subst P c.in_ok-command.ensures c.try_get_matches_from.ensures.kinds refl
 
 pub returns-clause-taken : goal.returns-clause-taken
-unfolding AreTaken
+unfolding AreAccepted
 returns-clause-taken c = no_fault _ _ (fails c)
 
 pub returns-clause-err : goal.returns-clause-err
-unfolding AreTaken
+unfolding AreAccepted
 returns-clause-err c = memory_alone _ _ (fails c)
 
 pub returns-clause-matches : goal.returns-clause-matches

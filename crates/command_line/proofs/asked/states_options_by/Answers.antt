@@ -3,7 +3,7 @@ use Rattle.clap.specs.Walk.{texts}
 use Rattle.clap.specs.Words.{Text}
 use Rattle.command_line.specs.declared.asked.Options.{Options}
 use Rattle.command_line.specs.declared.asked.Refusal.TheVariants.{Words}
-use Rattle.command_line.specs.Words.{AsksOnlyFor, NamesNothing, NamesRun, with_run}
+use Rattle.command_line.specs.Asked.{AsksOnlyFor, NamesNothing, NamesRun, with_run}
 use Rattle.command_line.specs.Laws.{NamesStates-image, NamesStates-nothing}
 use Rattle.command_line.proofs.asked.states_options_by.Goals as goal
 

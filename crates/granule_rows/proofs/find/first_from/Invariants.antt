@@ -1,6 +1,6 @@
 use Rattle.std.proofs.Common.{◌≤◌, ◌<◌, ◌+◌, ◌*◌, ◌/◌, length}
 use Rattle.granule_rows.proofs.NextLaws.{IsPath}
-use Rattle.granule_rows.specs.Runs.{bits_from}
+use Rattle.granule_rows.specs.Runs.{test_from}
 use Rattle.granule_rows.specs.Summaries.{IsSummary}
 use Rattle.tag_memory.specs.Tags.{is_set_for}
 use Rattle.granule_rows.proofs.find.first_from.Given as goal
@@ -8,7 +8,7 @@ use Rattle.granule_rows.proofs.find.first_from.Given as goal
 abbrev pub invariant-loop-at : goal.invariant-loop-at
 invariant-loop-at l = record {
   path : IsPath (length l.words) l.at (64 * (l.from / 64) + l.passed.length);
-  passed : IsSummary (bits_from l.from (is_set_for l.words)) (64 * (l.from / 64)) l.passed;
+  passed : IsSummary (test_from l.from (is_set_for l.words)) (64 * (l.from / 64)) l.passed;
   short : l.passed.longest < l.n;
   long : 64 ≤ l.passed.length;
 }

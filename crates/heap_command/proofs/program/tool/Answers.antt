@@ -1,5 +1,5 @@
 use Rattle.std.proofs.Common.{ap, rules, Err}
-use Rattle.command_line.specs.Words.{NamesRun, NamesWord, texts}
+use Rattle.command_line.specs.Asked.{NamesRun, NamesWord, texts}
 use Rattle.command_line.specs.Laws.{NamesRun-limits}
 use Rattle.trace_program.specs.Answer.{refusal_line, refusal_status, status_of, text_of}
 use Rattle.trace_program.specs.Laws.{BeginsAnswer-told, BeginsAnswer-unwritten, HasAnswered-told}

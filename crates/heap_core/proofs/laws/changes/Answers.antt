@@ -1,7 +1,7 @@
 use Rattle.std.proofs.Common.{◌≤◌, ◌<◌, ◌+◌, ◌^◌, arith}
 use Rattle.heap_core.specs.Place.{block_length, granule_size}
 use Rattle.heap_core.proofs.SizeLaws.{le-length_for}
-use Rattle.heap_core.proofs.SpanLaws.{LiesWithin-span}
+use Rattle.heap_core.proofs.ExtentLaws.{LiesWithin-span}
 use Rattle.heap_core.proofs.StateLaws.{IsSound-begun, IsSound-ended, IsSound-free, IsSound-live, IsSound-waiting}
 use Rattle.heap_core.proofs.laws.changes.Goals as goal
 

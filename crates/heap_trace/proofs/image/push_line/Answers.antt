@@ -11,7 +11,7 @@ returns c =
       c.put-3.ensures.text,
       c.put_decimal.ensures.text,
       c.from.ensures,
-      c.bit.ensures,
+      c.flag_number.ensures,
       c.put-2.ensures.text,
       c.put_bytes.ensures.text,
       c.to_bytes.ensures.value,

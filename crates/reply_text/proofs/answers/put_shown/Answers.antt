@@ -11,7 +11,7 @@ returns-clause-text c =
       c.put-5.ensures.text,
       c.put_decimal-2.ensures.text,
       c.from-4.ensures,
-      c.bit.ensures,
+      c.flag_number.ensures,
       c.put-4.ensures.text,
       c.put_place.ensures.text,
       c.put-3.ensures.text,

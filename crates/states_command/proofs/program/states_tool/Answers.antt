@@ -1,5 +1,5 @@
 use Rattle.std.proofs.Common.{ap, rules, Err}
-use Rattle.command_line.specs.Words.{NamesStates, texts}
+use Rattle.command_line.specs.Asked.{NamesStates, texts}
 use Rattle.command_line.specs.Laws.{NamesStates-limits}
 use Rattle.trace_program.specs.Answer.{refusal_line, refusal_status, status_of, text_of}
 use Rattle.trace_program.specs.Laws.{BeginsAnswer-told, BeginsAnswer-unwritten, HasAnswered-told}

@@ -13,7 +13,7 @@ loop-worker-preserved c =
       seat = cut.board.1;
       part = cut.parts.1;
       none = cut.mine.1;
-      start = (let s = c.start_of-start.ensures in let e = c.bits-tasks.ensures.value in omega arith);
+      start = (let s = c.start_of-start.ensures in let e = c.bits-tasks.ensures in omega arith);
       sound = cut.sound.1;
     } in
     let push : c.push.new.self.items ≡ c.loop-worker.jobs.items ++ job ∷ [] = search rules in

@@ -1,6 +1,6 @@
 use Rattle.std.proofs.Common.{◌≡◌, ◌≤◌, ◌-◌, All}
 use Rattle.mark_board.specs.Board.{IsOf, IsSeat}
-use Rattle.sweep_pool.specs.Claims.{Accounts, HasRun}
+use Rattle.sweep_pool.specs.Claims.{Accounts, HasAll}
 use Rattle.sweep_pool.specs.Gather.{IsSwept}
 use Rattle.sweep_pool.proofs.workers.sweep_from.Given as goal
 
@@ -12,7 +12,7 @@ invariant-loop-next g l = record {
   high : l.next ≤ l.tasks;
   swept : All (IsSwept l.shared.memory.now l.shared.shadow.now l.shared.cutting.now) l.found.items;
   accounts : Accounts l.seat.mine l.found.items;
-  tried : HasRun l.seat.seen l.from l.next;
+  tried : HasAll l.seat.seen l.from l.next;
   sound : IsSeat l.seat;
 }
 

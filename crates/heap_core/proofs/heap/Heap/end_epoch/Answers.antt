@@ -10,7 +10,7 @@ use Rattle.heap_core.proofs.KeptLaws.{IsTable-kept, length-kept_lengths}
 use Rattle.heap_core.proofs.LateLaws.{AreLate-none, bits_of-none, either-none_right, late_blocks-dropped, late_stays, live_blocks-dropped, marks_of_bits, no_held}
 use Rattle.heap_core.proofs.ShadowLaws.{length-bits_of}
 use Rattle.heap_core.proofs.SoundLaws.{IsTable-marks}
-use Rattle.heap_core.proofs.SpanLaws.{LiesWithin-table}
+use Rattle.heap_core.proofs.ExtentLaws.{LiesWithin-table}
 use Rattle.tag_memory.specs.Tags.{is_set_for}
 use Rattle.heap_core.proofs.heap.Heap.end_epoch.Goals as goal
 

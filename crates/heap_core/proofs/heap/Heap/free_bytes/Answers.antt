@@ -1,5 +1,4 @@
 use Rattle.std.proofs.Common.{arith}
-use Rattle.heap_core.proofs.SoundLaws.{IsSound-from_table}
 use Rattle.heap_core.specs.Shadow.{bits_of}
 use Rattle.heap_core.proofs.HeapLaws.{granules_of_all, held_bytes-state}
 use Rattle.heap_core.proofs.heap.Heap.free_bytes.Goals as goal
@@ -10,8 +9,8 @@ overflow_sub-result c = let h = c.self.invariant in omega (arith, granules_of_al
 pub overflow_sub-result-2 : goal.overflow_sub-result-2
 overflow_sub-result-2 c = let h = c.self.invariant in omega (arith, granules_of_all _ _ _ _ _ _ _ _ h.table h.lates h.live h.held h.late)
 
-pub returns-clause-rest : goal.returns-clause-rest
-returns-clause-rest c =
+pub returns : goal.returns
+returns c =
     let h = c.self.invariant in
     let inside = c.self.inside in
     rw (← c.self.view_is) (omega (
@@ -22,6 +21,3 @@ returns-clause-rest c =
       h.late,
       held_bytes-state inside.base inside.table.lengths inside.table.marks (bits_of inside.late.items) inside.is_open h.lates,
     ))
-
-pub returns-clause-sound : goal.returns-clause-sound
-returns-clause-sound c = rw (← c.self.view_is) (IsSound-from_table _ _ _ _ _ c.self.invariant.table c.self.invariant.lates)

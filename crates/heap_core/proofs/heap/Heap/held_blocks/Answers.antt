@@ -3,7 +3,7 @@ use Rattle.std.proofs.lemmas.List.Sums.{count_by-le-length}
 use Rattle.heap_core.specs.Table.{is_held}
 use Rattle.heap_core.proofs.NthLaws.{length-blocks}
 use Rattle.heap_core.proofs.ShadowLaws.{due-heap_state}
-use Rattle.heap_core.proofs.SpanLaws.{LiesWithin-table}
+use Rattle.heap_core.proofs.ExtentLaws.{LiesWithin-table}
 use Rattle.heap_core.proofs.heap.Heap.held_blocks.Goals as goal
 
 pub returns-clause-count : goal.returns-clause-count

@@ -13,7 +13,7 @@ use Rattle.heap_core.proofs.LateLaws.{AreLate-late, AreLate-none, bits_of-set, r
 use Rattle.heap_core.proofs.QuarantineLaws.{HasMoved-held, IsTable-held, freed_of-due, freed_of-late, freed_of-live, freed_of-none, live_mark}
 use Rattle.heap_core.proofs.ShadowLaws.{length-bits_of}
 use Rattle.heap_core.proofs.SoundLaws.{IsSound-from_table}
-use Rattle.heap_core.proofs.SpanLaws.{LiesWithin-table}
+use Rattle.heap_core.proofs.ExtentLaws.{LiesWithin-table}
 use Rattle.tag_memory.specs.Tags.{is_set_for}
 use Rattle.heap_core.proofs.heap.Heap.release.Goals as goal
 

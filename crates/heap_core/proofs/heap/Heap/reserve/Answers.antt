@@ -11,7 +11,7 @@ use Rattle.heap_core.proofs.PlaceLaws.{IsPlace-from_run, IsGap-from_free, multip
 use Rattle.heap_core.proofs.RunLaws.{IsTable-set, held_blocks-set}
 use Rattle.heap_core.proofs.SizeLaws.{HasShape-shape}
 use Rattle.heap_core.proofs.SoundLaws.{IsSound-from_table}
-use Rattle.heap_core.proofs.SpanLaws.{LiesWithin-span, LiesWithin-table}
+use Rattle.heap_core.proofs.ExtentLaws.{LiesWithin-span, LiesWithin-table}
 use Rattle.heap_core.proofs.SumLaws.{bytes_in-blocks_with}
 use Rattle.heap_core.proofs.heap.Heap.reserve.Goals as goal
 

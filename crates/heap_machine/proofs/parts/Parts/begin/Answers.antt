@@ -15,8 +15,8 @@ use Rattle.heap_machine.proofs.parts.Parts.begin.Goals as goal
 pub returns-then-held_bytes-eq0-clause-step : goal.returns-then-held_bytes-eq0-clause-step
 returns-then-held_bytes-eq0-clause-step g c =
     let s = state_of c.args.self.now in
-    let closed : c.args.self.now.heap.is_open ≡ false = sym c.is_open.ensures.value ∙ c.if-is_open.false in
-    let bytes : held_bytes s.heap ≡ 0 = omega (arith, c.held_bytes.ensures.value, c.if-held_bytes-eq0.true) in
+    let closed : c.args.self.now.heap.is_open ≡ false = sym c.is_open.ensures ∙ c.if-is_open.false in
+    let bytes : held_bytes s.heap ≡ 0 = omega (arith, c.held_bytes.ensures, c.if-held_bytes-eq0.true) in
     let none : s.heap.waiting ≡ [] = no_blocks s.heap c.requires.sound.safe.heap bytes in
     Step-passed s Begin (Begun 0) (record { heap = c.begin_epoch.new.self; cells = c.mark_clean.new.self.cells; registers = s.registers }) (begin_passes s closed) (
       λ i. Begun (sym (taken_at_begin-none s none) i),
@@ -26,7 +26,7 @@ returns-then-held_bytes-eq0-clause-step g c =
 pub returns-clause-step : goal.returns-clause-step
 returns-clause-step g c =
     let m = c.args.self.now in
-    let closed : c.args.self.now.heap.is_open ≡ false = sym c.is_open.ensures.value ∙ c.if-is_open.false in
+    let closed : c.args.self.now.heap.is_open ≡ false = sym c.is_open.ensures ∙ c.if-is_open.false in
     let masks = c.in_ok-masks.masks.items in
     let take : TakeTags m.memory m.heap.waiting c.in_ok-masks.masks.items = rw (due-closed m.heap closed) at c.in_ok-masks.ensures.masks in
     let words : (w : ℕ) → get_or c.in_ok-masks.masks.items w 0 < 2 ^ 64 = rw c.deref-2.ensures.value at c.ones_in.ensures.words in

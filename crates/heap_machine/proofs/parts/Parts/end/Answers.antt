@@ -9,7 +9,7 @@ use Rattle.heap_machine.proofs.parts.Parts.end.Goals as goal
 pub returns-clause-step : goal.returns-clause-step
 returns-clause-step g c =
     let m = c.args.self.now in
-    let opened : c.args.self.now.heap.is_open ≡ true = sym c.is_open.ensures.value ∙ c.if-not-is_open.false in
+    let opened : c.args.self.now.heap.is_open ≡ true = sym c.is_open.ensures ∙ c.if-not-is_open.false in
     let blocks : due c.prepare.new.self ≡ c.args.self.now.heap.painted = ap due c.prepare.ensures.unchanged ∙ due-open m.heap opened in
     let revoked : AreRevoked m.heap.painted m.memory m.registers c.in_ok-revoked.revoked = rw blocks at c.in_ok-revoked.ensures.revoked in
     let taken : AreTaken m.heap.painted m.memory m.registers c.take-cleared.new.memory c.take-cleared.new.registers c.take-cleared.result = c.take-cleared.ensures.taken m.heap.painted revoked in
@@ -20,6 +20,6 @@ returns-clause-step g c =
 pub returns-clause-base : goal.returns-clause-base
 returns-clause-base g c =
     let m = c.args.self.now in
-    let opened : c.args.self.now.heap.is_open ≡ true = sym c.is_open.ensures.value ∙ c.if-not-is_open.false in
+    let opened : c.args.self.now.heap.is_open ≡ true = sym c.is_open.ensures ∙ c.if-not-is_open.false in
     let free : c.give_back-released.new.self ≡ without_epoch m.heap = c.give_back-released.ensures.free ∙ ap without_due c.prepare.ensures.unchanged ∙ without_due-open m.heap opened in
     c.take-cleared.ensures.base ∙ (c.requires.base ∙ sym (ap (λ (h : HeapState). h.base) free))

@@ -14,8 +14,8 @@ use Rattle.heap_machine.proofs.parts.Parts.sweep.Goals as goal
 pub returns-then-held_bytes-eq0-clause-step : goal.returns-then-held_bytes-eq0-clause-step
 returns-then-held_bytes-eq0-clause-step g c =
     let s = state_of c.args.self.now in
-    let closed : c.args.self.now.heap.is_open ≡ false = sym c.is_open.ensures.value ∙ c.if-is_open.false in
-    let bytes : held_bytes s.heap ≡ 0 = omega (arith, c.held_bytes.ensures.value, c.if-held_bytes-eq0.true) in
+    let closed : c.args.self.now.heap.is_open ≡ false = sym c.is_open.ensures ∙ c.if-is_open.false in
+    let bytes : held_bytes s.heap ≡ 0 = omega (arith, c.held_bytes.ensures, c.if-held_bytes-eq0.true) in
     let none : s.heap.waiting ≡ [] = no_blocks s.heap c.requires.sound.safe.heap bytes in
     let free : bytes_in s.heap.waiting ≡ 0 = omega (arith, bytes) in
     Step-passed s Sweep (Swept 0 0) s (sweep_passes s closed) (λ i. Swept (sym (tags_taken-none s none) i) (sym free i), sym (swept-none s none))
@@ -23,7 +23,7 @@ returns-then-held_bytes-eq0-clause-step g c =
 pub returns-clause-step : goal.returns-clause-step
 returns-clause-step g c =
     let m = c.args.self.now in
-    let closed : c.args.self.now.heap.is_open ≡ false = sym c.is_open.ensures.value ∙ c.if-is_open.false in
+    let closed : c.args.self.now.heap.is_open ≡ false = sym c.is_open.ensures ∙ c.if-is_open.false in
     let blocks : due c.prepare.new.self ≡ c.args.self.now.heap.waiting = ap due c.prepare.ensures.unchanged ∙ due-closed m.heap closed in
     let revoked : AreRevoked m.heap.waiting m.memory m.registers c.in_ok-revoked.revoked = rw blocks at c.in_ok-revoked.ensures.revoked in
     let taken : AreTaken m.heap.waiting m.memory m.registers c.take-cleared.new.memory c.take-cleared.new.registers c.take-cleared.result = c.take-cleared.ensures.taken m.heap.waiting revoked in
@@ -36,6 +36,6 @@ returns-clause-step g c =
 pub returns-clause-base : goal.returns-clause-base
 returns-clause-base g c =
     let m = c.args.self.now in
-    let closed : c.args.self.now.heap.is_open ≡ false = sym c.is_open.ensures.value ∙ c.if-is_open.false in
+    let closed : c.args.self.now.heap.is_open ≡ false = sym c.is_open.ensures ∙ c.if-is_open.false in
     let free : c.give_back-released.new.self ≡ without_waiting m.heap = c.give_back-released.ensures.free ∙ ap without_due c.prepare.ensures.unchanged ∙ without_due-closed m.heap closed in
     c.take-cleared.ensures.base ∙ (c.requires.base ∙ sym (ap (λ (h : HeapState). h.base) free))

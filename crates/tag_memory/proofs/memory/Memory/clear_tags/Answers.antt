@@ -1,6 +1,7 @@
 use Rattle.std.proofs.Common.{ℕ, ◌≡◌, ◌<◌, ◌≤◌, ◌*◌, ◌^◌, ◌∙◌, ap, arith, length, subst, sym}
 use Rattle.std.specs.List.{All}
 use Rattle.tag_memory.specs.Cells.{MemoryState}
+use Rattle.tag_memory.specs.Extent.{page_granules, page_words}
 use Rattle.tag_memory.proofs.PackedLaws.{Packs, cleared, cleared_count, count, taken_blank, taken_marks, taken_word}
 use Rattle.tag_memory.proofs.TakenLaws.{still_blank}
 use Rattle.tag_memory.proofs.memory.Memory.clear_tags.Goals as goal
@@ -12,23 +13,24 @@ take_tags-requires-clause-masks c =
 
 pub take_tags-requires-clause-blank : goal.take_tags-requires-clause-blank
 take_tags-requires-clause-blank c = λ unmarked.
-    still_blank c.loop-page.invariant.taken c.index-may_hold.result.now (omega (arith, c.loop-page-test.true)) c.index-may_hold.ensures unmarked c.self.invariant.6
+    still_blank c.loop-page.invariant.taken c.index-may_hold.result.now (omega (arith, c.loop-page-test.true)) c.index-may_hold.ensures unmarked c.self.invariant.blank
 
 pub invariant_of-self : goal.invariant_of-self
 invariant_of-self c =
     let p : Packs c.self.inside c.args.self.now = record { view = c.self.view_is; invariant = c.self.invariant } in
     let l = c.loop-page.invariant in
     let old = c.self.invariant in
-    let all : length c.loop-page.self-inside.may_hold.items ≤ c.loop-page.page = omega (arith, c.loop-page-test.false, c.len-page-end.ensures, l.taken.marks) in (
-      ap length l.bits ∙ (old.0 ∙ ap (λ (n : ℕ). 256 * n) (sym l.pages)),
-      l.taken.count ∙ (old.1 ∙ ap (λ (n : ℕ). 4 * n) (sym l.pages)),
-      rw l.pages old.2,
-      rw (l.pages, l.base) old.3,
-      subst (All (λ (number : ℕ). number < 2 ^ 128)) (sym l.bits) old.4,
-      l.taken.marks ∙ (old.5 ∙ sym l.pages),
-      taken_blank p l.taken all,
-      ap length l.dirty ∙ (old.7 ∙ sym l.pages),
-    )
+    let all : length c.loop-page.self-inside.may_hold.items ≤ c.loop-page.page = omega (arith, c.loop-page-test.false, c.len-page-end.ensures, l.taken.marks) in
+    record {
+      granules = ap length l.bits ∙ (old.granules ∙ ap (λ (n : ℕ). page_granules * n) (sym l.pages));
+      words = l.taken.count ∙ (old.words ∙ ap (λ (n : ℕ). page_words * n) (sym l.pages));
+      size = rw l.pages old.size;
+      place = rw (l.pages, l.base) old.place;
+      numbers = subst (All (λ (number : ℕ). number < 2 ^ 128)) (sym l.bits) old.numbers;
+      marks = l.taken.marks ∙ (old.marks ∙ sym l.pages);
+      blank = taken_blank p l.taken all;
+      dirty_marks = ap length l.dirty ∙ (old.dirty_marks ∙ sym l.pages);
+    }
 
 pub returns-clause-cells : goal.returns-clause-cells
 returns-clause-cells c =

@@ -1,5 +1,5 @@
 use Rattle.std.proofs.Common.{◌≡◌}
-use Rattle.tag_memory.proofs.TakenLaws.{AreTaken}
+use Rattle.tag_memory.proofs.TakenLaws.{ArePageTagsTaken}
 use Rattle.tag_memory.proofs.memory.Memory.clear_tags.Given as goal
 
 abbrev pub invariant-loop-page : goal.invariant-loop-page
@@ -9,5 +9,5 @@ invariant-loop-page l =
       pages : l.self-inside.pages ≡ l.initial.self-inside.pages;
       bits : l.self-inside.bits.items ≡ l.initial.self-inside.bits.items;
       dirty : l.self-inside.dirty.items ≡ l.initial.self-inside.dirty.items;
-      taken : AreTaken l.masks l.initial.self-inside.tags.items l.self-inside.tags.items l.initial.self-inside.may_hold.items l.self-inside.may_hold.items l.page;
+      taken : ArePageTagsTaken l.masks l.initial.self-inside.tags.items l.self-inside.tags.items l.initial.self-inside.may_hold.items l.self-inside.may_hold.items l.page;
     }

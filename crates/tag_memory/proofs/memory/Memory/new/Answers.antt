@@ -23,13 +23,14 @@ invariant_of-result c =
     let marks : c.in-Ok-vec-2.may_hold.items ≡ replicate c.args.pages false = search (rules, c.in-Ok-vec-2.ensures) in
     let numbers : All (λ (number : ℕ). number < 2 ^ 128) (replicate (256 * c.args.pages) 0) = All-replicate (λ (number : ℕ). number < 2 ^ 128) (256 * c.args.pages) 0 (omega arith) in
     let dirt : c.in-Ok-vec-3.dirty.items ≡ replicate c.args.pages false = search (rules, c.in-Ok-vec-3.ensures) in
-    let blank = blank-zeros (4 * c.args.pages) c.in-Ok-vec-2.may_hold.items in (
-      ap length bits ∙ length-replicate {A = ℕ} (256 * c.args.pages) 0,
-      ap length tags ∙ length-replicate {A = ℕ} (4 * c.args.pages) 0,
-      search rules,
-      search rules,
-      subst (All (λ (number : ℕ). number < 2 ^ 128)) (sym bits) numbers,
-      ap length marks ∙ length-replicate {A = Bool} c.args.pages false,
-      subst (λ (words : List ℕ). AreBlank words c.in-Ok-vec-2.may_hold.items) (sym tags) blank,
-      ap length dirt ∙ length-replicate {A = Bool} c.args.pages false,
-    )
+    let blank = blank-zeros (4 * c.args.pages) c.in-Ok-vec-2.may_hold.items in
+    record {
+      granules = ap length bits ∙ length-replicate {A = ℕ} (256 * c.args.pages) 0;
+      words = ap length tags ∙ length-replicate {A = ℕ} (4 * c.args.pages) 0;
+      size = search rules;
+      place = search rules;
+      numbers = subst (All (λ (number : ℕ). number < 2 ^ 128)) (sym bits) numbers;
+      marks = ap length marks ∙ length-replicate {A = Bool} c.args.pages false;
+      blank = subst (λ (words : List ℕ). AreBlank words c.in-Ok-vec-2.may_hold.items) (sym tags) blank;
+      dirty_marks = ap length dirt ∙ length-replicate {A = Bool} c.args.pages false;
+    }

@@ -29,21 +29,31 @@ pub invariant_of-self : goal.invariant_of-self
 invariant_of-self c =
     let p : Packs c.self.inside c.args.self.now = record { view = c.self.view_is; invariant = c.self.invariant } in
     let kept = c.self.invariant in
-    (length-set _ _ _ ∙ kept.0, length-set _ _ _ ∙ kept.1, kept.2, kept.3, All-set (λ number. number < 2 ^ 128) _ _ _ c.ranges.bits.fits kept.4, length-set _ _ _ ∙ kept.5, put_marked p c.args.i c.with_bit.result c.requires, length-set _ _ _ ∙ kept.7)
+    record {
+      granules = length-set _ _ _ ∙ kept.granules;
+      words = length-set _ _ _ ∙ kept.words;
+      size = kept.size;
+      place = kept.place;
+      numbers = All-set (λ number. number < 2 ^ 128) _ _ _ c.ranges.bits.fits kept.numbers;
+      marks = length-set _ _ _ ∙ kept.marks;
+      blank = put_marked p c.args.i c.with_bit.result c.requires;
+      dirty_marks = length-set _ _ _ ∙ kept.dirty_marks;
+    }
 
 pub invariant_of-self-else-tag : goal.invariant_of-self-else-tag
 invariant_of-self-else-tag c =
     let p : Packs c.self.inside c.args.self.now = record { view = c.self.view_is; invariant = c.self.invariant } in
-    let kept = c.self.invariant in (
-      length-set _ _ _ ∙ kept.0,
-      length-set _ _ _ ∙ kept.1,
-      kept.2,
-      kept.3,
-      All-set (λ number. number < 2 ^ 128) _ _ _ c.ranges.bits.fits kept.4,
-      kept.5,
-      put_unmarked p c.args.i c.with_bit.result c.index_mut-word.result.now c.args.tag c.requires (omega arith) c.index_mut-word.ensures.value c.if-tag.false c.with_bit.ensures,
-      kept.7,
-    )
+    let kept = c.self.invariant in
+    record {
+      granules = length-set _ _ _ ∙ kept.granules;
+      words = length-set _ _ _ ∙ kept.words;
+      size = kept.size;
+      place = kept.place;
+      numbers = All-set (λ number. number < 2 ^ 128) _ _ _ c.ranges.bits.fits kept.numbers;
+      marks = kept.marks;
+      blank = put_unmarked p c.args.i c.with_bit.result c.index_mut-word.result.now c.args.tag c.requires (omega arith) c.index_mut-word.ensures.value c.if-tag.false c.with_bit.ensures;
+      dirty_marks = kept.dirty_marks;
+    }
 
 pub returns-then-tag : goal.returns-then-tag
 returns-then-tag c =

@@ -1,30 +1,22 @@
 //! Runs found, taken and given, with places worked out by hand.
 
-use crate::count::{count_both, place_of_both};
-use crate::row::FreeRow;
-use crate::word::{first_run_of_word, summary_of_word};
+use granule_rows::{FreeRow, count_both, place_of_both};
 
 #[test]
-fn words_are_summed_up(rt: HostRuntime) {
+fn runs_in_one_word_are_found(rt: HostRuntime) {
+    // A word, the length of its longest run and where that begins, and a length that none has.
     let words = [
-        (0, 0, 0, 0),
-        (u64::MAX, 64, 64, 64),
-        (0b0111_0110, 0, 3, 0),
-        (0xf000_0000_0000_0007, 3, 4, 4),
-        (0x8000_0ff0_0000_0001, 1, 8, 1),
+        (0b0111_0110, 3, 4, 4),
+        (0xf000_0000_0000_0007, 4, 60, 5),
+        (0x8000_0ff0_0000_0001, 8, 36, 9),
+        (u64::MAX, 64, 0, 65),
     ];
-    for (word, prefix, longest, suffix) in words {
-        let summary = summary_of_word(word);
-        assert_eq!(rt;
-            (summary.prefix, summary.longest, summary.suffix),
-            (prefix, longest, suffix),
-            "{word:x}"
-        );
+    for (word, longest, place, longer) in words {
+        let mut row = FreeRow::new(rt.alloc(), 1).expect(&rt, "there is memory");
+        row.give_words(&[word], 0, 1);
+        assert_eq!(rt; row.first_run(longest), Some(place), "{word:x}");
+        assert_eq!(rt; row.first_run(longer), None, "{word:x}");
     }
-    assert_eq!(rt; first_run_of_word(0b0111_0110, 3), Some(4));
-    assert_eq!(rt; first_run_of_word(0b0111_0110, 2), Some(1));
-    assert_eq!(rt; first_run_of_word(u64::MAX, 64), Some(0));
-    assert_eq!(rt; first_run_of_word(0b0111_0110, 4), None);
 }
 
 #[test]

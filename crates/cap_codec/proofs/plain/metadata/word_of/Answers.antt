@@ -1,7 +1,7 @@
 use Rattle.std.proofs.Common.{ap, sym, ◌∙◌, rules}
 use Rattle.cap_codec.specs.Fields.{bits_with}
 use Rattle.cap_codec.proofs.FieldLaws.{fields_of-bits_with, known_by_fields}
-use Rattle.cap_codec.proofs.plain.words.word_of.Goals as goal
+use Rattle.cap_codec.proofs.plain.metadata.word_of.Goals as goal
 
 pub returns-clause-value : goal.returns-clause-value
 unfolding bits_with

@@ -1,7 +1,7 @@
 //! Where a memory or a heap may lie.
 
 ghost use Rattle.std.specs.Prelude.{◌≡◌};
-ghost use Rattle.tag_memory.specs.Span as span;
+ghost use Rattle.tag_memory.specs.Extent as extent;
 
 /// Bytes a granule, which has one tag.
 pub const GRANULE: u64 = 16;
@@ -17,14 +17,14 @@ pub const MOST_PAGES: u32 = 1024;
 
 /// Whether a memory or a heap may have so many pages.
 pub fn is_size(pages: u64) -> bool
-    ensures { result ≡ span.is_size pages }
+    ensures { result ≡ extent.is_size pages }
 {
     (1..=u64::from(MOST_PAGES)).contains(&pages)
 }
 
 /// Whether so many pages may begin at `base`: at a multiple of a page, and within 64-bit addresses.
 pub fn is_base(base: u64, pages: u64) -> bool
-    ensures { result ≡ span.is_base base pages }
+    ensures { result ≡ extent.is_base base pages }
 {
     base.is_multiple_of(PAGE) && u128::from(base) + u128::from(PAGE) * u128::from(pages) <= 1 << 64
 }

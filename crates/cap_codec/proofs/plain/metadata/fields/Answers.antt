@@ -1,7 +1,7 @@
 use Rattle.std.proofs.Common.{ap, ◌∙◌, rules}
 use Rattle.cap_codec.specs.Fields.{bits_with, fields_of}
 use Rattle.cap_codec.proofs.FieldLaws.{bits_with-fields_of}
-use Rattle.cap_codec.proofs.plain.words.fields.Goals as goal
+use Rattle.cap_codec.proofs.plain.metadata.fields.Goals as goal
 
 pub returns-clause-value : goal.returns-clause-value
 unfolding fields_of

@@ -40,8 +40,8 @@ abbrev pub tool_app : App
 tool_app = with_subcommand (with_subcommand (new_app (codes "heap_tool")) run_app.top) word_app.top
 
 -- clap finds no fault in the words, so it takes them where memory serves.
-unfoldable pub AreTaken : List Text → Type 0
-AreTaken words = fault_of tool_app words ≡ []
+unfoldable pub AreAccepted : List Text → Type 0
+AreAccepted words = fault_of tool_app words ≡ []
 
 -- The subcommand that clap's matches of the words name, with its entries.
 unfoldable pub subcommand_named : List Text → Option (Text × List Row)
@@ -49,7 +49,7 @@ subcommand_named words = subcommand_of tool_app words
 
 -- clap takes the words, and its matches name this subcommand, with these entries.
 pub record Names (words : List Text) (name : Text) (rows : List Row) : Type 0 where
-  pub taken : AreTaken words
+  pub taken : AreAccepted words
   pub subcommand : subcommand_named words ≡ Some (name, rows)
 
 -- The text of the entry with this id is a decimal number, as clap reads it: `n`, which lies in these limits.

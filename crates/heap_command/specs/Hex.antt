@@ -4,7 +4,7 @@ use Rattle.cap_codec.specs.declared.word.Word.{Word as CapabilityWord}
 use Rattle.cap_codec.specs.Bytes.{bits_of_bytes}
 use Rattle.hex.specs.Hex.{decode_sized}
 use Rattle.command_line.specs.declared.asked.Options.{Options}
-use Rattle.command_line.specs.Words.{NamesRun, NamesWord, Text}
+use Rattle.command_line.specs.Asked.{NamesRun, NamesWord, Text}
 
 -- The text is 32 hexadecimal digits of either case: the 16 bytes of this word.
 pub record IsTextOf (hex : Text) (w : CapabilityWord) : Type 0 where
