@@ -25,6 +25,9 @@ lie_within within a n = nat_le within.base a && nat_le (a + n) within.top
 -- ---- permissions
 
 -- Permissions, each by its bit (CHERI ISA version 9, UCAM-CL-TR-987: architectural permissions).
+abbrev pub global : ℕ
+global = 2 ^ 0
+
 abbrev pub load : ℕ
 load = 2 ^ 2
 

@@ -4,9 +4,9 @@
 ghost use Rattle.std.specs.Prelude.{◌≡◌, ◌<◌, ◌≤◌, ◌+◌, ◌%◌, ◌^◌, ◌↔◌, IsTrue, ℕ};
 ghost use Rattle.cap_codec.specs.declared.word.Word.{Word as TheWord};
 ghost use Rattle.cap_codec.specs.Rounding.{IsDecoded, IsExact, length_for, outward, unit_for};
-ghost use Rattle.cap_codec.specs.Words.{bounds_in, capability_of, is_exact, keeps_bounds, load, load_capability, narrowed, store, store_capability, with_address, with_perms};
+ghost use Rattle.cap_codec.specs.Words.{bounds_in, capability_of, global, is_exact, keeps_bounds, load, load_capability, narrowed, store, store_capability, with_address, with_perms};
 
-use crate::permissions::{LOAD, LOAD_CAPABILITY, STORE, STORE_CAPABILITY};
+use crate::permissions::{GLOBAL, LOAD, LOAD_CAPABILITY, STORE, STORE_CAPABILITY};
 use crate::word::Word;
 
 /// The bounds of words that are made for bounds, another address or fewer permissions; and from where a
@@ -31,6 +31,7 @@ pub fn null_is_zeros()
 
 /// The permissions are these bits.
 pub fn permission_bits()
+    ensures global { GLOBAL ≡ global }
     ensures load { LOAD ≡ load }
     ensures store { STORE ≡ store }
     ensures load_capability { LOAD_CAPABILITY ≡ load_capability }

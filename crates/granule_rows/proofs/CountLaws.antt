@@ -1,5 +1,5 @@
 -- Bits counted, one by one and by words.
-use Rattle.std.proofs.Common.{◌≡◌, ◌<◌, ◌≤◌, ◌+◌, ◌*◌, ◌^◌, ◌&&◌, ℕ, zero, suc, Bool, false, cond, List, get_or, map, bit_and, refl, sym, ap, ◌∙◌, arith, w64, Fits}
+use Rattle.std.proofs.Common.{◌≡◌, ◌<◌, ◌≤◌, ◌+◌, ◌-◌, ◌*◌, ◌^◌, ◌&&◌, ℕ, zero, suc, Bool, false, cond, List, get_or, map, bit_and, refl, sym, ap, ◌∙◌, arith, w64, Fits}
 use Rattle.std.specs.List.{range_with_len}
 use Rattle.std.specs.Prelude.{count_ones}
 use Rattle.std.proofs.lemmas.List.FromFn.{get_or-map-range_with_len, length-map-range_with_len, sum_by-map-range_with_len_more}
@@ -43,6 +43,12 @@ count-split test a (suc n) =
     let next : suc n ≡ n + 1 = omega arith in
     let at : a + suc n ≡ a + n + 1 = omega arith in
     omega (arith, ap (count_below test) at, count-more test (a + n), count-split test a n, ap (count_below after) next, count-more after n)
+
+-- What is counted up to a number is no more than up to a later one.
+pub count-grows : (test : ℕ → Bool) (a b : ℕ) → a ≤ b → count_below test a ≤ count_below test b
+count-grows test a b order =
+    let at : a + (b - a) ≡ b = omega (arith, order) in
+    omega (arith, ap (count_below test) at, count-split test a (b - a))
 
 -- ---- by words
 

@@ -25,6 +25,7 @@ pub fn place_of_both(row: &[u64], other: &[u64], n: usize) -> usize
     requires limit { length row.now ≤ 2 ^ 24 }
     ensures before { n ≤ count_below (is_both row.now other.now) (64 * length row.now)
         → count_below (is_both row.now other.now) result ≡ n }
+    ensures past { count_below (is_both row.now other.now) (64 * length row.now) ≤ n → result ≡ 64 * length row.now }
     ensures within { result ≤ 64 * length row.now }
     ensures one { result < 64 * length row.now → is_both row.now other.now result ≡ true }
 {

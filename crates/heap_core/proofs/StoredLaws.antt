@@ -374,6 +374,12 @@ module _ (t : Inside) (stored : AreStored t) where
         held = λ inside. get_or-marks_of t.rows.starts.items t.rows.held.items (length t.lengths.items) p (omega (arith, inside, long)) ∙ one (omega (arith, inside, long, stored.count));
       }
 
+  pub ends_at : (n p : ℕ)
+      → (count_below (is_both t.rows.starts.items t.rows.held.items) (64 * length t.rows.starts.items) ≤ n → p ≡ 64 * length t.rows.starts.items)
+      → held_count (marks_of t.rows.starts.items t.rows.held.items (length t.lengths.items)) ≤ n
+      → p ≡ length (lengths_of t.rows.starts.items t.lengths.items)
+  ends_at n p past few = omega (arith, past (omega (arith, few, marks_counted)), row_long, stored.rows.held)
+
   -- Of a range that lies in the table, the granules in held blocks are those whose bits are 1.
   pub held_range : (from to : ℕ) → to ≤ length (lengths_of t.rows.starts.items t.lengths.items) → (k : ℕ)
       → (is_within from to k && is_taken k (kept_lengths is_held (lengths_of t.rows.starts.items t.lengths.items) (marks_of t.rows.starts.items t.rows.held.items (length t.lengths.items))))

@@ -217,6 +217,7 @@ impl Table {
     /// one has fewer.
     pub fn held_start(&self, n: usize) -> usize
         ensures start { n ≤ held_count self.now.marks → IsHeldStart self.now.lengths self.now.marks n result }
+        ensures past { held_count self.now.marks ≤ n → result ≡ length self.now.lengths }
         ensures some { AreBlocks self.now.lengths self.now.marks }
     {
         place_of_both(&self.rows.starts, &self.rows.held, n)

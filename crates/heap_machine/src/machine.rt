@@ -27,6 +27,7 @@ use trace_text::Command;
 #[derive(Drop)]
 pub struct Machine {
     parts: Parts,
+    cutting: Cutting,
 }
 
 impl Model for Machine {
@@ -34,7 +35,7 @@ impl Model for Machine {
 
     ghost Value = { MachineState };
 
-    ghost view = { λ m. machine_of m.parts };
+    ghost view = { λ m. machine_of m.parts m.cutting };
 
     ghost invariant = { λ m. AreParts m.parts };
 }
@@ -52,6 +53,7 @@ impl Machine {
         ensures bad_base { (result ≡ Err MachineFault.BadBase)
             ↔ ((span.is_size pages ≡ true) × (span.is_base base pages ≡ false)) }
         ensures first { IfOk result (λ machine. machine.state ≡ first_state base pages) }
+        ensures cutting { IfOk result (λ machine. machine.cutting ≡ cutting) }
         ensures clean { IfOk result (λ machine. machine.dirty ≡ replicate pages false) }
         ensures safe { IfOk result (λ machine. IsSafe machine.state) }
     {
@@ -68,9 +70,8 @@ impl Machine {
             heap,
             memory,
             registers: Registers::new(),
-            cutting,
         };
-        Ok(Machine { parts })
+        Ok(Machine { parts, cutting })
     }
 
     /// Does one command. `gate` is told of each task of a pass: of a sweep and of what begins an epoch, which make none
@@ -87,6 +88,7 @@ impl Machine {
         ensures err { OnErr result (self.new ≡ self.old) }
         ensures memory { IfErr result (λ fault. fault ≡ MachineFault.Memory) }
         ensures ok { TakesNoMemory self.old.state command → IsOk result }
+        ensures cutting { self.new.cutting ≡ self.old.cutting }
         ensures safe { IsSafe self.new.state }
         ensures unused { IfOk result (λ reply. IsUnused self.old.state command reply) }
         ensures revoked { IfOk result (λ reply. LeavesInUse command reply self.new.state) }
@@ -98,7 +100,7 @@ impl Machine {
         // From a sound state each step leads to one.
         steps();
         self.parts.memory.whole();
-        self.parts.serve(rt, alloc, command, gate)
+        self.parts.serve(rt, alloc, self.cutting, command, gate)
     }
 
     /// The registers now.
@@ -143,6 +145,7 @@ impl Machine {
     pub fn finish(self) -> (Memory, Registers)
         ensures base { result.0.base ≡ self.state.heap.base }
         ensures cells { result.0.cells ≡ self.state.cells }
+        ensures dirty { result.0.dirty ≡ self.dirty }
         ensures registers { result.1 ≡ self.state.registers }
     {
         let Parts {

@@ -26,14 +26,13 @@ use sweep_pool::{Cutting, Gate};
 use tag_memory::{GRANULE, Memory, Registers};
 use trace_text::Command;
 
-/// One heap with its memory, 32 registers, and how its sweeps are cut. Each command takes parts whose state
-/// is sound from one state to the next.
+/// One heap with its memory, and 32 registers. Each command takes parts whose state is sound from one state to the
+/// next; `cutting` says how its passes are cut.
 #[derive(Drop)]
 pub struct Parts {
     pub heap: Heap,
     pub memory: Memory,
     pub registers: Registers,
-    pub cutting: Cutting,
 }
 
 impl Parts {
@@ -42,6 +41,7 @@ impl Parts {
         &mut self,
         rt: &R,
         alloc: Global,
+        cutting: Cutting,
         command: Command,
         gate: &G,
     ) -> Result<Reply, MachineFault>
@@ -57,7 +57,7 @@ impl Parts {
         ensures fits { FitsTypes command }
     {
         match command {
-            Command::Malloc { rd, size } => self.malloc(rt, alloc, rd, size, gate),
+            Command::Malloc { rd, size } => self.malloc(rt, alloc, cutting, rd, size, gate),
             Command::Free { rs } => self.free(rs),
             Command::Copy { rd, rs } => Ok(self.copy(rd, rs)),
             Command::SetAddr { rd, rs, address } => Ok(self.set_address(rd, rs, address)),
@@ -67,9 +67,9 @@ impl Parts {
             Command::LoadCap { rd, ra } => Ok(self.load_cap(rd, ra)),
             Command::Write { ra, bytes } => Ok(self.write(ra, bytes)),
             Command::Show { rs } => Ok(self.show(rs)),
-            Command::Sweep => self.sweep(rt, alloc, gate),
-            Command::Begin => self.begin(rt, alloc, gate),
-            Command::End => self.end(rt, alloc, gate),
+            Command::Sweep => self.sweep(rt, alloc, cutting, gate),
+            Command::Begin => self.begin(rt, alloc, cutting, gate),
+            Command::End => self.end(rt, alloc, cutting, gate),
         }
     }
 

@@ -1,7 +1,7 @@
 -- Shares that are painted, and joined to a shadow.
-use Rattle.std.proofs.Common.{◌≡◌, ◌∙◌, ◌<◌, ◌≤◌, ◌+◌, ◌-◌, ◌*◌, ◌/◌, ◌%◌, ◌^◌, ◌==◌, ◌||◌, inl, inr, nat_le, ℕ, Bool, true, false, All, List, [], ◌∷◌, ◌++◌, drop, length, get_or, take, refl, sym, ap, subst, arith}
+use Rattle.std.proofs.Common.{◌≡◌, ◌∙◌, ◌<◌, ◌≤◌, ◌+◌, ◌-◌, ◌*◌, ◌/◌, ◌%◌, ◌^◌, ◌==◌, ◌||◌, inl, inr, nat_le, ℕ, Bool, false, All, List, [], ◌∷◌, ◌++◌, drop, length, get_or, take, refl, sym, ap, subst, arith}
 use Rattle.std.specs.List.{list_any}
-use Rattle.std.proofs.lemmas.Bool.{and_parts, cases_Bool, cases_lt, eqb-true, or_cases, or_left, or_parts, or_right}
+use Rattle.std.proofs.lemmas.Bool.{and_parts, cases_Bool, cases_lt, eqb-true, or_cases, or_parts}
 use Rattle.std.proofs.lemmas.List.{drop-drop, drop-take, get_or_append_left, get_or_push, length-append, take-append-drop, take-take, take_all}
 use Rattle.std.proofs.lemmas.List.Folds.{list_any-append}
 use Rattle.std.proofs.lemmas.List.Elements.{All-head, All-tail}
@@ -37,21 +37,17 @@ in_due-split s a b c k low high =
 abbrev lies_in_at : (s : HeapState) (k : ℕ) → List Span → Bool
 lies_in_at s k blocks = lies_in blocks (s.base + 16 * k)
 
-later : (test : Span → Bool) (xs ys : List Span) → list_any test (xs ++ ys) ≡ false → list_any test ys ≡ false
-later test xs ys none = (or_parts (list_any test xs) (list_any test ys) (sym (list_any-append test xs ys) ∙ none)).1
-
-earlier : (test : Span → Bool) (xs ys : List Span) → list_any test (xs ++ ys) ≡ false → list_any test xs ≡ false
-earlier test xs ys none = (or_parts (list_any test xs) (list_any test ys) (sym (list_any-append test xs ys) ∙ none)).0
-
 -- ---- seats
 
--- One share more.
+-- One share more: what lies in neither part was set through neither seat.
 pub painted-join : (s : HeapState) (board : BoardState) (a b c : ℕ) (whole one both : SeatState) → a ≤ b → b ≤ c → HasPainted s board b c whole → HasPainted s board a b one
     → IsOf board both → IsSeat both → both.mine ≡ united whole.mine one.mine → both.seen ≡ united whole.seen one.seen → HasPainted s board a c both
 painted-join s board a b c whole one both low high all more of sound mine seen = record {
   of = of;
   sound = sound;
-  mine = λ k free. omega (arith, ap (λ (set : List ℕ). has set k) mine, bit-united whole.mine one.mine (k / 64) (k % 64), all.mine k free, more.mine k free);
+  mine = λ k free.
+      let parts = or_parts (is_in_due s a b k) (is_in_due s b c k) (sym (in_due-split s a b c k low high) ∙ free) in
+      omega (arith, ap (λ (set : List ℕ). has set k) mine, bit-united whole.mine one.mine (k / 64) (k % 64), all.mine k parts.1, more.mine k parts.0);
   seen = λ k is.
       let limit = bit_at-lt (get_or both.seen (k / 64) 0) (k % 64) in
       let set = bit-united whole.seen one.seen (k / 64) (k % 64) in
@@ -62,30 +58,12 @@ painted-join s board a b c whole one both low high all more of sound mine seen =
       ];
 }
 
--- A granule in some of the blocks that are due lies in a block that is due.
-pub in_due-any : (s : HeapState) (a b k : ℕ) → is_due_at s k ≡ false → is_in_due s a b k ≡ false
-in_due-any s a b k free =
-    let test : Span → Bool = has_address (s.base + 16 * k) in
-    let rest : list_any test (drop a (due s)) ≡ false = later test (take a (due s)) (drop a (due s)) (ap (list_any test) (take-append-drop a (due s)) ∙ free) in
-    earlier test (take (b - a) (drop a (due s))) (drop (b - a) (drop a (due s))) (ap (list_any test) (take-append-drop (b - a) (drop a (due s))) ∙ rest)
-
--- More blocks painted are painted too.
-pub painted-narrower : (s : HeapState) (board : BoardState) (a b c d : ℕ) (seat : SeatState) → a ≤ b → b ≤ c → c ≤ d → HasPainted s board a d seat → HasPainted s board b c seat
-painted-narrower s board a b c d seat low order high all = record {
-  of = all.of;
-  sound = all.sound;
-  mine = all.mine;
-  seen = λ k is.
-      let from_b : is_in_due s b d k ≡ true = in_due-split s b c d k order high ∙ or_left (is_in_due s b c k) (is_in_due s c d k) is in
-      all.seen k (in_due-split s a b d k low (omega (arith, order, high)) ∙ or_right (is_in_due s a b k) (is_in_due s b d k) from_b);
-}
-
 -- What a worker leaves.
 pub painted-share : (s : HeapState) (board : BoardState) (a b : ℕ) (old new : SeatState) → old.mine ≡ no_bits board → IsSeat old → IsPainted (is_in_due s a b) board old new → HasPainted s board a b new
 painted-share s board a b old new none sound p = record {
   of = p.of;
   sound = p.sound sound;
-  mine = λ k free. p.mine k (in_due-any s a b k free) ∙ (ap (λ (set : List ℕ). has set k) none ∙ bit-none _ (k / 64) (k % 64));
+  mine = λ k free. p.mine k free ∙ (ap (λ (set : List ℕ). has set k) none ∙ bit-none _ (k / 64) (k % 64));
   seen = p.seen;
 }
 
@@ -128,13 +106,13 @@ shadow-from_words s shadow sound long each =
 
 -- What one seat has painted in the end says it of each granule.
 pub words-held : (s : HeapState) (board : BoardState) (seat : SeatState) (words : List ℕ) → HasPainted s board 0 (length (due s)) seat → words ≡ seat.mine → words ≡ seat.seen → (k : ℕ) → is_set_for words k ≡ is_due_at s k
-words-held s board seat words p mine seen k = elim (cases_Bool (is_due_at s k)) [
-  | inl is ↦
-      let none : length (due s) - 0 ≡ length (due s) = omega arith in
-      let all : is_in_due s 0 (length (due s)) k ≡ true = ap (λ (n : ℕ). lies_in_at s k (take n (due s))) none ∙ (ap (lies_in_at s k) (take_all (length (due s)) (due s) (omega arith)) ∙ is) in
-      ap (λ (bit : ℕ). bit == 1) (ap (λ (set : List ℕ). has set k) seen ∙ p.seen k all) ∙ sym is
-  | inr free ↦ ap (λ (bit : ℕ). bit == 1) (ap (λ (set : List ℕ). has set k) mine ∙ p.mine k free) ∙ sym free
-]
+words-held s board seat words p mine seen k =
+    let none : length (due s) - 0 ≡ length (due s) = omega arith in
+    let all : is_in_due s 0 (length (due s)) k ≡ is_due_at s k = ap (λ (n : ℕ). lies_in_at s k (take n (due s))) none ∙ ap (lies_in_at s k) (take_all (length (due s)) (due s) (omega arith)) in
+    elim (cases_Bool (is_due_at s k)) [
+      | inl is ↦ ap (λ (bit : ℕ). bit == 1) (ap (λ (set : List ℕ). has set k) seen ∙ p.seen k (all ∙ is)) ∙ sym is
+      | inr free ↦ ap (λ (bit : ℕ). bit == 1) (ap (λ (set : List ℕ). has set k) mine ∙ p.mine k (all ∙ free)) ∙ sym free
+    ]
 
 -- There is a word for 64 granules.
 pub words-long : (s : HeapState) (board : BoardState) (seat : SeatState) (words : List ℕ) (granules : ℕ) → IsSound s → HasGranules s board → HasPainted s board 0 (length (due s)) seat → words ≡ seat.mine → 16 * granules ≡ s.size → 64 * length words ≡ granules

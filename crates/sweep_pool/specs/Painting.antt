@@ -28,12 +28,12 @@ pub record IsUnpainted (board : BoardState) (workers i : ℕ) (share : Share) : 
   pub none : share.seat.mine ≡ no_bits board
   pub sound : IsSeat share.seat
 
--- The blocks that are due, from number `first` up to `last`, are painted through a seat: it has seen all their
--- granules set, and has set none outside of blocks that are due.
+-- Just the blocks that are due, from number `first` up to `last`, are painted through a seat: it has seen all their
+-- granules set, and has set no others.
 pub record HasPainted (s : HeapState) (board : BoardState) (first last : ℕ) (seat : SeatState) : Type 0 where
   pub of : IsOf board seat
   pub sound : IsSeat seat
-  pub mine : (k : ℕ) → is_due_at s k ≡ false → has seat.mine k ≡ 0
+  pub mine : (k : ℕ) → is_in_due s first last k ≡ false → has seat.mine k ≡ 0
   pub seen : (k : ℕ) → is_in_due s first last k ≡ true → has seat.seen k ≡ 1
 
 -- Each element has its number's property.

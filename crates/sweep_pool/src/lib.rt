@@ -18,7 +18,7 @@ pub use crate::cutting::{CutFault, Cutting};
 pub use crate::dirty::sweep_dirty;
 pub use crate::gate::{Gate, Open};
 pub use crate::gathering::{GatherFault, gather};
-pub use crate::painting::paint_shadow;
+pub use crate::painting::{paint_shadow, share_of};
 pub use crate::pool::sweep_masks;
 pub use crate::sweep::{SweepFault, due_registers, swept_registers};
 pub use crate::task::{Swept, sweep_task};

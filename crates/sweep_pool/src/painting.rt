@@ -13,6 +13,7 @@ use crate::sweep::SweepFault;
 use heap_core::{Heap, Shadow};
 use mark_board::{Board, BoardFault, MarkSeat};
 use std::alloc::{AllocError, Global};
+use std::ops::Range;
 use std::thread;
 use std::thread::Threads;
 
@@ -34,8 +35,8 @@ pub(crate) struct Share {
 
 /// The shadow of a heap, painted by the workers of the cutting: a granule is painted exactly where it lies in a
 /// block that is due. With `h` such blocks and `w` workers, share `i` is those from number `i * h / w` up to, not
-/// including, `(i + 1) * h / w`, by rising start, and `gate` is told of it once, by the worker that painted it. A
-/// single worker is the calling thread, which copies the row of the held granules (Filardo et al. 2020,
+/// including, `(i + 1) * h / w` (`share_of`), by rising start, and `gate` is told of it once, by the worker that painted
+/// it. A single worker is the calling thread, which copies the row of the held granules (Filardo et al. 2020,
 /// Cornucopia: the shadow bitmap).
 pub fn paint_shadow<R: Threads + Sync, G: Gate + Sync>(
     rt: &R,
@@ -150,19 +151,19 @@ fn deal(
     Ok(shares)
 }
 
-// The blocks of a share, from the first number up to the second, and perhaps some before and after them.
-fn share_of(number: u32, workers: u32, blocks: usize) -> (usize, usize)
+/// The numbers of the blocks that a share has, where so many are due and each worker has a share.
+pub fn share_of(number: u32, workers: u32, blocks: usize) -> Range<usize>
     requires number { number < workers }
     requires workers { workers ≤ 64 }
     requires blocks { blocks ≤ 262144 }
-    ensures from { result.0 ≤ share_start blocks workers number }
-    ensures to { share_start blocks workers (number + 1) ≤ result.1 }
-    ensures order { result.0 ≤ result.1 }
-    ensures within { result.1 ≤ blocks }
+    ensures start { result.start ≡ share_start blocks workers number }
+    ensures end { result.end ≡ share_start blocks workers (number + 1) }
+    ensures order { result.start ≤ result.end }
+    ensures within { result.end ≤ blocks }
 {
     let first = number as usize * blocks / workers as usize;
     let last = (number as usize + 1) * blocks / workers as usize;
-    (first, last)
+    first..last
 }
 
 // What one worker does.
@@ -173,8 +174,10 @@ fn painted_by<G: Gate>(painting: &Painting<'_, G>, share: Share) -> MarkSeat
     ensures { IsPaintedShare painting.now.heap.now painting.now.board.now painting.now.workers share.number result }
 {
     let Share { mut seat, number } = share;
-    let (first, last) = share_of(number, painting.workers, painting.heap.held_blocks());
-    painting.heap.paint(painting.board, &mut seat, first, last);
+    let blocks = share_of(number, painting.workers, painting.heap.held_blocks());
+    painting
+        .heap
+        .paint(painting.board, &mut seat, blocks.start, blocks.end);
     painting.gate.pass(number);
     seat
 }

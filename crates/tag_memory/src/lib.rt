@@ -3,11 +3,13 @@
 
 mod bits;
 mod extent;
+mod laws;
 mod memory;
 mod pages;
 mod registers;
 
 pub use crate::bits::{WORD_GRANULES, bit, with_bit};
 pub use crate::extent::{GRANULE, MOST_PAGES, PAGE, PAGE_GRANULES, is_base, is_size};
+pub use crate::laws::sizes;
 pub use crate::memory::{Memory, MemoryFault, PAGE_WORDS};
 pub use crate::registers::{REGISTERS, Registers};

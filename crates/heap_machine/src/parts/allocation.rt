@@ -12,7 +12,7 @@ use heap_core::Block;
 use heap_reply::Reply;
 use std::alloc::Global;
 use std::thread::Threads;
-use sweep_pool::Gate;
+use sweep_pool::{Cutting, Gate};
 use trace_text::Command;
 
 impl Parts {
@@ -22,6 +22,7 @@ impl Parts {
         &mut self,
         rt: &R,
         alloc: Global,
+        cutting: Cutting,
         rd: u8,
         size: u64,
         gate: &G,
@@ -46,7 +47,7 @@ impl Parts {
             self.registers.set(rd, Word::NULL, false);
             return Ok(Reply::NoSpace);
         }
-        self.sweep_and_malloc(rt, alloc, rd, size, gate)
+        self.sweep_and_malloc(rt, alloc, cutting, rd, size, gate)
     }
 
     // Whether a malloc may sweep: no epoch is open, and some block waits.

@@ -14,7 +14,7 @@ use crate::parts::revocation::{RevokedTags, ones_in};
 use heap_reply::{Reply, Trap};
 use std::alloc::Global;
 use std::thread::Threads;
-use sweep_pool::{Gate, due_registers, sweep_dirty, swept_registers};
+use sweep_pool::{Cutting, Gate, due_registers, sweep_dirty, swept_registers};
 use trace_text::Command;
 
 impl Parts {
@@ -24,6 +24,7 @@ impl Parts {
         &mut self,
         rt: &R,
         alloc: Global,
+        cutting: Cutting,
         gate: &G,
     ) -> Result<Reply, MachineFault>
         requires { AreParts self.old }
@@ -42,8 +43,8 @@ impl Parts {
             self.heap.begin_epoch();
             return Ok(Reply::Begun { cleared: 0 });
         }
-        let shadow = self.shadow(rt, alloc)?;
-        let masks = self.memory_masks(rt, alloc, &shadow, gate)?;
+        let shadow = self.shadow(rt, alloc, cutting)?;
+        let masks = self.memory_masks(rt, alloc, cutting, &shadow, gate)?;
         self.memory.clear_tags(&masks);
         self.memory.mark_clean();
         self.heap.begin_epoch();
@@ -58,6 +59,7 @@ impl Parts {
         &mut self,
         rt: &R,
         alloc: Global,
+        cutting: Cutting,
         gate: &G,
     ) -> Result<Reply, MachineFault>
         requires { AreParts self.old }
@@ -77,7 +79,7 @@ impl Parts {
         let Ok(()) = self.heap.prepare() else {
             return Err(MachineFault::Memory);
         };
-        let revoked = self.dirty_tags(rt, alloc, gate)?;
+        let revoked = self.dirty_tags(rt, alloc, cutting, gate)?;
         let cleared = revoked.take(&mut self.memory, &mut self.registers);
         let released = self.heap.give_back();
         Ok(Reply::Swept { cleared, released })
@@ -107,6 +109,7 @@ impl Parts {
         &self,
         rt: &R,
         alloc: Global,
+        cutting: Cutting,
         gate: &G,
     ) -> Result<RevokedTags, MachineFault>
         requires parts { AreParts self.now }
@@ -116,8 +119,8 @@ impl Parts {
         ensures masks { IfOk result (λ tags. 64 * length tags.masks.items ≡ length self.now.memory.cells) }
         ensures few { length self.now.memory.cells < 2 ^ 31 }
     {
-        let shadow = self.shadow(rt, alloc)?;
-        let Ok(masks) = sweep_dirty(rt, alloc, &self.memory, &shadow, &self.cutting, gate) else {
+        let shadow = self.shadow(rt, alloc, cutting)?;
+        let Ok(masks) = sweep_dirty(rt, alloc, &self.memory, &shadow, &cutting, gate) else {
             return Err(MachineFault::Memory);
         };
         let registers = swept_registers(&self.registers, &shadow, self.memory.base());

@@ -12,7 +12,7 @@ use heap_core::Block;
 use heap_reply::Reply;
 use std::alloc::Global;
 use std::thread::Threads;
-use sweep_pool::Gate;
+use sweep_pool::{Cutting, Gate};
 use trace_text::Command;
 
 impl Parts {
@@ -21,6 +21,7 @@ impl Parts {
         &mut self,
         rt: &R,
         alloc: Global,
+        cutting: Cutting,
         rd: u8,
         size: u64,
         gate: &G,
@@ -35,7 +36,7 @@ impl Parts {
         ensures err { OnErr result (self.new ≡ self.old) }
         ensures memory { IfErr result (λ fault. fault ≡ MachineFault.Memory) }
     {
-        let revoked = self.revoked_tags(rt, alloc, gate)?;
+        let revoked = self.revoked_tags(rt, alloc, cutting, gate)?;
         let Ok((found, _)) = self.heap.give_back_and_reserve(size) else {
             return Err(MachineFault::Memory);
         };

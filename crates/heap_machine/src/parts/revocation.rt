@@ -107,6 +107,7 @@ impl Parts {
         &mut self,
         rt: &R,
         alloc: Global,
+        cutting: Cutting,
         gate: &G,
     ) -> Result<Reply, MachineFault>
         requires { AreParts self.old }
@@ -129,7 +130,7 @@ impl Parts {
         let Ok(()) = self.heap.prepare() else {
             return Err(MachineFault::Memory);
         };
-        let revoked = self.revoked_tags(rt, alloc, gate)?;
+        let revoked = self.revoked_tags(rt, alloc, cutting, gate)?;
         let cleared = revoked.take(&mut self.memory, &mut self.registers);
         let released = self.heap.give_back();
         Ok(Reply::Swept { cleared, released })
@@ -140,6 +141,7 @@ impl Parts {
         &self,
         rt: &R,
         alloc: Global,
+        cutting: Cutting,
         gate: &G,
     ) -> Result<RevokedTags, MachineFault>
         requires { AreParts self.now }
@@ -148,8 +150,8 @@ impl Parts {
         ensures masks { IfOk result (λ tags. 64 * length tags.masks.items ≡ length self.now.memory.cells) }
         ensures few { length self.now.memory.cells < 2 ^ 31 }
     {
-        let shadow = self.shadow(rt, alloc)?;
-        let masks = self.memory_masks(rt, alloc, &shadow, gate)?;
+        let shadow = self.shadow(rt, alloc, cutting)?;
+        let masks = self.memory_masks(rt, alloc, cutting, &shadow, gate)?;
         let registers = swept_registers(&self.registers, &shadow, self.memory.base());
         Ok(RevokedTags { masks, registers })
     }
@@ -160,11 +162,12 @@ impl Parts {
         &self,
         rt: &R,
         alloc: Global,
+        cutting: Cutting,
     ) -> Result<Shadow, MachineFault>
         ensures memory { IfErr result (λ fault. fault ≡ MachineFault.Memory) }
         ensures shadow { IfOk result (IsShadow self.now.heap) }
     {
-        let painters = cutting_for(self.cutting, 0);
+        let painters = cutting_for(cutting, 0);
         let Ok(shadow) = paint_shadow(rt, alloc, &self.heap, &painters, &Open) else {
             return Err(MachineFault::Memory);
         };
@@ -176,6 +179,7 @@ impl Parts {
         &self,
         rt: &R,
         alloc: Global,
+        cutting: Cutting,
         shadow: &Shadow,
         gate: &G,
     ) -> Result<Vec<u64>, MachineFault>
@@ -184,7 +188,7 @@ impl Parts {
         ensures memory { IfErr result (λ fault. fault ≡ MachineFault.Memory) }
         ensures masks { IfOk result (λ masks. TakeTags self.now.memory (due self.now.heap) masks.items) }
     {
-        let cutting = cutting_for(self.cutting, self.memory.tagged());
+        let cutting = cutting_for(cutting, self.memory.tagged());
         let Ok(masks) = sweep_masks(rt, alloc, &self.memory, shadow, &cutting, gate) else {
             return Err(MachineFault::Memory);
         };

@@ -1,0 +1,96 @@
+"""The record of the wrong bodies that were refused, testing/refused_edits: each with a sum of what this rests on, so that
+it is tried again only where something of that changed."""
+
+import datetime
+import functools
+import hashlib
+import pathlib
+import re
+import subprocess
+import threading
+
+ROOT = pathlib.Path(__file__).resolve().parent.parent
+RECORD = ROOT / "testing" / "refused_edits"
+# Of what stands in the record one in so many is tried again, each day another.
+SHARE = 10
+HEAD = "# Wrong bodies that were refused, by testing/try_edits and testing/try_tested; testing/record.py says what the sums are.\n"
+LOCK = threading.Lock()
+
+
+def uses_of():
+    """The crates in the order of crates.txt, each with what its row names."""
+    rows = (line.split("#")[0].split(":") for line in (ROOT / "crates.txt").read_text(encoding="utf-8").split("\n"))
+    return {row[0].split()[0]: row[1].split() for row in rows if len(row) == 2}
+
+
+def below(crate, uses):
+    """The crate and all on which it stands, of the repository's own."""
+    found = {crate}
+    for it in uses[crate]:
+        if it in uses:
+            found |= below(it, uses)
+    return found
+
+
+@functools.lru_cache(maxsize=None)
+def logic():
+    return subprocess.run(["rt", "version"], capture_output=True, text=True, check=True).stdout.split("logic")[-1].strip()
+
+
+def sum_of(*parts):
+    return hashlib.sha256(b"".join(len(it).to_bytes(8, "little") + it for it in parts)).hexdigest()
+
+
+@functools.lru_cache(maxsize=None)
+def text_of(path):
+    return path.read_text(encoding="utf-8")
+
+
+def own_files(crate):
+    """The crate's sources, statements and proofs."""
+    return {path for it in ("src", "specs", "proofs") for path in (ROOT / "crates" / crate / it).rglob("*") if path.is_file()}
+
+
+@functools.lru_cache(maxsize=None)
+def named_in(path):
+    """The files of specs/ that a file names, of whatever crate."""
+    found = re.findall(r"\bRattle\.(\w+)\.specs\.(\w+)", text_of(path))
+    return frozenset(it for crate, name in found if (it := ROOT / "crates" / crate / "specs" / f"{name}.antt").is_file())
+
+
+def files_under(crates):
+    """What the crates' contracts say: their own files, and the definitions that these name, and those that these name.
+    Other contracts and the proofs below don't count: a body that breaks its own contract is refused over any of them."""
+    found = set().union(*(own_files(it) for it in crates))
+    left = list(found)
+    while left:
+        more = named_in(left.pop()) - found
+        found |= more
+        left += more
+    return sorted(found)
+
+
+def sum_over(crates, texts):
+    """A sum of these texts, of what the crates' contracts say, and of the toolchain's logic, in 16 digits."""
+    under = [part for it in files_under(crates) for part in (str(it.relative_to(ROOT)), text_of(it))]
+    return sum_of(*(it.encode() for it in (logic(), *crates, *under, *texts)))[:16]
+
+
+def read():
+    """The sums of the record, by the names of the edits."""
+    if not RECORD.is_file():
+        return {}
+    return dict(line.split() for line in RECORD.read_text(encoding="utf-8").split("\n") if line and not line.startswith("#"))
+
+
+def add(sums, is_known):
+    """Adds these sums to the record, and leaves out of it what isn't known any more."""
+    with LOCK:
+        kept = {name: it for name, it in read().items() if is_known(name)} | sums
+        text = "".join(f"{name} {kept[name]}\n" for name in sorted(kept))
+        RECORD.write_text(HEAD + text, encoding="utf-8")
+
+
+def is_to_be_tried(known, name, now):
+    """Whether the sum of this name isn't the one of the record, or is due today."""
+    return known.get(name) != now or int(now, 16) % SHARE == datetime.date.today().toordinal() % SHARE
