@@ -2,19 +2,18 @@
 it is tried again only where something of that changed."""
 
 import datetime
+import fcntl
 import functools
 import hashlib
 import pathlib
 import re
 import subprocess
-import threading
 
 ROOT = pathlib.Path(__file__).resolve().parent.parent
 RECORD = ROOT / "testing" / "refused_edits"
 # Of what stands in the record one in so many is tried again, each day another.
 SHARE = 10
 HEAD = "# Wrong bodies that were refused, by testing/try_edits and testing/try_tested; testing/record.py says what the sums are.\n"
-LOCK = threading.Lock()
 
 
 def uses_of():
@@ -85,10 +84,12 @@ def read():
 
 def add(sums, is_known):
     """Adds these sums to the record, and leaves out of it what isn't known any more."""
-    with LOCK:
+    with RECORD.open("a", encoding="utf-8") as file:
+        # runs for different crates may end at once
+        fcntl.flock(file, fcntl.LOCK_EX)
         kept = {name: it for name, it in read().items() if is_known(name)} | sums
-        text = "".join(f"{name} {kept[name]}\n" for name in sorted(kept))
-        RECORD.write_text(HEAD + text, encoding="utf-8")
+        file.truncate(0)
+        file.write(HEAD + "".join(f"{name} {kept[name]}\n" for name in sorted(kept)))
 
 
 def is_to_be_tried(known, name, now):

@@ -1,6 +1,6 @@
 //! What the program writes to.
 
-ghost use Rattle.std.specs.Prelude.{◌≡◌, ◌<◌, ℕ, Bool, IfOk, IsOk, List, None, OnErr, OnOk, Option, false, length};
+ghost use Rattle.std.specs.Prelude.{◌≡◌, ◌<◌, ℕ, Bool, IfOk, List, None, OnErr, OnOk, Option, false, length};
 ghost use Rattle.std.specs.Io.{WritesAtMost};
 ghost use Rattle.std.specs.Io.KnownBytes.{Appends, WriteAppends};
 ghost use Rattle.trace_program.specs.Device.{AppendsBeginning, FailsByError};
@@ -19,8 +19,6 @@ pub trait Sink {
     fn write(&mut self, bytes: &[u8]) -> Result<usize, Failed>
         ensures bound { WritesAtMost result bytes.now }
         ensures some { IfOk result (λ count. 0 < length bytes.now → 0 < count) }
-        // A write of nothing never fails.
-        ensures nothing { length bytes.now ≡ 0 → IsOk result }
         // A write that fails adds nothing.
         ensures bytes { WriteAppends (contents self.old) (contents self.new) result bytes.now }
         ensures fails { FailsByError (failed self.old) result (failed self.new) };
