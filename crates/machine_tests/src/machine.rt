@@ -1,5 +1,6 @@
 //! A machine, command by command.
 
+mod cuttings;
 mod epochs;
 mod sweeps;
 mod workers;

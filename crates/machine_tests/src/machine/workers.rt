@@ -9,8 +9,7 @@ use std::thread::{Threads, yield_now};
 use sweep_pool::{Cutting, Gate, Open};
 use trace_text::Command;
 
-// A gate that counts its calls and adds up its tasks. Its first call waits until so many calls have come,
-// for at most 10,000,000 turns, after each of which others may run.
+// A gate that counts its calls and adds up its tasks. Its first call waits until so many calls have come.
 #[derive(Drop)]
 struct Count {
     calls: AtomicU64,
@@ -27,13 +26,15 @@ impl Count {
         }
     }
 
-    // Whether so many calls have come within so many turns.
+    // Whether so many calls come within 100,000,000 turns, after every eighth of which others may run.
     fn waits(&self) -> bool {
-        for _ in 0..10_000_000u32 {
+        for turn in 0..100_000_000u32 {
             if self.calls.load(SeqCst) >= self.awaited {
                 return true;
             }
-            yield_now();
+            if turn % 8 == 0 {
+                yield_now();
+            }
         }
         false
     }
