@@ -50,11 +50,14 @@ const COMMANDS: [Command; 9] = [
     Command::Malloc { rd: 8, size: 32 },
 ];
 
-// With the allocation after the machine's refused, and all that come after it, they succeed, and a sweep
+// With the allocation after these refused, and all that come after it, the commands succeed, and a sweep
 // wants memory: then it changes nothing.
 #[test]
 fn refused_allocations_leave_commands_that_need_none(rt: HostRuntime) {
     let Some(mut machine) = machine(&rt, rt.alloc()) else {
+        return;
+    };
+    let Some(mut before) = Seen::of(rt.alloc(), &machine) else {
         return;
     };
     for command in COMMANDS {
@@ -65,7 +68,7 @@ fn refused_allocations_leave_commands_that_need_none(rt: HostRuntime) {
         );
         assert!(rt; is_done, "{command:?}: {reply:?}");
     }
-    let before = Seen::of(&machine);
+    before.look(&machine);
     match machine.step(&rt, rt.alloc(), Command::Sweep, &Open) {
         Ok(reply) => {
             let swept = Reply::Swept {
@@ -76,7 +79,7 @@ fn refused_allocations_leave_commands_that_need_none(rt: HostRuntime) {
         }
         Err(fault) => {
             assert_eq!(rt; fault, MachineFault::Memory);
-            assert_eq!(rt; Seen::of(&machine), before);
+            before.is_still(&rt, &machine);
         }
     }
 }

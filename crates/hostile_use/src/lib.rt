@@ -12,6 +12,8 @@ mod rows;
 #[cfg(test)]
 mod runs;
 #[cfg(test)]
+mod shared;
+#[cfg(test)]
 mod steps;
 #[cfg(test)]
 mod sweeps;

@@ -2,15 +2,38 @@
 
 use heap_reply::{Reply, Shown, Trap};
 
-/// A trace, and what its run leaves: the report, the image, the tagged registers as a mask, and the reply of
-/// each command.
+/// A trace, and what its run leaves: the report, the image, the registers and granules that aren't all 0 by their
+/// numbers, each with its 128 bits and its tag, and the reply of each command.
 #[derive(Clone, Copy)]
 pub struct Row {
     pub text: &'static str,
     pub report: &'static str,
     pub image: &'static str,
-    pub tagged: u32,
+    pub registers: &'static [(u8, u128, bool)],
+    pub granules: &'static [(usize, u128, bool)],
     pub replies: &'static [Reply],
+}
+
+impl Row {
+    /// The bits and the tag of a register.
+    pub(crate) fn register(&self, r: u8) -> (u128, bool) {
+        for (at, bits, tag) in self.registers {
+            if *at == r {
+                return (*bits, *tag);
+            }
+        }
+        (0, false)
+    }
+
+    /// The bits and the tag of a granule.
+    pub(crate) fn granule(&self, i: usize) -> (u128, bool) {
+        for (at, bits, tag) in self.granules {
+            if *at == i {
+                return (*bits, *tag);
+            }
+        }
+        (0, false)
+    }
 }
 
 // The two blocks of 32 bytes that most traces begin with.
@@ -24,6 +47,13 @@ const SECOND: Reply = Reply::Block {
     top: 0x4000_0040,
 };
 
+// The words of these two, worked out by hand as all words here, and that of the page at 0x40000000.
+const FIRST_WORD: u128 = 0x003d_0000_0409_8004_0000_0000_4000_0000;
+
+const SECOND_WORD: u128 = 0x003d_0000_0411_8024_0000_0000_4000_0020;
+
+const PAGE_WORD: u128 = 0x003d_0000_0001_8004_0000_0000_4000_0000;
+
 /// A top of 2^64, and a window that wraps.
 const WRAPPED: Row = Row {
     text: "heap 0xfffffffffffff000 1\nmalloc c1 4096\nsetaddr c2 c1 0x10\nshow c2\n",
@@ -33,7 +63,11 @@ const WRAPPED: Row = Row {
 end live 4096 held 0 free 0 tags 2
 ",
     image: "",
-    tagged: 0b110,
+    registers: &[
+        (1, 0x003d_0000_0001_b004_ffff_ffff_ffff_f000, true),
+        (2, 0x003d_0000_0001_b004_0000_0000_0000_0010, true),
+    ],
+    granules: &[],
     replies: &[
         Reply::Block {
             base: 0xffff_ffff_ffff_f000,
@@ -64,7 +98,13 @@ const REUSED: Row = Row {
 end live 64 held 0 free 4032 tags 2
 ",
     image: "",
-    tagged: 0b11000,
+    registers: &[
+        (1, FIRST_WORD, false),
+        (2, FIRST_WORD, false),
+        (3, SECOND_WORD, true),
+        (4, FIRST_WORD, true),
+    ],
+    granules: &[],
     replies: &[
         FIRST,
         Reply::Done,
@@ -92,7 +132,13 @@ pub const KEPT: Row = Row {
 end live 64 held 0 free 4032 tags 4
 ",
     image: "0x40000000 1 20000040000000002480110400003d00\n",
-    tagged: 0b11100,
+    registers: &[
+        (1, FIRST_WORD, false),
+        (2, SECOND_WORD, true),
+        (3, FIRST_WORD, true),
+        (4, SECOND_WORD, true),
+    ],
+    granules: &[(0, SECOND_WORD, true)],
     replies: &[
         FIRST,
         SECOND,
@@ -128,7 +174,12 @@ const NARROWED: Row = Row {
 end live 100096 held 0 free 162048 tags 3
 ",
     image: "",
-    tagged: 0b1110,
+    registers: &[
+        (1, 0x003d_0000_021d_8000_0000_0000_4000_0000, true),
+        (2, 0x003d_0000_021d_8000_0000_0000_4000_0000, true),
+        (3, 0x003d_0000_021d_8000_0000_0000_4000_0001, true),
+    ],
+    granules: &[],
     replies: &[
         Reply::Block {
             base: 0x4000_0000,
@@ -151,7 +202,12 @@ const PLACED: Row = Row {
 end live 16416 held 0 free 49120 tags 3
 ",
     image: "",
-    tagged: 0b1110,
+    registers: &[
+        (1, 0x003d_0000_0405_8004_0000_0000_4000_0000, true),
+        (2, 0x003d_0000_0003_800e_0000_0000_4000_0020, true),
+        (3, 0x003d_0000_0409_8014_0000_0000_4000_0010, true),
+    ],
+    granules: &[],
     replies: &[
         Reply::Block {
             base: 0x4000_0000,
@@ -182,7 +238,8 @@ const FULL: Row = Row {
 end live 0 held 0 free 4096 tags 0
 ",
     image: "",
-    tagged: 0,
+    registers: &[(1, PAGE_WORD, false), (4, FIRST_WORD, false)],
+    granules: &[],
     replies: &[
         Reply::Block {
             base: 0x4000_0000,
@@ -232,7 +289,13 @@ end live 64 held 0 free 8128 tags 2
     image: "0x40000020 0 00000040000000000480090400003d00
 0x40001020 0 00000040000000000480090400003d00
 ",
-    tagged: 0b11000,
+    registers: &[
+        (1, FIRST_WORD, false),
+        (2, 0x003d_0000_0009_8024_0000_0000_4000_0020, false),
+        (3, 0x003d_0000_0411_9024_0000_0000_4000_1020, true),
+        (4, FIRST_WORD, true),
+    ],
+    granules: &[(2, FIRST_WORD, false), (258, FIRST_WORD, false)],
     replies: &[
         Reply::Block {
             base: 0x4000_0000,
@@ -287,7 +350,8 @@ const OPENED: Row = Row {
 end live 0 held 4096 free 0 tags 1
 ",
     image: "",
-    tagged: 0b10,
+    registers: &[(1, PAGE_WORD, true)],
+    granules: &[],
     replies: &[
         Reply::Block {
             base: 0x4000_0000,

@@ -6,23 +6,33 @@ use std::alloc::Global;
 use std::process::Abort;
 use std::thread::Threads;
 use sweep_pool::Cutting;
-use tag_memory::{REGISTERS, Registers};
+use tag_memory::{Memory, REGISTERS, Registers};
 
-// The tagged registers as a mask.
-fn tagged(registers: &Registers) -> u32 {
-    let mut mask = 0;
+// The registers and granules are the row's, word for word.
+fn words_are(rt: &impl Abort, row: &Row, registers: &Registers, memory: &Memory) {
     for r in 0..REGISTERS {
-        if registers.get(r).1 {
-            mask |= 1 << r;
-        }
+        let (word, tag) = registers.get(r);
+        assert_eq!(rt;
+            (word.bits, tag),
+            row.register(r),
+            "{:?}: register {r}",
+            row.text
+        );
     }
-    mask
+    for i in 0..memory.granules() {
+        assert_eq!(rt;
+            memory.cell(i),
+            row.granule(i),
+            "{:?}: granule {i}",
+            row.text
+        );
+    }
 }
 
 // The outcome is the row's.
 fn outcome_is(rt: &impl Abort, alloc: Global, row: &Row, outcome: &Outcome) {
     assert_eq!(rt; outcome.report.as_slice(), row.report.as_bytes());
-    assert_eq!(rt; tagged(&outcome.registers), row.tagged, "{:?}", row.text);
+    words_are(rt, row, &outcome.registers, &outcome.memory);
     if let Ok(image) = image_text(alloc, &outcome.memory) {
         assert_eq!(rt; image.as_slice(), row.image.as_bytes());
     }

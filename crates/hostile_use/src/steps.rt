@@ -10,37 +10,62 @@ use sweep_pool::{Cutting, Open};
 use tag_memory::REGISTERS;
 use trace_text::{Trace, parse};
 
-// What a machine's users see of it: the registers, the bits and tags of the memory in one number, and the
-// bytes of live, held and free blocks.
-#[derive(Clone, Copy, Debug, PartialEq)]
+// What a machine's users see of it: the registers, the granules, and the bytes of live, held and free blocks.
+#[derive(Drop)]
 pub struct Seen {
     registers: [(Word, bool); 32],
-    cells: u128,
+    granules: Vec<(u128, bool)>,
     bytes: (u64, u64, u64),
 }
 
 impl Seen {
-    pub(crate) fn of(machine: &Machine) -> Seen {
-        let mut registers = [(Word::NULL, false); 32];
+    // As the machine is now; none where the allocation was refused.
+    pub(crate) fn of(alloc: Global, machine: &Machine) -> Option<Seen> {
+        let mut seen = Seen {
+            registers: [(Word::NULL, false); 32],
+            granules: vec![in alloc; (0, false); machine.memory().granules()].ok()?,
+            bytes: (0, 0, 0),
+        };
+        seen.look(machine);
+        Some(seen)
+    }
+
+    // Looks at the machine once more, without an allocation.
+    pub(crate) fn look(&mut self, machine: &Machine) {
         for r in 0..REGISTERS {
-            registers[r as usize] = machine.registers().get(r);
+            self.registers[r as usize] = machine.registers().get(r);
         }
         let memory = machine.memory();
-        let mut cells = 0u128;
         for i in 0..memory.granules() {
-            let (bits, tag) = memory.cell(i);
-            cells = cells.rotate_left(3) ^ bits ^ (u128::from(tag) << 127);
+            if i < self.granules.len() {
+                self.granules[i] = memory.cell(i);
+            }
         }
-        Seen {
-            registers,
-            cells,
-            bytes: (
-                machine.live_bytes(),
-                machine.held_bytes(),
-                machine.free_bytes(),
-            ),
-        }
+        self.bytes = bytes_of(machine);
     }
+
+    // The machine is as it was, word for word.
+    pub(crate) fn is_still(&self, rt: &impl Abort, machine: &Machine) {
+        for r in 0..REGISTERS {
+            let register = machine.registers().get(r);
+            assert_eq!(rt; register, self.registers[r as usize], "register {r}");
+        }
+        let memory = machine.memory();
+        assert_eq!(rt; memory.granules(), self.granules.len());
+        for i in 0..memory.granules() {
+            assert_eq!(rt; memory.cell(i), self.granules[i], "granule {i}");
+        }
+        assert_eq!(rt; bytes_of(machine), self.bytes);
+    }
+}
+
+// The bytes of live, held and free blocks.
+fn bytes_of(machine: &Machine) -> (u64, u64, u64) {
+    (
+        machine.live_bytes(),
+        machine.held_bytes(),
+        machine.free_bytes(),
+    )
 }
 
 // The machine of a trace; none where an allocation was refused.
@@ -64,13 +89,16 @@ fn row_is_done<R: Abort + Threads + Sync>(
     let Some(mut machine) = machine_of(alloc, &trace, workers) else {
         return;
     };
+    let Some(mut before) = Seen::of(alloc, &machine) else {
+        return;
+    };
     assert_eq!(rt; trace.commands.len(), row.replies.len());
     for ((line, command), wanted) in trace.commands.iter().zip(row.replies) {
         assert!(rt; command.is_valid());
-        let before = Seen::of(&machine);
+        before.look(&machine);
         let mut reply = machine.step(rt, alloc, *command, &Open);
         if reply == Err(MachineFault::Memory) {
-            assert_eq!(rt; Seen::of(&machine), before, "line {line}");
+            before.is_still(rt, &machine);
             if !again {
                 return;
             }

@@ -1,6 +1,6 @@
 //! Devices of the tests' own, and the standard library's, wrapped.
 
-ghost use Rattle.std.specs.Prelude.{◌≡◌, ◌≤◌, Some, false};
+ghost use Rattle.std.specs.Prelude.{◌≡◌, ◌≤◌, IfOk, Some, false};
 
 use std::io;
 use trace_program::{Failed, FromRead, FromWrite, Sink, Source, send};
@@ -50,6 +50,56 @@ impl Source for Slow<'_> {
 
     fn read(&mut self, buf: &mut [u8]) -> Result<usize, Failed> {
         if self.breaks && self.rest.is_empty() {
+            self.has_failed = true;
+            return Err(Failed);
+        }
+        let count = buf.len().min(self.step).min(self.rest.len());
+        buf[..count].copy_from_slice(&self.rest[..count]);
+        self.rest = &self.rest[count..];
+        Ok(count)
+    }
+
+    fn has_failed(&self) -> bool {
+        self.has_failed
+    }
+}
+
+/// A reader of some bytes that fails at one call, by its number from 1 on, and at no other. It gives at most `step` bytes
+/// a call.
+#[derive(Drop)]
+pub struct Failing<'a> {
+    rest: &'a [u8],
+    step: usize,
+    fails_at: usize,
+    calls: usize,
+    has_failed: bool,
+}
+
+impl<'a> Failing<'a> {
+    pub(crate) fn new(bytes: &'a [u8], step: usize, fails_at: usize) -> Failing<'a>
+        ensures { ⟦<Failing<'a> as Source>⟧.failed result ≡ false }
+    {
+        Failing {
+            rest: bytes,
+            step,
+            fails_at,
+            calls: 0,
+            has_failed: false,
+        }
+    }
+
+    /// How often it was asked so far.
+    pub(crate) fn calls(&self) -> usize {
+        self.calls
+    }
+}
+
+impl Source for Failing<'_> {
+    ghost failed = { λ source. source.has_failed };
+
+    fn read(&mut self, buf: &mut [u8]) -> Result<usize, Failed> {
+        self.calls = self.calls.saturating_add(1);
+        if self.calls == self.fails_at {
             self.has_failed = true;
             return Err(Failed);
         }
@@ -177,6 +227,93 @@ impl io::Write for Never {
 
     fn flush(&mut self) -> io::Result<()> {
         Ok(())
+    }
+}
+
+/// One that fails at one call, by its number from 1 on, and gives or takes a byte at each other.
+#[derive(Drop)]
+struct Once {
+    fails_at: usize,
+    kind: io::ErrorKind,
+    calls: usize,
+}
+
+impl Once {
+    // What the next call answers.
+    fn answer(&mut self, room: usize) -> io::Result<usize>
+        ensures { IfOk result (λ count. (count ≤ room) × (count ≤ 1)) }
+    {
+        self.calls = self.calls.saturating_add(1);
+        if self.calls == self.fails_at {
+            return Err(io::Error::from(self.kind));
+        }
+        Ok(room.min(1))
+    }
+}
+
+impl io::Read for Once {
+    fn read(&mut self, buf: &mut [u8]) -> io::Result<usize> {
+        self.answer(buf.len())
+    }
+}
+
+impl io::Write for Once {
+    fn write(&mut self, bytes: &[u8]) -> io::Result<usize> {
+        self.answer(bytes.len())
+    }
+
+    fn flush(&mut self) -> io::Result<()> {
+        Ok(())
+    }
+}
+
+// Each call at which a device fails, and how: after some of these a program might be tempted to ask once more.
+const FAILURES: [(usize, io::ErrorKind); 5] = [
+    (1, io::ErrorKind::Other),
+    (1, io::ErrorKind::Interrupted),
+    (2, io::ErrorKind::WouldBlock),
+    (2, io::ErrorKind::Interrupted),
+    (3, io::ErrorKind::UnexpectedEof),
+];
+
+#[test]
+fn a_wrapped_reader_fails_where_its_device_does(rt: HostRuntime) {
+    for (fails_at, kind) in FAILURES {
+        let mut device = Once {
+            fails_at,
+            kind,
+            calls: 0,
+        };
+        let mut reader = FromRead::new(&mut device);
+        let mut bytes = [0; 2];
+        for _ in 1..fails_at {
+            assert_eq!(rt; reader.read(&mut bytes), Ok(1));
+            assert!(rt; !reader.has_failed());
+        }
+        assert_eq!(rt; reader.read(&mut bytes), Err(Failed));
+        assert!(rt; reader.has_failed());
+        drop(reader);
+        assert_eq!(rt; device.calls, fails_at);
+    }
+}
+
+#[test]
+fn a_wrapped_writer_fails_where_its_device_does(rt: HostRuntime) {
+    for (fails_at, kind) in FAILURES {
+        let mut device = Once {
+            fails_at,
+            kind,
+            calls: 0,
+        };
+        let mut writer = FromWrite::new(&mut device);
+        for _ in 1..fails_at {
+            assert_eq!(rt; writer.write(b"ab"), Ok(1));
+            assert!(rt; !writer.has_failed());
+        }
+        assert_eq!(rt; writer.write(b"ab"), Err(Failed));
+        assert!(rt; writer.has_failed());
+        drop(writer);
+        assert_eq!(rt; device.calls, fails_at);
     }
 }
 

@@ -1,6 +1,6 @@
 //! Traces that the program runs.
 
-use crate::devices::{Fixed, Short, Slow};
+use crate::devices::{Failing, Fixed, Short, Slow};
 use heap_command::tool;
 use std::alloc::Global;
 use std::process::Abort;
@@ -291,6 +291,32 @@ fn a_failed_read_writes_nothing(rt: HostRuntime) {
         assert!(rt; reader.has_failed());
         assert_eq!(rt; writer.text().len(), 0);
     }
+}
+
+// The trace's 78 bytes take 12 reads of up to 7 bytes, and the 13th finds the end.
+const READS: usize = 13;
+
+#[test]
+fn each_read_that_fails_alone_is_status_4(rt: HostRuntime) {
+    for number in 1..=READS {
+        let mut reader = Failing::new(TWO_BLOCKS.as_bytes(), 7, number);
+        let mut writer = Fixed::new();
+        let status = tool(&rt, rt.alloc(), WORDS, &mut reader, &mut writer);
+        assert_eq!(rt; status, 4, "read {number}");
+        assert_eq!(rt; writer.text().len(), 0, "read {number}");
+        assert_eq!(rt; reader.calls(), number);
+    }
+    let mut reader = Failing::new(TWO_BLOCKS.as_bytes(), 7, READS + 1);
+    let mut writer = Short {
+        taken: Vec::new(rt.alloc()),
+        step: 1000,
+        room: 1000,
+        has_failed: false,
+    };
+    let status = tool(&rt, rt.alloc(), WORDS, &mut reader, &mut writer);
+    assert_eq!(rt; status, 0);
+    assert_eq!(rt; writer.taken.as_slice(), TWO_BLOCKS_REPORT.as_bytes());
+    assert_eq!(rt; reader.calls(), READS);
 }
 
 #[test]

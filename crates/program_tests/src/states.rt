@@ -1,6 +1,6 @@
 //! Traces whose states are told, words that are refused, and devices that fail.
 
-use crate::devices::{Fixed, Short, Slow};
+use crate::devices::{Failing, Fixed, Short, Slow};
 use heap_trace::RunFault;
 use state_text::states;
 use states_command::states_tool;
@@ -100,6 +100,26 @@ fn a_reader_that_breaks_is_status_4(rt: HostRuntime) {
     let status = states_tool(&rt, rt.alloc(), &["heap_states"], &mut reader, &mut writer);
     assert_eq!(rt; status, 4);
     assert!(rt; writer.text().is_empty());
+}
+
+// The heap line's 17 bytes take 4 reads of up to 5 bytes, and the fifth finds the end.
+const READS: usize = 5;
+
+#[test]
+fn each_read_that_fails_alone_is_status_4(rt: HostRuntime) {
+    for number in 1..=READS + 1 {
+        let mut reader = Failing::new(b"heap 0x40000000 1", 5, number);
+        let mut writer = Fixed::new();
+        let status = states_tool(&rt, rt.alloc(), &["heap_states"], &mut reader, &mut writer);
+        if number <= READS {
+            assert_eq!(rt; status, 4, "read {number}");
+            assert_eq!(rt; writer.text().len(), 0, "read {number}");
+        } else {
+            assert_eq!(rt; status, 0);
+            assert_eq!(rt; writer.text(), EMPTY.as_bytes());
+        }
+        assert_eq!(rt; reader.calls(), number.min(READS));
+    }
 }
 
 // Run with each allocation refused in turn, too: the whole data, or want of memory and nothing of the data.
