@@ -15,4 +15,6 @@ mod pool;
 #[cfg(test)]
 mod refusals;
 #[cfg(test)]
+mod shares;
+#[cfg(test)]
 mod tasks;
