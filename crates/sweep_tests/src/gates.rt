@@ -92,8 +92,20 @@ fn no_more_workers_than_the_cutting_has(rt: HostRuntime) {
     }
 }
 
-// A gate whose first call waits until so many calls have come, for at most
-// 10,000,000 turns, after each of which others may run.
+// Whether so many calls come within 100,000,000 turns, after every eighth of which others may run.
+fn comes(calls: &AtomicU64, wanted: u64) -> bool {
+    for turn in 0..100_000_000u32 {
+        if calls.load(SeqCst) >= wanted {
+            return true;
+        }
+        if turn % 8 == 0 {
+            yield_now();
+        }
+    }
+    false
+}
+
+// A gate whose first call waits until so many calls have come.
 #[derive(Drop)]
 pub(super) struct Meeting {
     pub(super) calls: AtomicU64,
@@ -113,15 +125,8 @@ impl Meeting {
 
 impl Gate for Meeting {
     fn pass(&self, _task: u32) {
-        if self.calls.fetch_add(1, SeqCst) != 0 {
-            return;
-        }
-        for _ in 0..10_000_000u32 {
-            if self.calls.load(SeqCst) >= self.wanted {
-                self.met.store(true, SeqCst);
-                return;
-            }
-            yield_now();
+        if self.calls.fetch_add(1, SeqCst) == 0 && comes(&self.calls, self.wanted) {
+            self.met.store(true, SeqCst);
         }
     }
 }
@@ -143,8 +148,7 @@ fn two_workers_meet(rt: HostRuntime) {
     }
 }
 
-// Keeps the tasks of its first two calls, each as a bit. The first waits for the second, for at most
-// 10,000,000 turns, as above.
+// Keeps the tasks of its first two calls, each as a bit. The first waits for the second.
 #[derive(Drop)]
 struct Beginnings {
     calls: AtomicU64,
@@ -158,14 +162,8 @@ impl Gate for Beginnings {
             return;
         }
         let _ = self.tasks.fetch_or(1 << task.min(63), SeqCst);
-        if call != 0 {
-            return;
-        }
-        for _ in 0..10_000_000u32 {
-            if self.calls.load(SeqCst) >= 2 {
-                return;
-            }
-            yield_now();
+        if call == 0 {
+            let _ = comes(&self.calls, 2);
         }
     }
 }

@@ -5,8 +5,10 @@ use crate::tasks::BASE;
 use heap_core::{Heap, Shadow};
 use std::alloc::Global;
 use std::process::Abort;
+use std::sync::atomic::AtomicU64;
 use std::sync::atomic::Ordering::SeqCst;
-use sweep_pool::{Cutting, Open, SweepFault, paint_shadow};
+use std::thread::Threads;
+use sweep_pool::{Cutting, Gate, Open, SweepFault, paint_shadow};
 
 // Granules of two pages that lie in held blocks, from the first up to the second: 2, 100, 1 and 70 granules.
 const HELD: [(usize, usize); 4] = [(0, 2), (40, 140), (141, 142), (250, 320)];
@@ -93,6 +95,77 @@ fn two_workers_that_paint_meet(rt: HostRuntime) {
         assert!(rt; gate.met.load(SeqCst), "run {run}");
         assert_eq!(rt; gate.calls.load(SeqCst), 2, "run {run}");
         assert_eq!(rt; shadow.granules(), 256, "run {run}");
+    }
+}
+
+// The shares that it was told of, a bit each, and those that it was told of once more; and whether any was 64 or more.
+#[derive(Drop)]
+struct Shares {
+    told: AtomicU64,
+    again: AtomicU64,
+    others: AtomicU64,
+}
+
+impl Shares {
+    fn new() -> Shares {
+        Shares {
+            told: AtomicU64::new(0),
+            again: AtomicU64::new(0),
+            others: AtomicU64::new(0),
+        }
+    }
+}
+
+impl Gate for Shares {
+    fn pass(&self, share: u32) {
+        if share >= 64 {
+            self.others.store(1, SeqCst);
+            return;
+        }
+        let told = self.told.fetch_or(1 << share, SeqCst);
+        let _ = self.again.fetch_or(told & 1 << share, SeqCst);
+    }
+}
+
+// A heap of a page with so many held blocks of 16 bytes, each before a live one.
+fn heap_of(rt: &impl Abort, alloc: Global, blocks: u32) -> Heap {
+    let mut heap = Heap::new(alloc, BASE, 1).expect(rt, "there is memory");
+    for _ in 0..blocks {
+        let held = heap.reserve(16).expect(rt, "there is memory");
+        let live = heap.reserve(16).expect(rt, "there is memory");
+        assert!(rt; live.is_some());
+        if let Some(block) = held {
+            let _ = heap.release(block.base, block.top);
+        }
+    }
+    heap
+}
+
+// With these workers the gate is told of just these shares, each once.
+fn each_share_is_told_once<R: Abort + Threads + Sync>(
+    rt: &R,
+    alloc: Global,
+    heap: &Heap,
+    (workers, shares): (u32, u64),
+) {
+    let cutting = Cutting::new(workers, 1).expect(rt, "it is a cutting");
+    let gate = Shares::new();
+    let shadow = paint_shadow(rt, alloc, heap, &cutting, &gate).expect(rt, "there is memory");
+    assert_eq!(rt; shadow.granules(), 256);
+    assert_eq!(rt; gate.told.load(SeqCst), shares, "{workers} workers");
+    assert_eq!(rt; gate.again.load(SeqCst), 0, "{workers} workers");
+    assert_eq!(rt; gate.others.load(SeqCst), 0, "{workers} workers");
+}
+
+// With fewer held blocks than workers, as many, and more.
+#[test]
+fn a_gate_is_told_of_each_share_once(rt: HostRuntime) {
+    for blocks in [0, 1, 2, 3, 4, 63, 64, 65, 128] {
+        let heap = heap_of(&rt, rt.alloc(), blocks);
+        assert_eq!(rt; heap.held_blocks(), blocks as usize);
+        for cut in [(1, 0b1), (2, 0b11), (3, 0b111), (64, u64::MAX)] {
+            each_share_is_told_once(&rt, rt.alloc(), &heap, cut);
+        }
     }
 }
 

@@ -261,6 +261,72 @@ fn bounds_are_set(rt: HostRuntime) {
     );
 }
 
+// Words with other fields than those of the null capability: all bits; a block's capability; sealed by type 5, with
+// every permission, reserved bits and flag; the same with an internal exponent of 51; and one of each other bit.
+fn sources() -> [Word; 5] {
+    let sealed = Fields {
+        perms: 0xffff,
+        reserved: 3,
+        flag: true,
+        otype: 5,
+        ..BLOCK
+    };
+    let wide = Fields {
+        internal: true,
+        top12: 0x806,
+        base14: 0x1003,
+        ..sealed
+    };
+    let mixed = Fields {
+        perms: 0x5555,
+        reserved: 2,
+        flag: false,
+        otype: 0x2_aaaa,
+        ..wide
+    };
+    let all = Word { bits: u128::MAX };
+    [
+        all,
+        word_of(BLOCK),
+        word_of(sealed),
+        word_of(wide),
+        word_of(mixed),
+    ]
+}
+
+// Bounds without a byte, of one byte, exact ones with and without an exponent, ones that are rounded, the last bytes and
+// the whole of the address space.
+const SPANS: [(u64, u128); 9] = [
+    (0x4000_0008, 0x4000_0008),
+    (0x1234_5678_9abc_def1, 0x1234_5678_9abc_def2),
+    (0x4000_0000, 0x4000_0020),
+    (0x4000_0000, 0x4000_1000),
+    (5, 5005),
+    (0x7fff_ffff_ffff_fff1, 0x8000_0000_0000_2003),
+    (0x0123_4567_89ab_cdef, 0xfedc_ba98_7654_3210),
+    (u64::MAX, 1 << 64),
+    (0, 1 << 64),
+];
+
+// Of any word, setting bounds is the plain setting, and leaves what isn't bounds.
+#[test]
+fn bounds_are_set_in_any_word(rt: HostRuntime) {
+    for source in sources() {
+        let before = fields(source);
+        for (base, top) in SPANS {
+            assert!(rt; u128::from(base) <= top && top <= 1 << 64);
+            let (w, exact) = with_bounds(source, base, top);
+            assert_eq!(rt; (w, exact), plain::with_bounds(source, base, top));
+            let after = fields(w);
+            assert_eq!(rt;
+                (after.perms, after.reserved),
+                (before.perms, before.reserved)
+            );
+            assert_eq!(rt; (after.flag, after.otype), (before.flag, before.otype));
+        }
+    }
+}
+
 #[test]
 fn addresses_are_representable(rt: HostRuntime) {
     let block = word_of(BLOCK);
