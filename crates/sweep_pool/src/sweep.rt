@@ -1,17 +1,20 @@
 //! Which tags a sweep takes.
 
+ghost use Rattle.cap_codec.specs.Words.{base_of};
 ghost use Rattle.heap_core.specs.Heap.{HeapState, due};
-ghost use Rattle.std.specs.Prelude.{◌≡◌, ◌<◌, ◌≤◌, ◌*◌, ◌+◌, ◌^◌, ℕ, false, length};
+ghost use Rattle.std.specs.Prelude.{◌≡◌, ◌<◌, ◌≤◌, ◌*◌, ◌+◌, ◌^◌, ℕ, false, length, slice_index_or};
 ghost use Rattle.sweep_pool.specs.Sweep.{IsShadowOf, is_hit, is_hit_at, takes_tag};
 ghost use Rattle.sweep_pool.specs.Sweep as sweep;
 ghost use Rattle.sweep_pool.specs.declared.sweep.SweepFault.TheVariants.{Memory};
-ghost use Rattle.tag_memory.specs.Cells.{register_at, register_count};
+ghost use Rattle.tag_memory.specs.Cells.{cell_of, register_at, register_count};
 ghost use Rattle.tag_memory.specs.Tags.{is_set, is_tagged};
 
 use cap_codec::{Word, bounds};
 use heap_core::{Heap, Shadow};
 use std::alloc::AllocError;
-use tag_memory::{GRANULE, Memory, REGISTERS, Registers, WORD_GRANULES, with_bit};
+use tag_memory::{
+    FAR, GRANULE, Memory, REGISTERS, Registers, WORD_GRANULES, lowest_bit, with_bit, without_lowest,
+};
 use thiserror::Error;
 
 /// Why a sweep wasn't made.
@@ -44,16 +47,25 @@ fn is_painted(shadow: &Shadow, base: u64, address: u64) -> bool
     shadow.painted(granule)
 }
 
-// Whether granule `i` is tagged, and the base of its word lies in a painted granule.
-fn is_granule_hit(memory: &Memory, shadow: &Shadow, i: usize) -> bool
+// Whether the base of granule `i`'s word lies in a painted granule. The memory keeps where it lies, so that it is decoded
+// only where that is far away.
+fn is_base_painted(memory: &Memory, shadow: &Shadow, i: usize) -> bool
     requires { i < length memory.now.cells }
-    ensures { result ≡ is_hit_at memory.now shadow.now i }
+    ensures { result ≡ sweep.is_painted shadow.now memory.now.base (base_of (cell_of (slice_index_or memory.now.cells i (0, false))).0) }
 {
-    let (bits, tag) = memory.cell(i);
-    if !tag {
-        return false;
+    let granule = memory.base_granule(i);
+    if granule == FAR {
+        let (bits, _) = memory.cell(i);
+        return is_painted(shadow, memory.base(), bounds(Word { bits }).base);
     }
-    is_painted(shadow, memory.base(), bounds(Word { bits }).base)
+    is_granule_painted(shadow, granule as usize)
+}
+
+// Whether a granule is painted: none past the last is.
+fn is_granule_painted(shadow: &Shadow, granule: usize) -> bool
+    ensures { result ≡ slice_index_or shadow.now granule false }
+{
+    granule < shadow.granules() && shadow.painted(granule)
 }
 
 /// The mask of word `w` of the tags. The word isn't looked at where its page may hold no tags, and none of
@@ -70,7 +82,7 @@ pub(crate) fn word_mask(memory: &Memory, shadow: &Shadow, w: usize, may_hold: bo
     tagged_mask(memory, shadow, w)
 }
 
-// The same, granule by granule.
+// The same, tag by tag.
 #[inline(never)]
 fn tagged_mask(memory: &Memory, shadow: &Shadow, w: usize) -> u64
     requires { 64 * w + 64 ≤ length memory.now.cells }
@@ -78,13 +90,13 @@ fn tagged_mask(memory: &Memory, shadow: &Shadow, w: usize) -> u64
 {
     // Called for what it ensures alone: the granules are fewer than 2^64.
     let _granules = memory.granules();
+    let mut rest = memory.tag_word(w);
     let mut mask = 0;
-    for j in 0..WORD_GRANULES {
-        mask = with_bit(
-            mask,
-            j,
-            is_granule_hit(memory, shadow, WORD_GRANULES * w + j),
-        );
+    while rest != 0 {
+        let j = lowest_bit(rest);
+        let is_hit = is_base_painted(memory, shadow, WORD_GRANULES * w + j);
+        mask = with_bit(mask, j, is_hit);
+        rest = without_lowest(rest);
     }
     mask
 }

@@ -1,3 +1,4 @@
+pub mod BaseLaws
 pub mod BitLaws
 pub mod ClearedRegisters
 pub mod PackedLaws

@@ -4,14 +4,16 @@ use Rattle.std.specs.Int.{bit_not}
 use Rattle.std.specs.Int.RustNames.{count_ones}
 use Rattle.std.specs.List.{All, count_by, slice_get}
 use Rattle.std.proofs.lemmas.Bool.{cases_lt}
-use Rattle.std.proofs.lemmas.List.{get_or_past, get_or_read, take_all}
+use Rattle.std.proofs.lemmas.List.{get_or_past, get_or_read, length-map, take_all}
 use Rattle.std.proofs.lemmas.List.Elements.{All-from_get_or}
 use Rattle.std.proofs.lemmas.Nat.{and_le_r, div_below}
 use Rattle.std.proofs.lemmas.Option.{slice_get-get_or}
+use Rattle.tag_memory.specs.Bases.{base_granule}
 use Rattle.tag_memory.specs.Cells.{AreUntagged, Granule, IsMemory, MemoryState, is_dirty_at, marks_after, may_hold_at}
 use Rattle.tag_memory.specs.Tags.{AreBlank, HasTag, granules_of, is_set, is_set_for, is_tagged, tag_word, without_tags}
 use Rattle.tag_memory.specs.declared.memory.Memory.TheInside.{Inside}
 use Rattle.tag_memory.specs.contracts.memory.Memory.{the_view, the_invariant}
+use Rattle.tag_memory.proofs.BaseLaws.{base_granule-read}
 use Rattle.tag_memory.proofs.PageLaws.{blank-marked, blank-unmarked, marks_by, untagged_by}
 use Rattle.tag_memory.proofs.TagLaws.{length-granules_of, get_or-granules_of, granules_of-set, is_set-granules_of, tag_word-granules_of, count_more, without_tags-granules_of}
 use Rattle.tag_memory.proofs.TakenLaws.{ArePageTagsTaken, blank-taken, some-taken}
@@ -105,6 +107,22 @@ read {m = m} {state = state} p i number word h n w =
     let word_is : word ≡ get_or m.tags.items (i / 64) 0 = get_or_read m.tags.items (i / 64) word at.1 w 0 in
     let cell : get_or state.cells i (0, false) ≡ (get_or m.bits.items i 0, is_set_for m.tags.items i) = ap (λ (xs : List Granule). get_or xs i (0, false)) (sym (cells p)) ∙ get_or-granules_of m.bits.items m.tags.items i at.0 in
     slice_get-get_or state.cells i (0, false) h ∙ ap (λ (x : Granule). Some x) (cell ∙ (λ k. (sym number_is k, is_set (sym word_is k) (i % 64))))
+
+-- where the base of its word lies, as it is kept
+bases_count : {m : Inside} {state : MemoryState} → Packs m state → length m.granules_of_bases.items ≡ length m.bits.items
+bases_count {m = m} p = ap length p.invariant.bases ∙ length-map m.bits.items (λ (number : ℕ). base_granule m.base (record { bits = number }))
+
+pub base_place : {m : Inside} {state : MemoryState} → Packs m state → (i : ℕ) → i < length state.cells → i < length m.granules_of_bases.items
+base_place p i h = omega (arith, place p i h, bases_count p)
+
+pub base_read : {m : Inside} {state : MemoryState} → Packs m state → (i read : ℕ) → i < length state.cells → read ≡ get_or m.granules_of_bases.items i read
+    → read ≡ base_granule state.base (record { bits = (get_or state.cells i (0, false)).0 })
+base_read {m = m} {state = state} p i read h e =
+    let at = place p i h in
+    let cell : get_or state.cells i (0, false) ≡ (get_or m.bits.items i 0, is_set_for m.tags.items i) = ap (λ (xs : List Granule). get_or xs i (0, false)) (sym (cells p)) ∙ get_or-granules_of m.bits.items m.tags.items i at.0 in
+    base_granule-read m.base m.bits.items m.granules_of_bases.items i read p.invariant.bases (bases_count p) at.0 e
+    ∙ (ap (λ (s : MemoryState). base_granule s.base (record { bits = get_or m.bits.items i 0 })) p.view
+    ∙ ap (λ (x : Granule). base_granule state.base (record { bits = x.0 })) (sym cell))
 
 -- a granule, written
 pub written : {m : Inside} {state : MemoryState} → Packs m state → (i number word new : ℕ) (tag : Bool) → i < length state.cells → word ≡ get_or m.tags.items (i / 64) word

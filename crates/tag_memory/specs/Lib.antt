@@ -1,3 +1,4 @@
+pub mod Bases
 pub mod Cells
 pub mod Extent
 pub mod Laws

@@ -1,6 +1,6 @@
 //! Single bits of a word that has one for each of 64 granules.
 
-ghost use Rattle.std.specs.Prelude.{◌≡◌, ◌<◌, ◌==◌, ℕ, if◌then◌else◌};
+ghost use Rattle.std.specs.Prelude.{◌≡◌, ◌<◌, ◌==◌, ℕ, false, if◌then◌else◌, true};
 ghost use Rattle.tag_memory.specs.Tags.{is_set};
 
 /// Granules a word, each with one bit.
@@ -21,4 +21,24 @@ pub fn with_bit(word: u64, j: usize, bit: bool) -> u64
 {
     let place = 1 << j;
     if bit { word | place } else { word & !place }
+}
+
+/// The place of the lowest bit that is 1.
+pub fn lowest_bit(word: u64) -> usize
+    requires { 0 < word }
+    ensures within { result < 64 }
+    ensures one { is_set word result ≡ true }
+    ensures below { (k : ℕ) → k < result → is_set word k ≡ false }
+{
+    word.trailing_zeros() as usize
+}
+
+/// The word without its lowest bit that is 1.
+pub fn without_lowest(word: u64) -> u64
+    requires { 0 < word }
+    ensures less { result < word }
+    ensures bits { (j : ℕ) → is_set word j ≡ true → ((k : ℕ) → k < j → is_set word k ≡ false)
+        → (k : ℕ) → is_set result k ≡ (if k == j then false else is_set word k) }
+{
+    word & (word - 1)
 }

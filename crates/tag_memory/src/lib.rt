@@ -1,6 +1,7 @@
 //! Tagged memory, granule by granule, and the registers of a machine.
 #![tactic(auto)]
 
+mod bases;
 mod bits;
 mod extent;
 mod laws;
@@ -8,7 +9,8 @@ mod memory;
 mod pages;
 mod registers;
 
-pub use crate::bits::{WORD_GRANULES, bit, with_bit};
+pub use crate::bases::FAR;
+pub use crate::bits::{WORD_GRANULES, bit, lowest_bit, with_bit, without_lowest};
 pub use crate::extent::{GRANULE, MOST_PAGES, PAGE, PAGE_GRANULES, is_base, is_size};
 pub use crate::laws::sizes;
 pub use crate::memory::{Memory, MemoryFault, PAGE_WORDS};

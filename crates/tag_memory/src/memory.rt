@@ -1,11 +1,14 @@
 //! Tagged memory.
 
-ghost use Rattle.std.specs.Prelude.{◌≡◌, ◌↔◌, ◌<◌, ◌+◌, ◌*◌, ◌/◌, ℕ, IfOk, Some, count_by, false, length, slice_get, slice_set, true};
-ghost use Rattle.tag_memory.specs.Cells.{IsMemory, all_clean, is_dirty_at, marks_after, may_hold_at, new_memory};
+ghost use Rattle.std.specs.Prelude.{◌≡◌, ◌↔◌, ◌<◌, ◌≤◌, ◌+◌, ◌-◌, ◌*◌, ◌/◌, ℕ, IfOk, Some, count_by, false, length, slice_get, slice_index_or, slice_set, true};
+ghost use Rattle.cap_codec.specs.Words.{base_of};
+ghost use Rattle.tag_memory.specs.Bases as bases;
+ghost use Rattle.tag_memory.specs.Cells.{IsMemory, all_clean, cell_of, is_dirty_at, marks_after, may_hold_at, new_memory};
 ghost use Rattle.tag_memory.specs.Extent as extent;
 ghost use Rattle.tag_memory.specs.Tags.{HasTag, is_set, is_tagged, without_tags};
 ghost use Rattle.tag_memory.specs.Tags as tags;
 
+use crate::bases::base_granule;
 use crate::bits::{WORD_GRANULES, bit, with_bit};
 use crate::extent::{PAGE_GRANULES, is_base, is_size};
 use crate::pages::take_tags;
@@ -37,6 +40,8 @@ pub struct Memory {
     base: u64,
     pages: u32,
     bits: Vec<u128>,
+    // In which granule the base of each granule's word lies, so that a sweep needs to decode none.
+    granules_of_bases: Vec<u32>,
     tags: Vec<u64>,
     may_hold: Vec<bool>,
     // Into which pages a tagged word was written since all were made clean.
@@ -73,6 +78,10 @@ impl Memory {
         let Ok(bits) = vec![in alloc; 0; PAGE_GRANULES as usize * pages as usize] else {
             return Err(MemoryFault::Memory);
         };
+        let Ok(granules_of_bases) = vec![in alloc; base_granule(base, 0); PAGE_GRANULES as usize
+            * pages as usize] else {
+            return Err(MemoryFault::Memory);
+        };
         let Ok(tags) = vec![in alloc; 0; PAGE_WORDS * pages as usize] else {
             return Err(MemoryFault::Memory);
         };
@@ -86,6 +95,7 @@ impl Memory {
             base,
             pages,
             bits,
+            granules_of_bases,
             tags,
             may_hold,
             dirty,
@@ -131,12 +141,24 @@ impl Memory {
         )
     }
 
+    /// The granule in which the base of a granule's word lies, tagged or not, counted from the base of the memory; `FAR`
+    /// where that is none of the first `2^32 - 1`.
+    pub fn base_granule(&self, i: usize) -> u32
+        requires { i < length self.now.cells }
+        ensures value { result ≡ bases.base_granule self.now.base (cell_of (slice_index_or self.now.cells i (0, false))).0 }
+        ensures near { result < bases.far → self.now.base ≤ base_of (cell_of (slice_index_or self.now.cells i (0, false))).0 }
+        ensures place { result < bases.far → (base_of (cell_of (slice_index_or self.now.cells i (0, false))).0 - self.now.base) / 16 ≡ result }
+    {
+        self.granules_of_bases[i]
+    }
+
     /// Writes a granule's bytes and its tag. With one, its page may hold tags from then on, and is dirty.
     pub fn put(&mut self, i: usize, bits: u128, tag: bool)
         requires { i < length self.old.cells }
         ensures { self.new ≡ record self.old { cells = slice_set self.old.cells i (bits, tag); may_hold = marks_after self.old.may_hold i tag; dirty = marks_after self.old.dirty i tag } }
     {
         self.bits[i] = bits;
+        self.granules_of_bases[i] = base_granule(self.base, bits);
         let word = &mut self.tags[i / WORD_GRANULES];
         *word = with_bit(*word, i % WORD_GRANULES, tag);
         if tag {

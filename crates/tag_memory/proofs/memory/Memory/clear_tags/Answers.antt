@@ -27,6 +27,7 @@ invariant_of-self c =
       size = rw l.pages old.size;
       place = rw (l.pages, l.base) old.place;
       numbers = subst (All (λ (number : ℕ). number < 2 ^ 128)) (sym l.bits) old.numbers;
+      bases = rw (l.base, l.bases, l.bits) old.bases;
       marks = l.taken.marks ∙ (old.marks ∙ sym l.pages);
       blank = taken_blank p l.taken all;
       dirty_marks = ap length l.dirty ∙ (old.dirty_marks ∙ sym l.pages);

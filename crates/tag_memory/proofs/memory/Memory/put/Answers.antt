@@ -2,13 +2,19 @@ use Rattle.std.proofs.Common.{◌<◌, ◌^◌, ◌∙◌, ap, arith}
 use Rattle.std.proofs.lemmas.List.{length-set}
 use Rattle.std.proofs.lemmas.List.Elements.{All-set}
 use Rattle.tag_memory.specs.Cells.{MemoryState}
-use Rattle.tag_memory.proofs.PackedLaws.{Packs, count, page_place, place, put_dirt, put_mark, put_marked, put_no_dirt, put_no_mark, put_unmarked, written}
+use Rattle.tag_memory.proofs.BaseLaws.{base_granules-written}
+use Rattle.tag_memory.proofs.PackedLaws.{Packs, base_place, count, page_place, place, put_dirt, put_mark, put_marked, put_no_dirt, put_no_mark, put_unmarked, written}
 use Rattle.tag_memory.proofs.memory.Memory.put.Goals as goal
 
 pub index_mut-requires : goal.index_mut-requires
 index_mut-requires c =
     let p : Packs c.self.inside c.args.self.now = record { view = c.self.view_is; invariant = c.self.invariant } in
     omega (arith, place p c.args.i c.requires)
+
+pub index_mut-requires-2 : goal.index_mut-requires-2
+index_mut-requires-2 c =
+    let p : Packs c.self.inside c.args.self.now = record { view = c.self.view_is; invariant = c.self.invariant } in
+    omega (arith, base_place p c.args.i c.requires)
 
 pub index_mut-word-requires : goal.index_mut-word-requires
 index_mut-word-requires c =
@@ -35,6 +41,7 @@ invariant_of-self c =
       size = kept.size;
       place = kept.place;
       numbers = All-set (λ number. number < 2 ^ 128) _ _ _ c.ranges.bits.fits kept.numbers;
+      bases = base_granules-written c.self.inside.base c.self.inside.bits.items c.self.inside.granules_of_bases.items c.args.i c.args.bits _ kept.bases c.base_granule.ensures;
       marks = length-set _ _ _ ∙ kept.marks;
       blank = put_marked p c.args.i c.with_bit.result c.requires;
       dirty_marks = length-set _ _ _ ∙ kept.dirty_marks;
@@ -50,6 +57,7 @@ invariant_of-self-else-tag c =
       size = kept.size;
       place = kept.place;
       numbers = All-set (λ number. number < 2 ^ 128) _ _ _ c.ranges.bits.fits kept.numbers;
+      bases = base_granules-written c.self.inside.base c.self.inside.bits.items c.self.inside.granules_of_bases.items c.args.i c.args.bits _ kept.bases c.base_granule.ensures;
       marks = kept.marks;
       blank = put_unmarked p c.args.i c.with_bit.result c.index_mut-word.result.now c.args.tag c.requires (omega arith) c.index_mut-word.ensures.value c.if-tag.false c.with_bit.ensures;
       dirty_marks = kept.dirty_marks;
