@@ -1,42 +1,24 @@
-use Rattle.std.proofs.Common.{◌≡◌, ◌<◌, ◌^◌, ◌+◌, ◌-◌, false, arith, append_assoc}
-use Rattle.std.proofs.lemmas.Fmt.{hex_one_digit}
-use Rattle.std.proofs.lemmas.List.{drop-set}
-use Rattle.reply_text.proofs.DigitLaws.{hex_step, length_hex_step, length_hex_one}
+use Rattle.std.proofs.Common.{◌≡◌, ◌+◌, ◌-◌, arith, append_assoc}
+use Rattle.reply_text.proofs.DigitLaws.{hex_pair, length_hex_pair}
 use Rattle.reply_text.proofs.digits.write_hexadecimal.Goals as goal
 
 pub overflow_sub-at : goal.overflow_sub-at
-overflow_sub-at c = omega (arith, length_hex_step c.loop-rest.rest c.loop-rest-test.true (omega (arith, c.loop-rest.auto.rest-fits.fits)), c.loop-rest.invariant)
+overflow_sub-at c = omega (arith, length_hex_pair c.loop-rest.rest c.loop-rest-test.true c.loop-rest.auto.rest-fits.fits, c.loop-rest.invariant)
 
-pub bounds-room-at : goal.bounds-room-at
-bounds-room-at c = omega (arith, length_hex_step c.loop-rest.rest c.loop-rest-test.true (omega (arith, c.loop-rest.auto.rest-fits.fits)), c.loop-rest.invariant, c.loop-rest.auto.room, c.requires)
+pub write_pair-requires : goal.write_pair-requires
+write_pair-requires c = omega (arith, length_hex_pair c.loop-rest.rest c.loop-rest-test.true c.loop-rest.auto.rest-fits.fits, c.loop-rest.invariant, c.loop-rest.auto.room, c.requires)
+
+pub overflow_sub-at-in-loop-rest : goal.overflow_sub-at-in-loop-rest
+overflow_sub-at-in-loop-rest c = omega (arith, length_hex_pair c.loop-rest.rest c.loop-rest-test.true c.loop-rest.auto.rest-fits.fits, c.loop-rest.invariant)
 
 pub loop-rest-preserved : goal.loop-rest-preserved
 loop-rest-preserved c =
     let l = c.loop-rest in
-    let small : l.rest < 2 ^ 128 = omega (arith, l.auto.rest-fits.fits) in
-    let long = length_hex_step l.rest c.loop-rest-test.true small in
-    let e : l.at - 1 + 1 ≡ l.at = omega (arith, l.invariant) in (
+    let long = length_hex_pair l.rest c.loop-rest-test.true l.auto.rest-fits.fits in
+    let e : l.at - 2 + 2 ≡ l.at = omega (arith, l.invariant) in (
       omega (arith, l.invariant),
       omega (arith, l.invariant),
       omega (arith, l.invariant),
-      rw (drop-set l.room (l.at - 1) _ (omega (arith, l.invariant, l.auto.room, c.requires)), e, c.digit.ensures)
-          (rw (hex_step l.rest c.loop-rest-test.true small, append_assoc) at l.invariant.3),
+      rw (c.write_pair.ensures, e)
+          (rw (hex_pair l.rest c.loop-rest-test.true l.auto.rest-fits.fits, append_assoc) at l.invariant.3),
     )
-
-pub overflow_sub-at-2 : goal.overflow_sub-at-2
-overflow_sub-at-2 c = omega (arith, length_hex_one c.loop-rest.rest (omega (arith, c.loop-rest-test.false)), c.loop-rest.invariant)
-
-pub bounds-room-at-2 : goal.bounds-room-at-2
-bounds-room-at-2 c = omega (arith, length_hex_one c.loop-rest.rest (omega (arith, c.loop-rest-test.false)), c.loop-rest.invariant, c.loop-rest.auto.room, c.requires)
-
-pub returns-clause-start : goal.returns-clause-start
-returns-clause-start c = omega (arith, length_hex_one c.loop-rest.rest (omega (arith, c.loop-rest-test.false)), c.loop-rest.invariant)
-
-pub returns-clause-written : goal.returns-clause-written
-returns-clause-written c =
-    let l = c.loop-rest in
-    let small : l.rest < 16 = omega (arith, c.loop-rest-test.false) in
-    let long = length_hex_one l.rest small in
-    let e : l.at - 1 + 1 ≡ l.at = omega (arith, l.invariant) in
-    rw (drop-set l.room (l.at - 1) _ (omega (arith, l.invariant, l.auto.room, c.requires)), e, c.digit-2.ensures)
-    (rw (hex_one_digit false l.rest small) at l.invariant.3)
