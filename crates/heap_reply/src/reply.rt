@@ -44,6 +44,8 @@ pub struct Shown {
 
 impl Shown {
     /// What is shown of a register that holds this word with this tag.
+    // Inlined, so that a reply is made in registers: a copy of one that was just written waits for the cache.
+    #[inline(always)]
     pub fn of(word: Word, tag: bool) -> Shown
         ensures { result ≡ shown_of (word, tag) }
     {
