@@ -18,7 +18,9 @@ use std::alloc::AllocError;
 pub fn put_address(line: &mut DataLine, name: &str, address: u128) -> Result<(), AllocError>
     ensures { OnOk result (line.new ≡ added line.old (key name.now ∷ string (hexadecimal_text address) ∷ [])) }
 {
-    let text = ShortText::of_address(address);
+    // Made in place: a text that is answered is moved, all of its room.
+    let mut text = ShortText::new();
+    text.put_wide_hexadecimal(address);
     line.text(name, text.as_str())
 }
 
@@ -42,7 +44,8 @@ fn put_word(line: &mut DataLine, word: Word, tag: bool) -> Result<(), AllocError
     ensures { OnOk result (line.new ≡ added line.old
         (key (codes "tag") ∷ boolean tag ∷ key (codes "word") ∷ string (encode_lower (bytes_of word.bits)) ∷ [])) }
 {
-    let digits = ShortText::of_bytes(to_bytes(word));
+    let mut digits = ShortText::new();
+    digits.put_bytes(to_bytes(word));
     line.flag("tag", tag)?;
     line.text("word", digits.as_str())
 }
