@@ -111,19 +111,17 @@ pub fn read_before(machine: &Machine, command: Command) -> Before
 }
 
 // Where a block that starts there has its place among these, which are in the order of their starts. Most blocks are given
-// up in that order too, so the last ones are looked at first.
+// up in that order too, so the last one is looked at first.
 fn place_of(blocks: &[HeldBlock], start: u64) -> usize
     requires { AllPairs IsBefore (spans_of blocks.now) }
     ensures within { result ≤ length blocks.now }
     ensures place { (length : ℕ) → insert (spans_of blocks.now) result (start, length) ≡ blocks_with (start, length) (spans_of blocks.now) }
 {
-    for passed in 0..blocks.len() {
-        let i = blocks.len() - passed;
-        if blocks[i - 1].base <= start {
-            return i;
-        }
+    let count = blocks.len();
+    if count > 0 && blocks[count - 1].base <= start {
+        return count;
     }
-    0
+    blocks.partition_point(|block| block.base <= start)
 }
 
 fn copied_registers(registers: &Registers) -> [(Word, bool); 32]
