@@ -1,13 +1,15 @@
 -- What is told of a cell that changed, and of one that didn't; and lists of what numbers have.
-use Rattle.std.proofs.Common.{◌≡◌, ◌∙◌, ◌&&◌, ◌<◌, ◌+◌, ◌++◌, ℕ, zero, suc, Bool, true, false, cond, if◌then◌else◌, not, List, [], ◌∷◌, append-nil, codes, get_or, refl, ap, arith}
-use Rattle.std.proofs.lemmas.Bool.{eq-eqb, ne_eqb}
+use Rattle.std.proofs.Common.{◌≡◌, ◌≢◌, ◌∙◌, ◌&&◌, ◌<◌, ◌+◌, ◌-◌, inl, inr, length, set, length-set, subst, sym, ◌++◌, ℕ, zero, suc, Bool, true, false, cond, if◌then◌else◌, not, List, [], ◌∷◌, append-nil, codes, get_or, refl, ap, arith}
+use Rattle.std.proofs.lemmas.Bool.{cases_eq, eq-eqb, ne_eqb}
+use Rattle.std.proofs.lemmas.List.{ext_get_or, get_or-set_other, get_or-set_same}
 use Rattle.std.specs.Fmt.{decimal}
 use Rattle.json.specs.Token.{Token, begin_object, end_object, key, number}
 use Rattle.tag_memory.specs.Cells.{Cell, Granule, cell_of, null_cell, register_at}
 use Rattle.tag_memory.specs.Tags.{is_set_for, is_tagged}
 use Rattle.state_text.specs.Cells.{cell_tokens}
 use Rattle.state_text.specs.Taken.{is_tag_gone, number_if}
-use Rattle.state_text.specs.Changes.{below, change_tokens, is_same, is_same_tag, tag_change}
+use Rattle.state_text.specs.Changes.{below, change_tokens, is_same, is_same_tag, register_change, registers_tokens, tag_change}
+use Rattle.state_text.specs.Told.{StayBut}
 
 pub change_tokens-same : (name : List ℕ) (n : ℕ) (old new : Cell) → is_same old new ≡ true → change_tokens name n old new ≡ []
 unfolding change_tokens
@@ -21,6 +23,16 @@ change_tokens-other name n old new is = rw is refl
 -- What a register but the first reads as is what stands there.
 pub register_at-later : (registers : List Cell) (k : ℕ) → register_at registers (k + 1) ≡ get_or registers (k + 1) null_cell
 register_at-later registers k = ap (λ b. cond b null_cell (get_or registers (k + 1) null_cell)) (ne_eqb (k + 1) 0 (λ e. absurd (omega (arith, e))))
+
+pub register_at-some : (registers : List Cell) (r : ℕ) → r ≢ 0 → register_at registers r ≡ get_or registers r null_cell
+register_at-some registers r some = ap (λ b. cond b null_cell (get_or registers r null_cell)) (ne_eqb r 0 some)
+
+pub register_at-all : (registers : List Cell) (r : ℕ) → get_or registers 0 null_cell ≡ null_cell → register_at registers r ≡ get_or registers r null_cell
+register_at-all registers r first =
+    elim (cases_eq r 0) [
+      | inl is ↦ subst (λ (n : ℕ). register_at registers n ≡ get_or registers n null_cell) (sym is) (sym first)
+      | inr some ↦ register_at-some registers r some
+    ]
 
 -- ---- lists of what numbers have
 
@@ -66,3 +78,51 @@ is_tag_gone-not tags cells i same = ap (λ (b : Bool). b && not (is_tagged cells
 pub number_if-same : (f g : ℕ → Bool) (k : ℕ) → f k ≡ g k → number_if f k ≡ number_if g k
 unfolding number_if
 number_if-same f g k same = λ i. if same i then number (decimal k) ∷ [] else []
+
+-- ---- one register alone
+
+-- Where no number has anything, and where one alone has.
+below_none : (f : ℕ → List Token) (n : ℕ) → ((k : ℕ) → f k ≡ []) → below f n ≡ []
+below_none f zero none = refl
+below_none f (suc n) none = λ i. below_none f n none i ++ none n i
+
+below_less : (f : ℕ → List Token) (n : ℕ) → ((k : ℕ) → k < n → f k ≡ []) → below f n ≡ []
+below_less f zero none = refl
+below_less f (suc n) none = λ i. below_less f n (λ k lt. none k (omega (arith, lt))) i ++ none n (omega arith) i
+
+below_one : (f : ℕ → List Token) (n k : ℕ) → k < n → ((j : ℕ) → j ≢ k → f j ≡ []) → below f n ≡ f k
+below_one f zero k lt none = absurd (omega (arith, lt))
+below_one f (suc n) k lt none =
+    elim (cases_eq k n) [
+      | inl last ↦ ap (λ (ts : List Token). ts ++ f n) (below_less f n (λ j less. none j (λ same. absurd (omega (arith, less, same, last))))) ∙ ap f (sym last)
+      | inr other ↦
+          ap (λ (ts : List Token). below f n ++ ts) (none n (λ same. other (sym same)))
+          ∙ (append-nil (below f n) ∙ below_one f n k (omega (arith, lt, other)) none)
+    ]
+
+register_change-none : (old new : List Cell) (k : ℕ) → get_or new (k + 1) null_cell ≡ get_or old (k + 1) null_cell → register_change old new k ≡ []
+register_change-none old new k same =
+    let cell = get_or old (k + 1) null_cell in
+    change_tokens-same (codes "r") (k + 1) cell (get_or new (k + 1) null_cell) (ap (λ (c : Cell). is_same cell c) same ∙ is_same-itself cell)
+
+-- Where all registers but one are as before, that one is told where it changed, and none where that is register 0.
+pub registers_tokens-none : (old new : List Cell) (r : ℕ) → r ≡ 0 → StayBut r old new → registers_tokens old new ≡ []
+unfolding registers_tokens
+registers_tokens-none old new r is stay = below_none (register_change old new) 31 (λ k. register_change-none old new k (stay (k + 1) (λ same. absurd (omega (arith, same, is)))))
+
+pub registers_tokens-one : (old new : List Cell) (r : ℕ) → r ≢ 0 → r < 32 → StayBut r old new
+    → registers_tokens old new ≡ change_tokens (codes "r") r (get_or old r null_cell) (get_or new r null_cell)
+unfolding registers_tokens
+registers_tokens-one old new r some within stay =
+    let back : r - 1 + 1 ≡ r = omega (arith, some) in
+    below_one (register_change old new) 31 (r - 1) (omega (arith, some, within)) (λ j other. register_change-none old new j (stay (j + 1) (λ same. other (omega (arith, same)))))
+    ∙ ap (λ (n : ℕ). change_tokens (codes "r") n (get_or old n null_cell) (get_or new n null_cell)) back
+
+-- And with that one as it is now they are all as they are now.
+pub set_one : (old new : List Cell) (r : ℕ) (cell : Cell) → length old ≡ length new → r < length old → cell ≡ get_or new r null_cell → StayBut r old new → set old r cell ≡ new
+set_one old new r cell count within is stay =
+    ext_get_or null_cell (set old r cell) new (length-set old r cell ∙ count)
+    (λ k lt. elim (cases_eq k r) [
+      | inl same ↦ subst (λ (n : ℕ). get_or (set old r cell) n null_cell ≡ get_or new n null_cell) (sym same) (get_or-set_same old r cell null_cell within ∙ is)
+      | inr other ↦ get_or-set_other old r k cell null_cell other ∙ sym (stay k other)
+    ])

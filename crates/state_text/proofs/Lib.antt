@@ -6,3 +6,4 @@ pub mod LineLaws
 pub mod ListedBlocks
 pub mod MemoryLaws
 pub mod RecordLaws
+pub mod RegisterLaws

@@ -1,5 +1,5 @@
 -- What is told of a command, by what was seen before it, its reply, and the machine after it.
-use Rattle.std.specs.Prelude.{ℕ, ◌&&◌, ◌==◌, nat_lt, ◌-◌, ◌*◌, ◌<◌, ◌≤◌, ◌≡◌, Bool, false, true, not, List, [], ◌∷◌, ◌++◌, Option, Some, None, codes, filter, if◌then◌else◌, length, slice_index_or}
+use Rattle.std.specs.Prelude.{ℕ, ◌&&◌, ◌==◌, nat_lt, ◌-◌, ◌*◌, ◌<◌, ◌≤◌, ◌≡◌, ◌≢◌, Bool, false, true, not, List, [], ◌∷◌, ◌++◌, Option, Some, None, codes, filter, if◌then◌else◌, length, slice_index_or}
 use Rattle.json.specs.Token.{Token, begin_object, end_object, key}
 use Rattle.state_text.specs.Taken.{is_register_taken, is_tag_gone, taken_tokens}
 use Rattle.cap_codec.specs.Words.{base_of}
@@ -9,7 +9,7 @@ use Rattle.heap_machine.specs.Safety.{IsSafe}
 use Rattle.heap_machine.specs.Step.{Step, index_in}
 use Rattle.heap_reply.specs.declared.reply.Reply.{Reply}
 use Rattle.heap_reply.specs.declared.reply.Reply.TheVariants.{Block, BlockAfter, NoSpace, NoSpaceAfter, Held, Done, Cleared, Swept, Begun, Shown, Trap}
-use Rattle.tag_memory.specs.Cells.{Cell, Granule, cell_of}
+use Rattle.tag_memory.specs.Cells.{Cell, Granule, cell_of, null_cell}
 use Rattle.tag_memory.specs.Tags.{is_set_for, is_tagged}
 use Rattle.trace_text.specs.declared.trace.Command.{Command}
 use Rattle.trace_text.specs.declared.trace.Command.TheVariants.{Malloc, Free, Copy, SetAddr, Narrow, AndPerm, StoreCap, LoadCap, Write, Show, Sweep, Begin, End}
@@ -62,14 +62,34 @@ given_up s Sweep = 0
 given_up s Begin = 0
 given_up s End = 0
 
--- What is read before a command: the granule into which it may write, if it is one of the heap's, and where a block starts
--- that it may give up.
+-- The register that a command may change where no pass looks at registers; 0 where it changes none, which none does.
+abbrev pub changed_register : Command → ℕ
+changed_register (Malloc rd size) = rd
+changed_register (Free rs) = 0
+changed_register (Copy rd rs) = rd
+changed_register (SetAddr rd rs address) = rd
+changed_register (Narrow rd rs length) = rd
+changed_register (AndPerm rd rs mask) = rd
+changed_register (StoreCap ra rs) = 0
+changed_register (LoadCap rd ra) = rd
+changed_register (Write ra bytes) = 0
+changed_register (Show rs) = 0
+changed_register Sweep = 0
+changed_register Begin = 0
+changed_register End = 0
+
+-- All registers but this one are as before.
+abbrev pub StayBut : ℕ → List Cell → List Cell → Type 0
+StayBut r old new = (k : ℕ) → k ≢ r → slice_index_or new k null_cell ≡ slice_index_or old k null_cell
+
+-- What is read before a command: the granule into which it may write, if it is one of the heap's, where a block starts that
+-- it may give up, and the register that it may change.
 abbrev pub granule_before : State → Option ℕ → Option (ℕ × Granule)
 granule_before s None = None
 granule_before s (Some i) = if nat_lt i (length s.cells) then Some (i, slice_index_or s.cells i (0, false)) else None
 
 abbrev pub before_of : State → Command → Before
-before_of s c = record { granule = granule_before s (written s c); base = given_up s c }
+before_of s c = record { granule = granule_before s (written s c); base = given_up s c; register = changed_register c }
 
 -- The reply tells of a pass that took a tag.
 abbrev pub takes_tags : Reply → Bool

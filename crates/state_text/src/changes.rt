@@ -7,6 +7,7 @@ ghost use Rattle.state_text.specs.Changes.{change_tokens, registers_tokens};
 ghost use Rattle.json.specs.Token.{begin_object, end_object, key};
 ghost use Rattle.json.specs.Token.{number as number_token};
 ghost use Rattle.state_text.specs.Line.{added};
+ghost use Rattle.state_text.specs.Told.{StayBut};
 ghost use Rattle.tag_memory.specs.Cells.{register_count};
 
 use crate::cells::put_cell;
@@ -69,4 +70,22 @@ pub fn put_registers(
         put_change(line, "r", u64::from(r), old[usize::from(r)], new.get(r))?;
     }
     Ok(())
+}
+
+/// The same where all but register `r` are as before.
+pub fn put_register(
+    line: &mut DataLine,
+    old: &[(Word, bool)],
+    new: &Registers,
+    r: u8,
+) -> Result<(), AllocError>
+    requires count { length old.now ≡ register_count }
+    requires within { r < register_count }
+    requires stay { StayBut r old.now new.now }
+    ensures { OnOk result (line.new ≡ added line.old (registers_tokens old.now new.now)) }
+{
+    if r == 0 {
+        return Ok(());
+    }
+    put_change(line, "r", u64::from(r), old[usize::from(r)], new.get(r))
 }

@@ -1,12 +1,13 @@
 //! Runs of whole traces, as data.
 
-ghost use Rattle.std.specs.Prelude.{◌≡◌, ◌≢◌, Err, ◌<◌, ◌*◌, [], ◌++◌, ℕ, All, IfOk, IfSome, List, OnOk, length, slice_index_or};
+ghost use Rattle.std.specs.Prelude.{◌≡◌, ◌≢◌, Err, ◌<◌, ◌*◌, [], ◌++◌, ℕ, All, IfOk, IfSome, List, OnOk, false, length, slice_index_or};
 ghost use Rattle.tag_memory.specs.Cells.{null_cell};
 ghost use Rattle.heap_machine.specs.Safety.{IsSafe};
 ghost use Rattle.heap_machine.specs.State.{tags_of};
 ghost use Rattle.state_text.specs.Line.{added};
+ghost use Rattle.state_text.specs.States as states;
 ghost use Rattle.state_text.specs.States.{IsScriptData, IsDataOf, Tells, end_numbers, end_tokens, heap_tokens, data_line_text};
-ghost use Rattle.state_text.specs.Told.{HasOrder, IsSeen, Records, told_tokens};
+ghost use Rattle.state_text.specs.Told.{HasOrder, IsSeen, Records, StayBut, told_tokens};
 ghost use Rattle.trace_text.specs.Command.{IsListed, IsValid};
 ghost use Rattle.trace_text.specs.Heap.{IsHeap};
 ghost use Rattle.trace_text.specs.Reading.{script_of, trace_of};
@@ -58,6 +59,8 @@ fn told(
     requires tags { 64 * length seen.now.tags.items ≡ length machine.now.state.cells }
     requires inside { IfSome before.granule (λ at. at.0 < length machine.now.state.cells) }
     requires order { HasOrder of.2 }
+    requires within { before.register < 32 }
+    requires stay { states.tells_registers of.2 ≡ false → StayBut before.register seen.now.registers machine.now.state.registers }
     ensures { IfOk result (λ told. told.text.items ≡ so_far.text.items ++ data_line_text (told_tokens of.0 of.1 of.2 seen.now before machine.now.state.registers machine.now.state.cells)) }
 {
     let Lines { text, room } = so_far;

@@ -5,13 +5,14 @@ ghost use Rattle.cap_codec.specs.Words.{address_in};
 ghost use Rattle.heap_machine.specs.State.{register};
 ghost use Rattle.state_text.specs.Spans.{spans_of};
 ghost use Rattle.heap_core.specs.Blocks.{IsBefore, blocks_with};
+ghost use Rattle.state_text.specs.States as states;
 ghost use Rattle.state_text.specs.Told as told;
-ghost use Rattle.state_text.specs.Told.{Follows, IsSeen, before_of, due_seen, given_up, granule_before, is_stale, open_after, painted_after, waiting_after, written};
+ghost use Rattle.state_text.specs.Told.{Follows, IsSeen, StayBut, before_of, changed_register, due_seen, given_up, granule_before, is_stale, open_after, painted_after, waiting_after, written};
 ghost use Rattle.tag_memory.specs.Tags.{is_set_for, is_tagged};
 ghost use Rattle.trace_text.specs.Command.{IsValid};
 
 use crate::blocks::HeldBlock;
-use crate::replies::takes_tags;
+use crate::replies::{takes_tags, tells_registers};
 use cap_codec::{Word, bounds, fields};
 use heap_machine::Machine;
 use heap_reply::Reply;
@@ -31,12 +32,13 @@ pub struct Seen {
     pub is_open: bool,
 }
 
-/// What a command may change by a register: the granule into which it writes, with its bytes and its tag, and where a block
-/// starts that it gives up.
+/// What a command may change: by a register, the granule into which it writes, with its bytes and its tag, and where a block
+/// starts that it gives up; and the one register that it changes without a pass, 0 for none.
 #[derive(Clone, Copy)]
 pub struct Before {
     pub granule: Option<(usize, (u128, bool))>,
     pub base: u64,
+    pub register: u8,
 }
 
 impl Seen {
@@ -99,14 +101,39 @@ fn granule_at(machine: &Machine, written: Option<usize>) -> Option<(usize, (u128
     None
 }
 
-/// What a command may change by a register, as it is before it.
+// The register that a command may change where no pass looks at registers; 0 where it changes none.
+fn changed_by(command: Command) -> u8
+    requires { IsValid command }
+    ensures value { result ≡ changed_register command }
+    ensures within { result < 32 }
+{
+    match command {
+        Command::Malloc { rd, .. } => rd,
+        Command::Copy { rd, .. } => rd,
+        Command::SetAddr { rd, .. } => rd,
+        Command::Narrow { rd, .. } => rd,
+        Command::AndPerm { rd, .. } => rd,
+        Command::LoadCap { rd, .. } => rd,
+        Command::Free { .. }
+        | Command::StoreCap { .. }
+        | Command::Write { .. }
+        | Command::Show { .. }
+        | Command::Sweep
+        | Command::Begin
+        | Command::End => 0,
+    }
+}
+
+/// What a command may change, as it is before it.
 pub fn read_before(machine: &Machine, command: Command) -> Before
     requires { IsValid command }
-    ensures { result ≡ before_of machine.now.state command }
+    ensures value { result ≡ before_of machine.now.state command }
+    ensures register { result.register < 32 }
 {
     Before {
         granule: granule_at(machine, written_by(machine, command)),
         base: given_up_by(machine, command),
+        register: changed_by(command),
     }
 }
 
@@ -205,6 +232,7 @@ impl Seen {
         ensures painted { OnOk result (spans_of self.new.painted.items ≡ painted_after reply (spans_of self.old.waiting.items) (spans_of self.old.painted.items)) }
         ensures is_open { OnOk result (self.new.is_open ≡ open_after reply self.old.is_open) }
         ensures tags { OnOk result (self.new.tags ≡ self.old.tags) }
+        ensures registers { OnOk result (self.new.registers ≡ self.old.registers) }
     {
         match reply {
             Reply::Held(length) => self.add_waiting(start, length),
@@ -241,6 +269,37 @@ impl Seen {
         }
     }
 
+    // The same where all but register `r` are as they were.
+    fn follow_register(&mut self, registers: &Registers, r: u8)
+        requires within { r < 32 }
+        requires stay { StayBut r self.old.registers registers.now }
+        ensures registers { self.new.registers ≡ registers.now }
+        ensures tags { self.new.tags ≡ self.old.tags }
+        ensures waiting { self.new.waiting ≡ self.old.waiting }
+        ensures painted { self.new.painted ≡ self.old.painted }
+        ensures is_open { self.new.is_open ≡ self.old.is_open }
+    {
+        registers.whole();
+        self.registers[usize::from(r)] = registers.get(r);
+    }
+
+    // All registers after a pass that looked at them, and else the one that the command may have changed.
+    fn follow_changed(&mut self, registers: &Registers, r: u8, reply: Reply)
+        requires within { r < 32 }
+        requires stay { states.tells_registers reply ≡ false → StayBut r self.old.registers registers.now }
+        ensures registers { self.new.registers ≡ registers.now }
+        ensures tags { self.new.tags ≡ self.old.tags }
+        ensures waiting { self.new.waiting ≡ self.old.waiting }
+        ensures painted { self.new.painted ≡ self.old.painted }
+        ensures is_open { self.new.is_open ≡ self.old.is_open }
+    {
+        if tells_registers(reply) {
+            self.follow_registers(registers);
+            return;
+        }
+        self.follow_register(registers, r);
+    }
+
     // The tags after a command that may have written this granule, and was answered so: all but those that may be stale are
     // right already.
     fn follow_tags(&mut self, memory: &Memory, granule: Option<(usize, (u128, bool))>, reply: Reply)
@@ -249,6 +308,7 @@ impl Seen {
         ensures count { 64 * length self.new.tags.items ≡ length memory.now.cells }
         ensures bits { ((k : ℕ) → k < length memory.now.cells → is_stale granule reply k ≡ false → is_set_for self.old.tags.items k ≡ is_tagged memory.now.cells k)
             → (k : ℕ) → k < length memory.now.cells → is_set_for self.new.tags.items k ≡ is_tagged memory.now.cells k }
+        ensures registers { self.new.registers ≡ self.old.registers }
         ensures waiting { self.new.waiting ≡ self.old.waiting }
         ensures painted { self.new.painted ≡ self.old.painted }
         ensures is_open { self.new.is_open ≡ self.old.is_open }
@@ -266,6 +326,7 @@ impl Seen {
         ensures count { 64 * length self.new.tags.items ≡ length memory.now.cells }
         ensures here { (k : ℕ) → k / 64 ≡ w → is_set_for self.new.tags.items k ≡ is_tagged memory.now.cells k }
         ensures rest { (k : ℕ) → k / 64 ≢ w → is_set_for self.new.tags.items k ≡ is_set_for self.old.tags.items k }
+        ensures registers { self.new.registers ≡ self.old.registers }
         ensures waiting { self.new.waiting ≡ self.old.waiting }
         ensures painted { self.new.painted ≡ self.old.painted }
         ensures is_open { self.new.is_open ≡ self.old.is_open }
@@ -279,6 +340,7 @@ impl Seen {
         ensures count { 64 * length self.new.tags.items ≡ length memory.now.cells }
         ensures bits { told.takes_tags reply ≡ true → (k : ℕ) → k < length memory.now.cells → is_set_for self.new.tags.items k ≡ is_tagged memory.now.cells k }
         ensures none { told.takes_tags reply ≡ false → self.new.tags ≡ self.old.tags }
+        ensures registers { self.new.registers ≡ self.old.registers }
         ensures waiting { self.new.waiting ≡ self.old.waiting }
         ensures painted { self.new.painted ≡ self.old.painted }
         ensures is_open { self.new.is_open ≡ self.old.is_open }
@@ -323,11 +385,13 @@ impl Seen {
         requires order { AllPairs IsBefore (spans_of self.old.waiting.items) }
         requires count { 64 * length self.old.tags.items ≡ length machine.now.state.cells }
         requires inside { IfSome before.granule (λ at. at.0 < length machine.now.state.cells) }
+        requires within { before.register < 32 }
+        requires stay { states.tells_registers reply ≡ false → StayBut before.register self.old.registers machine.now.state.registers }
         ensures { OnOk result (Follows self.old self.new before reply machine.now.state) }
     {
+        self.follow_changed(machine.registers(), before.register, reply);
         self.follow_blocks(reply, before.base)?;
         self.follow_tags(machine.memory(), before.granule, reply);
-        self.follow_registers(machine.registers());
         Ok(())
     }
 }

@@ -1,6 +1,6 @@
 //! The line of a command.
 
-ghost use Rattle.std.specs.Prelude.{◌≡◌, ◌<◌, ◌≤◌, ◌+◌, ◌*◌, ◌-◌, ◌++◌, [], ◌∷◌, IfSome, None, OnOk, codes, filter, length, not, slice_index_or};
+ghost use Rattle.std.specs.Prelude.{◌≡◌, ◌<◌, ◌≤◌, ◌+◌, ◌*◌, ◌-◌, ◌++◌, [], ◌∷◌, IfSome, None, OnOk, codes, false, filter, length, not, slice_index_or};
 ghost use Rattle.heap_core.specs.Blocks.{has_bounds};
 ghost use Rattle.heap_reply.specs.Answer.{answer_text};
 ghost use Rattle.json.specs.Token.{key, string};
@@ -9,12 +9,13 @@ ghost use Rattle.state_text.specs.Blocks.{told_blocks};
 ghost use Rattle.state_text.specs.Changes.{registers_tokens};
 ghost use Rattle.state_text.specs.Line.{added, list_tokens};
 ghost use Rattle.state_text.specs.Spans.{spans_of};
+ghost use Rattle.state_text.specs.States as states;
 ghost use Rattle.state_text.specs.States.{head_tokens};
-ghost use Rattle.state_text.specs.Told.{HasOrder, blocks_told, granules_told, pass_told, told_tokens};
+ghost use Rattle.state_text.specs.Told.{HasOrder, StayBut, blocks_told, granules_told, pass_told, told_tokens};
 ghost use Rattle.tag_memory.specs.Cells.{null_cell};
 
 use crate::blocks::{HeldBlock, put_block, put_blocks, put_span};
-use crate::changes::put_registers;
+use crate::changes::{put_register, put_registers};
 use crate::data_line::DataLine;
 use crate::granules::{put_granule, put_tags};
 use crate::replies::{takes_tags, tells_pass, tells_registers};
@@ -58,15 +59,37 @@ fn put_head(
     put_answer(line, reply)
 }
 
+// All registers are compared where a pass looked at them, and else the one that the command may change.
+fn put_changed_registers(
+    line: &mut DataLine,
+    seen: &Seen,
+    before: Before,
+    reply: Reply,
+    registers: &Registers,
+) -> Result<(), AllocError>
+    requires within { before.register < 32 }
+    requires stay { states.tells_registers reply ≡ false → StayBut before.register seen.now.registers registers.now }
+    ensures { OnOk result (line.new ≡ added line.old (registers_tokens seen.now.registers registers.now)) }
+{
+    if tells_registers(reply) {
+        return put_registers(line, &seen.registers, registers);
+    }
+    put_register(line, &seen.registers, registers, before.register)
+}
+
 fn put_register_part(
     line: &mut DataLine,
     seen: &Seen,
+    before: Before,
+    reply: Reply,
     registers: &Registers,
 ) -> Result<(), AllocError>
+    requires within { before.register < 32 }
+    requires stay { states.tells_registers reply ≡ false → StayBut before.register seen.now.registers registers.now }
     ensures { OnOk result (line.new ≡ added line.old (list_tokens (codes "registers") (registers_tokens seen.now.registers registers.now))) }
 {
     line.open_list("registers")?;
-    put_registers(line, &seen.registers, registers)?;
+    put_changed_registers(line, seen, before, reply, registers)?;
     line.close_list()
 }
 
@@ -222,12 +245,14 @@ pub fn put_command(
     requires tags { 64 * length seen.now.tags.items ≡ length machine.now.state.cells }
     requires inside { IfSome before.granule (λ at. at.0 < length machine.now.state.cells) }
     requires order { HasOrder told.2 }
+    requires within { before.register < 32 }
+    requires stay { states.tells_registers told.2 ≡ false → StayBut before.register seen.now.registers machine.now.state.registers }
     ensures { OnOk result (line.new ≡ added line.old (told_tokens told.0 told.1 told.2 seen.now before machine.now.state.registers machine.now.state.cells)) }
 {
     let (number, command, reply) = told;
     let memory = machine.memory();
     put_head(line, number, command, reply)?;
-    put_register_part(line, seen, machine.registers())?;
+    put_register_part(line, seen, before, reply, machine.registers())?;
     put_granule_part(line, seen, before, reply, memory)?;
     put_block_part(line, reply, seen.due(), before.base)?;
     put_pass(line, seen, reply, memory)?;

@@ -6,4 +6,4 @@ use Rattle.state_text.proofs.telling.put_register_part.Goals as goal
 
 pub returns : goal.returns
 returns c =
-    added_three _ _ _ _ _ _ _ _ _ c.in_ok-open_list.ensures c.in_ok-put_registers.ensures c.close_list.ensures (λ i. list_tokens (codes "registers") (registers_tokens c.args.seen.now.registers c.args.registers.now))
+    added_three _ _ _ _ _ _ _ _ _ c.in_ok-open_list.ensures c.in_ok-put_changed_registers.ensures c.close_list.ensures (λ i. list_tokens (codes "registers") (registers_tokens c.args.seen.now.registers c.args.registers.now))

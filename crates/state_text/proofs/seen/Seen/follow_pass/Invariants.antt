@@ -9,6 +9,7 @@ pub record AreFollowed (seen before : Seen) (cells : List Granule) (w end : ℕ)
   pub count : 64 * length seen.tags.items ≡ length cells
   pub end_is : end ≡ length seen.tags.items
   pub bits : (k : ℕ) → k / 64 < w → is_set_for seen.tags.items k ≡ is_tagged cells k
+  pub registers : seen.registers ≡ before.registers
   pub waiting : seen.waiting ≡ before.waiting
   pub painted : seen.painted ≡ before.painted
   pub is_open : seen.is_open ≡ before.is_open
