@@ -33,7 +33,8 @@ struct Lines {
     room: Vec<u8>,
 }
 
-// The data with the line's JSON and a line feed after it.
+// The data with the line's JSON and a line feed after it. Inlined: the line and the data then aren't copied for a call.
+#[inline(always)]
 fn with_line(text: Vec<u8>, line: DataLine) -> Result<Lines, AllocError>
     requires { line.before ≡ [] }
     ensures { IfOk result (λ lines. lines.text.items ≡ text.items ++ data_line_text line.tokens) }
