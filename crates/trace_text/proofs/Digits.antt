@@ -1,10 +1,10 @@
 -- What a text of digits writes, read as a whole and digit by digit.
-use Rattle.std.proofs.Common.{◌≡◌, ℕ, ◌+◌, ◌*◌, ◌<◌, ◌≤◌, ◌^◌, Bool, true, false, List, [], ◌∷◌, length, drop, get_or, Option, Some, None, arith, refl, ap, ◌∙◌, ◌&&◌, nat_lt, nat_le}
+use Rattle.std.proofs.Common.{◌≡◌, ℕ, zero, suc, ◌+◌, ◌-◌, ◌*◌, ◌<◌, ◌≤◌, ◌^◌, Bool, true, false, List, [], ◌∷◌, length, drop, get_or, Option, Some, None, arith, refl, ap, subst, ◌∙◌, ◌&&◌, nat_lt, nat_le}
 use Rattle.std.specs.Prelude.{if◌then◌else◌}
 use Rattle.std.specs.Char.{digit_value, is_digit}
 use Rattle.std.specs.Str.Parse.{AllDigits, digits_value_after}
 use Rattle.std.proofs.Math.ListN.{drop_of_length-le}
-use Rattle.std.proofs.Math.Nat.{le-mul_of_pos_right}
+use Rattle.std.proofs.Math.Nat.{le-mul_of_pos_right, pow-suc}
 use Rattle.std.proofs.lemmas.Bool.Decides.{nat_tests}
 use Rattle.std.proofs.lemmas.List.{at_drop_more}
 use Rattle.trace_text.specs.Reading.{all_digits_in, numeral_of}
@@ -72,3 +72,15 @@ pub all_read : (radix n : ℕ) (ds : List ℕ) (i : ℕ) → length ds ≤ i →
 all_read radix n ds i le small =
     let lt : nat_lt n (2 ^ 64) ≡ true = grind (arith, nat_tests, small) in
     ap (value_after radix n) (drop_of_length-le ds le) ∙ rw lt refl
+
+-- ---- hexadecimal digits, for which there is always room
+
+pow16_le : (k i j : ℕ) → j ≡ k + i → 16 ^ i ≤ 16 ^ j
+pow16_le zero i j e =
+    let same : i ≡ j = omega (arith, e) in
+    subst (λ n. 16 ^ i ≤ 16 ^ n) same (omega arith)
+pow16_le (suc k) i zero e = absurd (omega (arith, e))
+pow16_le (suc k) i (suc j) e = omega (arith, pow16_le k i j (omega (arith, e)), pow-suc 16 j)
+
+pub sixteenth_fits : (i n : ℕ) → i < 16 → n < 16 ^ i → n * 16 + 15 < 2 ^ 64
+sixteenth_fits i n few below = omega (arith, pow16_le (15 - i) i 15 (omega arith), below)

@@ -1,6 +1,7 @@
 //! Registers, numbers, masks and data.
 
-ghost use Rattle.std.specs.Prelude.{◌≡◌, ◌<◌, ◌≤◌, IfOk, IfSome};
+ghost use Rattle.std.specs.Prelude.{◌≡◌, ◌<◌, ◌≤◌, None, Some, IfOk, IfSome, if◌then◌else◌};
+ghost use Rattle.std.specs.Char.{digit_value, is_digit};
 ghost use Rattle.trace_text.specs.Reading.{data_in, mask_in, number_in, number_of, numeral_of, register_in, register_of};
 ghost use Rattle.tag_memory.specs.Cells.{register_count};
 
@@ -8,20 +9,62 @@ use crate::fault::LineFault;
 use hex::FromHex;
 use tag_memory::REGISTERS;
 
-// The value of 1 to `most` digits, where 64 bits have room for it.
-fn numeral(digits: &[u8], radix: u32, most: usize) -> Option<u64>
-    requires low { 2 ≤ radix }
-    requires high { radix ≤ 16 }
-    ensures { result ≡ numeral_of radix most digits.now }
+// The value of 1 to `most` decimal digits, where 64 bits have room for it.
+fn decimal(digits: &[u8], most: usize) -> Option<u64>
+    ensures { result ≡ numeral_of 10 most digits.now }
 {
     if digits.is_empty() || digits.len() > most {
         return None;
     }
     let mut value: u64 = 0;
     for byte in digits {
-        let digit = char::from(*byte).to_digit(radix)?;
-        let shifted = value.checked_mul(u64::from(radix))?;
+        let digit = char::from(*byte).to_digit(10)?;
+        let shifted = value.checked_mul(10)?;
         value = shifted.checked_add(u64::from(digit))?;
+    }
+    Some(value)
+}
+
+// The value of each byte as a hexadecimal digit of either case, and 255 where it is none: a lookup, since which kind of
+// digit comes next can't be foretold.
+static HEXADECIMAL_VALUES: [u8; 256] = [
+    255, 255, 255, 255, 255, 255, 255, 255, 255, 255, 255, 255, 255, 255, 255, 255, 255, 255, 255,
+    255, 255, 255, 255, 255, 255, 255, 255, 255, 255, 255, 255, 255, 255, 255, 255, 255, 255, 255,
+    255, 255, 255, 255, 255, 255, 255, 255, 255, 255, 0, 1, 2, 3, 4, 5, 6, 7, 8, 9, 255, 255, 255,
+    255, 255, 255, 255, 10, 11, 12, 13, 14, 15, 255, 255, 255, 255, 255, 255, 255, 255, 255, 255,
+    255, 255, 255, 255, 255, 255, 255, 255, 255, 255, 255, 255, 255, 255, 255, 255, 10, 11, 12, 13,
+    14, 15, 255, 255, 255, 255, 255, 255, 255, 255, 255, 255, 255, 255, 255, 255, 255, 255, 255,
+    255, 255, 255, 255, 255, 255, 255, 255, 255, 255, 255, 255, 255, 255, 255, 255, 255, 255, 255,
+    255, 255, 255, 255, 255, 255, 255, 255, 255, 255, 255, 255, 255, 255, 255, 255, 255, 255, 255,
+    255, 255, 255, 255, 255, 255, 255, 255, 255, 255, 255, 255, 255, 255, 255, 255, 255, 255, 255,
+    255, 255, 255, 255, 255, 255, 255, 255, 255, 255, 255, 255, 255, 255, 255, 255, 255, 255, 255,
+    255, 255, 255, 255, 255, 255, 255, 255, 255, 255, 255, 255, 255, 255, 255, 255, 255, 255, 255,
+    255, 255, 255, 255, 255, 255, 255, 255, 255, 255, 255, 255, 255, 255, 255, 255, 255, 255, 255,
+    255, 255, 255, 255, 255, 255, 255, 255, 255, 255, 255, 255, 255, 255, 255, 255, 255, 255, 255,
+    255, 255, 255,
+];
+
+#[inline(always)]
+fn hexadecimal_digit(byte: u8) -> u8
+    ensures { result ≡ (if is_digit byte 16 then digit_value byte else 255) }
+{
+    HEXADECIMAL_VALUES[byte as usize]
+}
+
+// The value of 1 to 16 hexadecimal digits, for which 64 bits always have room.
+fn hexadecimal(digits: &[u8]) -> Option<u64>
+    ensures { result ≡ numeral_of 16 16 digits.now }
+{
+    if digits.is_empty() || digits.len() > 16 {
+        return None;
+    }
+    let mut value: u64 = 0;
+    for byte in digits {
+        let digit = hexadecimal_digit(*byte);
+        if digit > 15 {
+            return None;
+        }
+        value = value * 16 + u64::from(digit);
     }
     Some(value)
 }
@@ -31,23 +74,36 @@ pub fn number(word: &[u8]) -> Option<u64>
     ensures { result ≡ number_of word.now }
 {
     match word.strip_prefix(b"0x") {
-        Some(digits) => numeral(digits, 16, 16),
-        None => numeral(word, 10, 20),
+        Some(digits) => hexadecimal(digits),
+        None => decimal(word, 20),
     }
 }
 
+// The value of a decimal digit.
+#[inline(always)]
+fn decimal_digit(byte: u8) -> Option<u8>
+    ensures { result ≡ (if is_digit byte 10 then Some (digit_value byte) else None) }
+{
+    let digit = hexadecimal_digit(byte);
+    if digit > 9 {
+        return None;
+    }
+    Some(digit)
+}
+
 // The register that a word names.
+#[inline(always)]
 fn register_number(word: &[u8]) -> Option<u8>
     ensures value { result ≡ register_of word.now }
     ensures below { IfSome result (λ register. register < register_count) }
 {
-    let digits = word.strip_prefix(b"c")?;
-    if digits.len() > 1 && digits.starts_with(b"0") {
-        return None;
-    }
-    let number = numeral(digits, 10, 2)?;
-    if number < u64::from(REGISTERS) {
-        Some(number as u8)
+    let number = match *word {
+        [b'c', ones] => decimal_digit(ones)?,
+        [b'c', tens @ b'1'..=b'9', ones] => 10 * (tens - b'0') + decimal_digit(ones)?,
+        _ => return None,
+    };
+    if number < REGISTERS {
+        Some(number)
     } else {
         None
     }
