@@ -1,5 +1,5 @@
 -- The first word of a line stands from its first byte that is no blank up to the next blank.
-use Rattle.std.proofs.Common.{◌≡◌, ℕ, zero, suc, ◌<◌, ◌≤◌, Bool, true, false, not, cond, List, [], ◌∷◌, Option, Some, None, length, take, drop, get_or, filter, unwrap_or, refl, sym, ap, subst, ◌∙◌, length-drop, add-zero, arith}
+use Rattle.std.proofs.Common.{◌≡◌, ℕ, zero, suc, ◌<◌, ◌≤◌, Bool, true, false, not, cond, List, [], ◌∷◌, Option, Some, None, length, take, drop, get_or, filter, unwrap_or, refl, sym, ap, ◌∙◌, length-drop, add-zero, arith}
 use Rattle.std.specs.List.{slice_split, onto_first, position, position_or_len}
 use Rattle.std.specs.Prelude.{nat_lt}
 use Rattle.std.proofs.Math.ListN.{drop_of_length-le}
@@ -9,6 +9,7 @@ use Rattle.std.proofs.lemmas.List.{get_or-drop}
 use Rattle.std.proofs.lemmas.List.Quantifiers.{position-Some}
 use Rattle.std.proofs.lemmas.List.Sums.{fails_before_first}
 use Rattle.trace_text.specs.Lines.{is_blank, is_nonempty, words_of}
+use Rattle.trace_text.specs.Marked.{Ends}
 
 -- ---- where a test passes first
 
@@ -19,12 +20,6 @@ pub position-None : (p : ℕ → Bool) (xs : List ℕ) (k : ℕ) → position p 
 position-None p xs k e lt =
     let le : length xs ≤ position_or_len p xs = none_passes (position_or_len p xs) (length xs) e in
     fails_before_first p xs k 0 (omega arith)
-
--- an index up to which the test fails, and at which it passes unless the list ends there
-pub record Ends (p : ℕ → Bool) (xs : List ℕ) (i : ℕ) : Type 0 where
-  pub within : i ≤ length xs
-  pub before : (k : ℕ) → k < i → p (get_or xs k 0) ≡ false
-  pub here : i < length xs → p (get_or xs i 0) ≡ true
 
 pub ends : (p : ℕ → Bool) (xs : List ℕ) (found : Option ℕ) → found ≡ position p xs → Ends p xs (unwrap_or found (length xs))
 ends p xs (Some i) e =
@@ -83,18 +78,17 @@ some_before_blank : (bs : List ℕ) (i : ℕ) → is_blank (get_or bs 0 0) ≡ f
 some_before_blank bs zero e some h = let t = h.here some in absurd cc
 some_before_blank bs (suc i) e some h = omega arith
 
-pub words_of-first : (line rest : List ℕ) (start end : ℕ) (found : Option ℕ) → position (λ b. not (is_blank b)) line ≡ Some start → rest ≡ drop start line
-    → found ≡ position is_blank rest → end ≡ unwrap_or found (length rest) → words_of line ≡ take end rest ∷ words_of (drop end rest)
-words_of-first line rest start end found first is_rest at is_end =
-    let begins = position-Some (λ b. not (is_blank b)) line start 0 first in
-    let blanks : words_of line ≡ words_of (drop start line) = words_of-blanks line start (omega arith) (λ k lt. not_false (is_blank (get_or line k 0)) (begins.2 k lt)) in
-    let same : get_or rest 0 0 ≡ get_or line start 0 = ap (λ bs. get_or bs 0 0) is_rest ∙ rw add-zero at (get_or-drop start line 0 0) in
-    let word : is_blank (get_or rest 0 0) ≡ false = ap is_blank same ∙ not-true (is_blank (get_or line start 0)) begins.1 in
-    let some : 0 < length rest = omega (arith, ap length is_rest, length-drop start line) in
-    let stops : Ends is_blank rest end = subst (Ends is_blank rest) (sym is_end) (ends is_blank rest found at) in
-    blanks ∙ ap words_of (sym is_rest) ∙ words_of-word rest end (some_before_blank rest end word some stops) some stops
+pub words_of-first : (line : List ℕ) (start end : ℕ) → Ends (λ b. not (is_blank b)) line start → start < length line → Ends is_blank (drop start line) end
+    → words_of line ≡ take end (drop start line) ∷ words_of (drop end (drop start line))
+words_of-first line start end begins lt stops =
+    let rest = drop start line in
+    let blanks : words_of line ≡ words_of rest = words_of-blanks line start begins.within (λ k before. not_false (is_blank (get_or line k 0)) (begins.before k before)) in
+    let same : get_or rest 0 0 ≡ get_or line start 0 = rw add-zero at (get_or-drop start line 0 0) in
+    let word : is_blank (get_or rest 0 0) ≡ false = ap is_blank same ∙ not-true (is_blank (get_or line start 0)) (begins.here lt) in
+    let some : 0 < length rest = omega (arith, lt, length-drop start line) in
+    blanks ∙ words_of-word rest end (some_before_blank rest end word some stops) some stops
 
-pub words_of-none : (line : List ℕ) → position (λ b. not (is_blank b)) line ≡ None → words_of line ≡ []
-words_of-none line none =
-    words_of-blanks line (length line) (omega arith) (λ k lt. not_false (is_blank (get_or line k 0)) (position-None (λ b. not (is_blank b)) line k none lt))
-    ∙ ap words_of (drop_of_length-le line (omega arith))
+pub words_of-none : (line : List ℕ) (start : ℕ) → Ends (λ b. not (is_blank b)) line start → start ≡ length line → words_of line ≡ []
+words_of-none line start none all =
+    words_of-blanks line start none.within (λ k before. not_false (is_blank (get_or line k 0)) (none.before k before))
+    ∙ ap words_of (drop_of_length-le line (omega (arith, all)))

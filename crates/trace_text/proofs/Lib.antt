@@ -4,6 +4,8 @@ pub mod FirstByte
 pub mod FirstLine
 pub mod FirstWord
 pub mod HeapLines
+pub mod Lanes
+pub mod MarkLaws
 pub mod Operands
 pub mod Reading
 pub mod WholeText

@@ -3,4 +3,5 @@ pub mod Fault
 pub mod Grammar
 pub mod Heap
 pub mod Lines
+pub mod Marked
 pub mod Reading

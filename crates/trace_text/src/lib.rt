@@ -4,6 +4,7 @@
 mod fault;
 mod laws;
 mod line;
+mod marked;
 mod operand;
 mod text;
 mod trace;

@@ -8,6 +8,7 @@ ghost use Rattle.trace_text.specs.Reading.{command_of, command_at, data_in, heap
 ghost use Rattle.tag_memory.specs.Cells.{register_count};
 
 use crate::fault::{LineFault, TraceFault};
+use crate::marked::Line;
 use crate::operand::{data, mask, number, operand_number, register};
 use crate::trace::Command;
 use crate::words::{no_word, one_word, split_name, three_words, two_words};
@@ -15,7 +16,7 @@ use tag_memory::{is_base, is_size};
 
 // No operands.
 #[tactic(auto, unfolding(crate::specs::Reading::none_of))]
-fn no_operands(operands: &[u8]) -> Result<(), LineFault>
+fn no_operands(operands: &Line<'_>) -> Result<(), LineFault>
     ensures { result ≡ none_of (words_of operands.now) }
 {
     if no_word(operands) {
@@ -27,7 +28,7 @@ fn no_operands(operands: &[u8]) -> Result<(), LineFault>
 
 // A register and a number.
 #[tactic(auto, unfolding(crate::specs::Reading::two_of))]
-fn register_and_number(operands: &[u8]) -> Result<(u8, u64), LineFault>
+fn register_and_number(operands: &Line<'_>) -> Result<(u8, u64), LineFault>
     ensures value { result ≡ two_of register_in number_in (words_of operands.now) }
     ensures valid { IfOk result (λ read. read.0 < register_count) }
 {
@@ -41,7 +42,7 @@ fn register_and_number(operands: &[u8]) -> Result<(u8, u64), LineFault>
 
 // Two registers.
 #[tactic(auto, unfolding(crate::specs::Reading::two_of))]
-fn two_registers(operands: &[u8]) -> Result<(u8, u8), LineFault>
+fn two_registers(operands: &Line<'_>) -> Result<(u8, u8), LineFault>
     ensures value { result ≡ two_of register_in register_in (words_of operands.now) }
     ensures valid { IfOk result (λ read. (read.0 < register_count) × (read.1 < register_count)) }
 {
@@ -55,7 +56,7 @@ fn two_registers(operands: &[u8]) -> Result<(u8, u8), LineFault>
 
 // Two registers and a number.
 #[tactic(auto, unfolding(crate::specs::Reading::three_of))]
-fn registers_and_number(operands: &[u8]) -> Result<(u8, u8, u64), LineFault>
+fn registers_and_number(operands: &Line<'_>) -> Result<(u8, u8, u64), LineFault>
     ensures value { result ≡ three_of register_in register_in number_in (words_of operands.now) }
     ensures valid { IfOk result (λ read. (read.0 < register_count) × (read.1 < register_count)) }
 {
@@ -70,7 +71,7 @@ fn registers_and_number(operands: &[u8]) -> Result<(u8, u8, u64), LineFault>
 
 // Two registers and a mask.
 #[tactic(auto, unfolding(crate::specs::Reading::three_of))]
-fn registers_and_mask(operands: &[u8]) -> Result<(u8, u8, u16), LineFault>
+fn registers_and_mask(operands: &Line<'_>) -> Result<(u8, u8, u16), LineFault>
     ensures value { result ≡ three_of register_in register_in mask_in (words_of operands.now) }
     ensures valid { IfOk result (λ read. (read.0 < register_count) × (read.1 < register_count)) }
 {
@@ -85,7 +86,7 @@ fn registers_and_mask(operands: &[u8]) -> Result<(u8, u8, u16), LineFault>
 
 // A register and data.
 #[tactic(auto, unfolding(crate::specs::Reading::two_of))]
-fn register_and_data(operands: &[u8]) -> Result<(u8, [u8; 16]), LineFault>
+fn register_and_data(operands: &Line<'_>) -> Result<(u8, [u8; 16]), LineFault>
     ensures value { result ≡ two_of register_in data_in (words_of operands.now) }
     ensures valid { IfOk result (λ read. read.0 < register_count) }
 {
@@ -99,7 +100,7 @@ fn register_and_data(operands: &[u8]) -> Result<(u8, [u8; 16]), LineFault>
 
 // One register.
 #[tactic(auto, unfolding(crate::specs::Reading::one_of))]
-fn one_register(operands: &[u8]) -> Result<u8, LineFault>
+fn one_register(operands: &Line<'_>) -> Result<u8, LineFault>
     ensures value { result ≡ one_of register_in (words_of operands.now) }
     ensures valid { IfOk result (λ register. register < register_count) }
 {
@@ -111,7 +112,7 @@ fn one_register(operands: &[u8]) -> Result<u8, LineFault>
 
 // The command with this name, whose operands follow it.
 #[tactic(auto, unfolding(crate::specs::Reading::command_of))]
-fn command(name: &[u8], operands: &[u8]) -> Result<Command, LineFault>
+fn command(name: &[u8], operands: &Line<'_>) -> Result<Command, LineFault>
     ensures value { result ≡ command_of (name.now ∷ words_of operands.now) }
     ensures valid { IfOk result IsValid }
 {
@@ -172,14 +173,14 @@ fn command(name: &[u8], operands: &[u8]) -> Result<Command, LineFault>
 
 /// What a line after the heap line means: a command, or nothing where it is passed over.
 #[tactic(auto, unfolding(crate::specs::Reading::command_at))]
-pub fn command_line(number: u32, line: &[u8]) -> Result<Option<Command>, TraceFault>
+pub fn command_line(number: u32, line: &Line<'_>) -> Result<Option<Command>, TraceFault>
     ensures value { result ≡ command_at number (words_of line.now) }
     ensures valid { IfOk result (λ read. IfSome read IsValid) }
 {
     let Some((name, operands)) = split_name(line) else {
         return Ok(None);
     };
-    match command(name, operands) {
+    match command(name, &operands) {
         Ok(command) => Ok(Some(command)),
         Err(fault) => Err(fault.at_line(number)),
     }
@@ -194,7 +195,7 @@ fn is_heap_place(base: u64, pages: u64) -> bool
 
 // The heap with this base address and this many pages.
 #[tactic(auto, unfolding(crate::specs::Reading::heap_of))]
-fn heap(operands: &[u8]) -> Option<(u64, u32)>
+fn heap(operands: &Line<'_>) -> Option<(u64, u32)>
     ensures value { result ≡ heap_of (words_of operands.now) }
     ensures heap { IfSome result (λ read. IsHeap read.0 read.1) }
 {
@@ -210,7 +211,7 @@ fn heap(operands: &[u8]) -> Option<(u64, u32)>
 
 /// What a line up to the heap line means: the heap, or nothing where it is passed over.
 #[tactic(auto, unfolding(crate::specs::Reading::heap_at))]
-pub fn heap_line(number: u32, line: &[u8]) -> Result<Option<(u64, u32)>, TraceFault>
+pub fn heap_line(number: u32, line: &Line<'_>) -> Result<Option<(u64, u32)>, TraceFault>
     ensures value { result ≡ heap_at number (words_of line.now) }
     ensures heap { IfOk result (λ read. IfSome read (λ read. IsHeap read.0 read.1)) }
 {
@@ -220,7 +221,7 @@ pub fn heap_line(number: u32, line: &[u8]) -> Result<Option<(u64, u32)>, TraceFa
     if name != b"heap".as_slice() {
         return Err(TraceFault::NoHeap(number));
     }
-    match heap(operands) {
+    match heap(&operands) {
         Some(heap) => Ok(Some(heap)),
         None => Err(TraceFault::BadHeap(number)),
     }

@@ -35,7 +35,7 @@ fn read_heap(text: &[u8]) -> Result<Opening<'_>, TraceFault>
     let mut number = 1;
     let mut rest = text;
     while let Some((line, after)) = split_line(rest) {
-        if let Some((base, pages)) = heap_line(number, line)? {
+        if let Some((base, pages)) = heap_line(number, &line)? {
             let next = number + 1;
             return Ok(Opening {
                 base,
@@ -60,7 +60,7 @@ fn read_commands(alloc: Global, first: u32, text: &[u8]) -> Result<Vec<(u32, Com
     let mut number = first;
     let mut rest = text;
     while let Some((line, after)) = split_line(rest) {
-        if let Some(command) = command_line(number, line)? {
+        if let Some(command) = command_line(number, &line)? {
             list.push((number, command))?;
         }
         rest = after;

@@ -12,7 +12,7 @@ use Rattle.trace_text.proofs.text.read_commands.Goals.{in-Some-2+in_ok-push, in_
 pub returns-in_err-command-clause-value : goal.returns-in_err-command-clause-value
 returns-in_err-command-clause-value c =
     let p = err_from_is_err_and c.from_residual.result c.from_residual.ensures.1 in
-    rw (p.1, p.2) (commands_stop c.loop-line.list.items c.loop-line.number c.in_err-command.field-0.0 c.loop-line.rest.now c.in-Some.line.now c.in-Some.after.now _
+    rw (p.1, p.2) (commands_stop c.loop-line.list.items c.loop-line.number c.in_err-command.field-0.0 c.loop-line.rest.now c.in-Some.line c.in-Some.after.now _
     c.in-Some.ensures.line c.in_err-command.ensures.value c.loop-line.invariant.told)
 
 All-listed : (number : ℕ) (command : Option Command) → number < 2 ^ 32 → IfSome command IsValid → All IsListed (listed number command)
@@ -32,7 +32,7 @@ loop-line-preserved c =
     record {
       valid = rw more (All-append IsListed items (listed number read) c.loop-line.invariant.valid valid);
       number = omega (arith, c.in-Some.ensures.shorter);
-      told = rw more (commands_go_on items number c.loop-line.rest.now c.in-Some.line.now c.in-Some.after.now read _
+      told = rw more (commands_go_on items number c.loop-line.rest.now c.in-Some.line c.in-Some.after.now read _
           c.in-Some.ensures.line c.in_ok-command.ensures.value c.loop-line.invariant.told);
     }
 

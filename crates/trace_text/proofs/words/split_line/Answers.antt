@@ -1,25 +1,13 @@
-use Rattle.std.proofs.Common.{◌≡◌, ◌+◌, ◌-◌, ◌<◌, ℕ, [], length, take, drop, eqb, get_or, false, sym, add-one, arith, length-drop}
-use Rattle.std.proofs.lemmas.Bool.Decides.{nat_tests}
-use Rattle.std.proofs.lemmas.List.{take_all}
-use Rattle.std.proofs.Math.ListN.{drop_of_length-le}
-use Rattle.std.proofs.lemmas.List.Quantifiers.{position-Some}
-use Rattle.trace_text.proofs.FirstLine.{lines_at_feed, lines_without_feed}
-use Rattle.trace_text.proofs.FirstWord.{position-None}
+use Rattle.std.proofs.Common.{◌≡◌, ◌+◌, ◌<◌, false, get_or, eqb, sym, ◌∙◌, add-one, arith}
+use Rattle.std.proofs.lemmas.List.{take_rest}
+use Rattle.trace_text.proofs.FirstLine.{lines_at_feed}
 use Rattle.trace_text.proofs.words.split_line.Goals as goal
 
-pub returns-in-Some-clause-line : goal.returns-in-Some-clause-line
-returns-in-Some-clause-line c =
+pub returns-then-feeds-ne0-clause-line : goal.returns-then-feeds-ne0-clause-line
+returns-then-feeds-ne0-clause-line c =
     let text = c.args.text.now in
-    let end = c.in-Some.end in
-    let first = position-Some (λ byte. eqb byte 10) text end 0 (sym c.in-Some.ensures) in
-    let after : take (length text - (end + 1)) (drop (end + 1) text) ≡ drop (end + 1) text = take_all (length text - (end + 1)) (drop (end + 1) text) (omega (arith, length-drop (end + 1) text)) in
-    rw (after, add-one) (lines_at_feed text end first.0 first.1 first.2)
-
-pub returns-in-None-clause-line : goal.returns-in-None-clause-line
-returns-in-None-clause-line c =
-    let text = c.args.text.now in
-    let none : (k : ℕ) → k < length text → eqb (get_or text k 0) 10 ≡ false = λ k lt. position-None (λ byte. eqb byte 10) text k (sym c.in-None.ensures) lt in
-    let some : 0 < length text = grind (arith, nat_tests, c.if-is_empty.false, c.if-is_empty.ensures) in
-    let all : take (length text) text ≡ text = take_all (length text) text (omega arith) in
-    let nothing : drop (length text) text ≡ [] = drop_of_length-le text (omega arith) in
-    rw (c.split_at.ensures.front, c.split_at.ensures.back, all, nothing) (lines_without_feed text some none)
+    let end = c.lowest_bit-length.result in
+    let first = c.lowest_bit-length.ensures in
+    let feed = c.feeds_of-feeds.ensures in
+    let before : (k : _) → k < end → eqb (get_or text k 0) 10 ≡ false = λ k lt. sym (feed k (omega (arith, lt, first.within))) ∙ first.below k lt in
+    rw (c.of_text.ensures, take_rest text (end + 1), add-one) (lines_at_feed text end (omega (arith, first.within, c.if-text-ge-LANES.true)) (sym (feed end first.within) ∙ first.one) before)

@@ -1,0 +1,77 @@
+-- What the bits of a line's stops tell.
+use Rattle.std.proofs.Common.{◌≡◌, ◌==◌, ℕ, zero, suc, ◌+◌, ◌-◌, ◌/◌, ◌%◌, ◌<◌, ◌≤◌, ◌^◌, max, Bool, true, false, not, List, length, take, drop, get_or, bit_or, w64, refl, sym, ap, ◌∙◌, arith}
+use Rattle.std.specs.Int.{bit_at}
+use Rattle.std.proofs.Math.Nat.{mod-eq_of_lt}
+use Rattle.std.proofs.lemmas.List.{get_or-drop, get_or-take, length-drop, length-take-le, take_rest}
+use Rattle.std.proofs.lemmas.Nat.{shr-shr}
+use Rattle.std.proofs.lemmas.Nat.Bits.{bit_at-lt, bit_at_not, bit_at_or}
+use Rattle.tag_memory.specs.Laws.{same_test}
+use Rattle.tag_memory.specs.Tags.{is_set}
+use Rattle.trace_text.specs.Lines.{is_blank}
+use Rattle.trace_text.specs.Marked.{AreStops}
+
+-- ---- bits
+
+or_clear : (m n k : ℕ) → m < 2 → n < 2 → k ≡ max m n → (n == 1) ≡ false → (k == 1) ≡ (m == 1)
+or_clear zero zero k lm ln e clear = rw e refl
+or_clear (suc zero) zero k lm ln e clear = rw e refl
+or_clear (suc (suc m)) zero k lm ln e clear = absurd (omega (arith, lm))
+or_clear m (suc zero) k lm ln e clear = absurd cc
+or_clear m (suc (suc n)) k lm ln e clear = absurd (omega (arith, ln))
+
+or_set : (m n k : ℕ) → m < 2 → n < 2 → k ≡ max m n → (n == 1) ≡ true → (k == 1) ≡ true
+or_set zero (suc zero) k lm ln e set = rw e refl
+or_set (suc zero) (suc zero) k lm ln e set = rw e refl
+or_set (suc (suc m)) n k lm ln e set = absurd (omega (arith, lm))
+or_set m zero k lm ln e set = absurd cc
+or_set m (suc (suc n)) k lm ln e set = absurd (omega (arith, ln))
+
+flipped : (m n : ℕ) → m < 2 → n ≡ 1 - m → (n == 1) ≡ not (m == 1)
+flipped zero n lt e = rw e refl
+flipped (suc zero) n lt e = rw e refl
+flipped (suc (suc m)) n lt e = absurd (omega (arith, lt))
+
+is_set-not : (mask j : ℕ) → mask < 2 ^ 64 → j < 64 → is_set (2 ^ 64 - 1 - mask) j ≡ not (is_set mask j)
+is_set-not mask j fits lt = flipped (bit_at mask j) (bit_at (2 ^ 64 - 1 - mask) j) (bit_at-lt mask j) (bit_at_not w64 mask j fits lt)
+
+-- a bit of the opposite mask gives back the bit
+pub set_from_not : (mask j : ℕ) → mask < 2 ^ 64 → j < 64 → is_set (2 ^ 64 - 1 - mask) j ≡ false → is_set mask j ≡ true
+set_from_not mask j fits lt e = flip (is_set mask j) (sym (is_set-not mask j fits lt) ∙ e) where
+  flip : (t : Bool) → not t ≡ false → t ≡ true
+  flip true e = refl
+  flip false e = absurd cc
+
+pub clear_from_not : (mask j : ℕ) → mask < 2 ^ 64 → j < 64 → is_set (2 ^ 64 - 1 - mask) j ≡ true → is_set mask j ≡ false
+clear_from_not mask j fits lt e = flip (is_set mask j) (sym (is_set-not mask j fits lt) ∙ e) where
+  flip : (t : Bool) → not t ≡ true → t ≡ false
+  flip false e = refl
+  flip true e = absurd cc
+
+-- ---- stops
+
+-- those of the line before the first feed
+pub stops_of : (text : List ℕ) (blanks feeds count : ℕ) → 64 ≤ length text → count < 64 → ((j : ℕ) → j < 64 → is_set blanks j ≡ is_blank (get_or text j 0))
+    → is_set feeds count ≡ true → ((j : ℕ) → j < count → is_set feeds j ≡ false) → AreStops (take count text) (bit_or blanks feeds)
+stops_of text blanks feeds count room lt marked feed none =
+    let size : length (take count text) ≡ count = length-take-le count text (omega (arith, room, lt)) in
+    record {
+      short = omega (arith, size, lt);
+      blanks = λ j within.
+          let before : j < count = omega (arith, within, size) in
+          or_clear (bit_at blanks j) (bit_at feeds j) (bit_at (bit_or blanks feeds) j) (bit_at-lt blanks j) (bit_at-lt feeds j) (bit_at_or blanks feeds j) (none j before)
+          ∙ marked j (omega (arith, before, lt)) ∙ ap is_blank (sym (get_or-take count text j 0 before));
+      end = rw size (or_set (bit_at blanks count) (bit_at feeds count) (bit_at (bit_or blanks feeds) count) (bit_at-lt blanks count) (bit_at-lt feeds count) (bit_at_or blanks feeds count) feed);
+    }
+
+-- those of what follows
+pub stops_after : (bytes : List ℕ) (stops count : ℕ) → AreStops bytes stops → count ≤ length bytes
+    → AreStops (take (length bytes - count) (drop count bytes)) (stops / 2 ^ (count % 64))
+stops_after bytes stops count are le =
+    let short : count < 64 = omega (arith, are.short, le) in
+    let left : length (drop count bytes) ≡ length bytes - count = length-drop count bytes in
+    let moved : (j : ℕ) → is_set (stops / 2 ^ count) j ≡ is_set stops (count + j) = λ j. same_test _ _ (ap (λ (x : ℕ). x % 2) (shr-shr stops count j)) in
+    rw (take_rest bytes count, mod-eq_of_lt short) (record {
+      short = omega (arith, left, are.short);
+      blanks = λ j within. moved j ∙ are.blanks (count + j) (omega (arith, within, left)) ∙ ap is_blank (sym (get_or-drop count bytes j 0));
+      end = moved (length (drop count bytes)) ∙ ap (is_set stops) (omega (arith, left, le)) ∙ are.end;
+    })

@@ -1,0 +1,12 @@
+use Rattle.std.proofs.Common.{take, refl}
+use Rattle.std.proofs.lemmas.Simd.{zip2_splat}
+use Rattle.trace_text.specs.Lines.{is_blank}
+use Rattle.trace_text.proofs.Lanes.{joined, marks, sixty_four}
+use Rattle.trace_text.proofs.marked.blanks_of.Goals as goal
+
+pub returns : goal.returns
+returns c =
+    let v = take 64 c.args.text.now in
+    let long = sixty_four c.args.text.now c.requires in
+    marks c.args.text.now _ is_blank c.requires c.type_inv.text _
+    (joined _ _ _ v (zip2_splat _ v 64 32 long) (joined _ _ _ v (zip2_splat _ v 64 9 long) (zip2_splat _ v 64 13 long))) refl
