@@ -5,7 +5,9 @@ use Rattle.std.proofs.lemmas.Nat.{div_below, le-div, leading_length, pow_pos, sh
 use Rattle.std.proofs.lemmas.Nat.Bits.{bit_at-lt, bit_at_above, bit_at_not, bit_at_ones, bit_at-trailing_zeros}
 use Rattle.std.specs.Int.{bit_at, bit_not, leading_zeros, trailing_zeros}
 use Rattle.granule_rows.specs.Runs.{AreSet, HasRun, IsFirst}
+use Rattle.granule_rows.specs.Starts.{AreStarts, IsNearLongest}
 use Rattle.granule_rows.specs.Tree.{IsLeaf}
+use Rattle.granule_rows.specs.declared.word.Starts.{Starts}
 use Rattle.tag_memory.specs.Laws.{is_set-and, is_set_zero, same_test}
 use Rattle.tag_memory.specs.Tags.{is_set}
 
@@ -29,23 +31,20 @@ lowest t some fits =
 
 -- ---- where runs start
 
--- Bit j of t is 1 where n ones start at bit j of the word.
-pub record AreStarts (word t n : ℕ) : Type 0 where
-  pub runs : (i : ℕ) → is_set t i ≡ true → AreSet (is_set word) i n
-  pub all : (i : ℕ) → AreSet (is_set word) i n → is_set t i ≡ true
-
 pub AreStarts-one : (word : ℕ) → AreStarts word word 1
 AreStarts-one word = record {
   runs = λ i set. record { each = λ k le lt. (let e : i ≡ k = omega arith in subst (λ (j : ℕ). is_set word j ≡ true) e set) };
   all = λ i run. run.each i (omega arith) (omega arith);
 }
 
-pub AreStarts-more : (word t m s : ℕ) → AreStarts word t m → s ≤ m → AreStarts word (bit_and t (t / 2 ^ s)) (m + s)
-AreStarts-more word t m s starts le = record {
+-- runs that follow each other, or overlap
+pub AreStarts-more : (word t u m n s long : ℕ) → AreStarts word t m → AreStarts word u n → s ≤ m → m ≤ long → long ≡ s + n
+    → AreStarts word (bit_and t (u / 2 ^ s)) long
+AreStarts-more word t u m n s long first second le fine is = record {
   runs = λ i set.
-      let parts = and_parts _ _ (sym (is_set-and t (t / 2 ^ s) i) ∙ set) in
-      let low = starts.runs i parts.0 in
-      let high = starts.runs (s + i) (sym (is_set-shr t s i) ∙ parts.1) in
+      let parts = and_parts _ _ (sym (is_set-and t (u / 2 ^ s) i) ∙ set) in
+      let low = first.runs i parts.0 in
+      let high = second.runs (s + i) (sym (is_set-shr u s i) ∙ parts.1) in
       record {
         each = λ k from to. elim (cases_lt k (i + m)) [
           | inl before ↦ low.each k from before
@@ -53,10 +52,13 @@ AreStarts-more word t m s starts le = record {
         ];
       };
   all = λ i run.
-      let low = starts.all i (record { each = λ k from to. run.each k from (omega arith) }) in
-      let high = starts.all (s + i) (record { each = λ k from to. run.each k (omega arith) (omega arith) }) in
-      is_set-and t (t / 2 ^ s) i ∙ and_from _ _ low (is_set-shr t s i ∙ high);
+      let low = first.all i (record { each = λ k from to. run.each k from (omega arith) }) in
+      let high = second.all (s + i) (record { each = λ k from to. run.each k (omega arith) (omega arith) }) in
+      is_set-and t (u / 2 ^ s) i ∙ and_from _ _ low (is_set-shr u s i ∙ high);
 }
+
+pub AreStarts-twice : (word t n : ℕ) → AreStarts word t n → AreStarts word (bit_and t (t / 2 ^ n)) (n + n)
+AreStarts-twice word t n starts = AreStarts-more word t t n n n (n + n) starts starts (omega arith) (omega arith) refl
 
 pub no_starts : (word t n : ℕ) → AreStarts word t n → t ≡ 0 → (q : ℕ) → AreSet (is_set word) q n → ⊥
 no_starts word t n starts none q run =
@@ -91,11 +93,30 @@ pub HasRun-fits : (word n : ℕ) → word < 2 ^ 64 → HasRun (is_set word) n �
 HasRun-fits word zero fits has = omega arith
 HasRun-fits word (suc n) fits has = omega (arith, run_fits word has.at (suc n) fits has.run (omega arith))
 
-pub longest_most : (word t n : ℕ) → AreStarts word t (n + 1) → t ≡ 0 → (q m : ℕ) → AreSet (is_set word) q m → m ≤ n
-longest_most word t n starts none q m run = elim (cases_lt n m) [
-  | inl more ↦ absurd (no_starts word t (n + 1) starts none q (record { each = λ k from to. run.each k from (omega arith) }))
-  | inr fine ↦ fine
-]
+pub IsNearLongest-one : (word : ℕ) → 0 < word → word < 2 ^ 64 → IsNearLongest word (record { bits = word; length = 1 }) 64
+IsNearLongest-one word some fits = record {
+  starts = AreStarts-one word;
+  some = some;
+  most = λ q n run. omega (arith, HasRun-fits word n fits (record { at = q; run = run }));
+}
+
+-- Runs that are longer by `more`, or none.
+module _ {word added more : ℕ} {s : Starts} (near : IsNearLongest word s (2 * more)) (starts : AreStarts word added more) where
+  longer_starts : AreStarts word (bit_and s.bits (added / 2 ^ s.length)) (s.length + more)
+  longer_starts = AreStarts-more word s.bits added s.length more s.length (s.length + more) near.starts starts (omega arith) (omega arith) refl
+
+  pub IsNearLongest-longer : 0 < bit_and s.bits (added / 2 ^ s.length) → IsNearLongest word (record { bits = bit_and s.bits (added / 2 ^ s.length); length = s.length + more }) more
+  IsNearLongest-longer some = record { starts = longer_starts; some = some; most = λ q n run. omega (arith, near.most q n run) }
+
+  pub IsNearLongest-same : bit_and s.bits (added / 2 ^ s.length) ≡ 0 → IsNearLongest word s more
+  IsNearLongest-same none = record {
+    starts = near.starts;
+    some = near.some;
+    most = λ q n run. elim (cases_lt n (s.length + more)) [
+      | inl fine ↦ fine
+      | inr past ↦ absurd (no_starts word _ (s.length + more) longer_starts none q (record { each = λ k from to. run.each k from (omega arith) }))
+    ];
+  }
 
 -- ---- the summary
 

@@ -1,12 +1,14 @@
 use Rattle.std.proofs.Common.{◌≡◌, ◌<◌, subst, arith}
-use Rattle.granule_rows.proofs.WordLaws.{AreStarts, AreStarts-more, first_start, no_starts}
+use Rattle.granule_rows.specs.Starts.{AreStarts}
+use Rattle.granule_rows.proofs.WordLaws.{AreStarts-more, first_start, no_starts}
 use Rattle.granule_rows.proofs.word.first_run_of_word.Goals as goal
 
 pub loop-have-preserved : goal.loop-have-preserved
 loop-have-preserved c = record {
   some = omega arith;
   most = omega (arith, c.min-step.ensures);
-  starts = AreStarts-more c.args.word c.loop-have.starts c.loop-have.have c.min-step.result c.loop-have.invariant.starts (omega (arith, c.min-step.ensures));
+  starts = AreStarts-more c.args.word _ _ c.loop-have.have c.loop-have.have c.min-step.result _ c.loop-have.invariant.starts c.loop-have.invariant.starts
+      (omega (arith, c.min-step.ensures)) (omega arith) (omega arith);
 }
 
 pub returns-then-starts-eq0 : goal.returns-then-starts-eq0

@@ -1,5 +1,5 @@
 use Rattle.std.proofs.Common.{◌<◌, ◌≤◌, ◌-◌}
-use Rattle.granule_rows.proofs.WordLaws.{AreStarts}
+use Rattle.granule_rows.specs.Starts.{AreStarts}
 use Rattle.granule_rows.proofs.word.first_run_of_word.Given as goal
 
 abbrev pub invariant-loop-have : goal.invariant-loop-have

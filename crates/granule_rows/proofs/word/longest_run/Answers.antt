@@ -1,20 +1,27 @@
-use Rattle.std.proofs.Common.{◌+◌, arith}
-use Rattle.granule_rows.proofs.WordLaws.{AreStarts-more, HasRun-fits, HasRun-start, longest_most}
+use Rattle.std.proofs.Common.{arith, rules}
+use Rattle.granule_rows.specs.Starts.{IsNearLongest}
+use Rattle.granule_rows.proofs.WordLaws.{AreStarts-one, AreStarts-twice, HasRun-start, IsNearLongest-one}
+use Rattle.granule_rows.proofs.word.longest_run.Goals.{After-longer}
 use Rattle.granule_rows.proofs.word.longest_run.Goals as goal
 
-pub overflow_add-longest : goal.overflow_add-longest
-overflow_add-longest c = omega (arith, HasRun-fits c.args.word c.loop-starts.longest c.ranges.word.fits c.loop-starts.invariant.run)
+near : (c : After-longer) → IsNearLongest c.args.word c.longer.result 1
+near c =
+    let w = c.args.word in
+    let one = AreStarts-one w in
+    let two = AreStarts-twice w _ 1 one in
+    let four = AreStarts-twice w _ 2 two in
+    let eight = AreStarts-twice w _ 4 four in
+    let sixteen = AreStarts-twice w _ 8 eight in
+    let thirty_two = AreStarts-twice w _ 16 sixteen in
+    let near_32 = c.longer-near_32.ensures.near w thirty_two (IsNearLongest-one w (omega arith) c.ranges.word.fits) in
+    let near_16 = c.longer-near_16.ensures.near w sixteen near_32 in
+    let near_8 = c.longer-near_8.ensures.near w eight near_16 in
+    let near_4 = c.longer-near_4.ensures.near w four near_8 in
+    let near_2 = c.longer-near_2.ensures.near w two near_4 in
+    c.longer.ensures.near w one near_2
 
-pub loop-starts-smaller : goal.loop-starts-smaller
-loop-starts-smaller c =
-    let has = HasRun-start c.args.word c.loop-starts.starts (c.loop-starts.longest + 1) c.loop-starts.invariant.starts (omega arith) (omega arith) in
-    omega (arith, HasRun-fits c.args.word (c.loop-starts.longest + 1) c.ranges.word.fits has)
-
-pub loop-starts-preserved : goal.loop-starts-preserved
-loop-starts-preserved c = record {
-  starts = AreStarts-more c.args.word c.loop-starts.starts (c.loop-starts.longest + 1) 1 c.loop-starts.invariant.starts (omega arith);
-  run = HasRun-start c.args.word c.loop-starts.starts (c.loop-starts.longest + 1) c.loop-starts.invariant.starts (omega arith) (omega arith);
-}
+pub returns-clause-run : goal.returns-clause-run
+returns-clause-run c = let done = near c in HasRun-start _ _ _ done.starts done.some (search rules)
 
 pub returns-clause-most : goal.returns-clause-most
-returns-clause-most c = longest_most c.args.word c.loop-starts.starts c.loop-starts.longest c.loop-starts.invariant.starts c.loop-starts-test.false
+returns-clause-most c = λ q n run. omega (arith, (near c).most q n run)
