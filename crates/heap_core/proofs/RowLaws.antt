@@ -1,14 +1,16 @@
 -- Rows over the granules of a heap, written and given back.
-use Rattle.std.proofs.Common.{◌≡◌, ◌<◌, ◌≤◌, ◌+◌, ◌*◌, ◌/◌, ◌%◌, ◌^◌, ◌&&◌, ◌||◌, not, inl, inr, ℕ, Bool, true, false, List, length, get_or, ◌++◌, drop, take, refl, sym, ap, ◌∙◌, subst, arith}
-use Rattle.std.proofs.lemmas.Bool.{and_parts, both_ways, cases_Bool, cases_eq, cases_lt, or_cases, or_parts}
+use Rattle.std.proofs.Common.{◌≡◌, ◌≢◌, ◌<◌, ◌≤◌, ◌==◌, if◌then◌else◌, set, ◌+◌, ◌*◌, ◌/◌, ◌%◌, ◌^◌, ◌&&◌, ◌||◌, not, inl, inr, ℕ, Bool, true, false, List, length, get_or, ◌++◌, drop, take, refl, sym, ap, ◌∙◌, arith}
+use Rattle.std.proofs.lemmas.Bool.{both_ways, cases_Bool, cases_eq, cases_lt, eq-eqb, ne_eqb, or_cases, or_parts}
 use Rattle.std.proofs.Math.Bool.{and-true, or-false}
 use Rattle.std.proofs.lemmas.Bool.Decides.{nat_tests}
+use Rattle.std.proofs.lemmas.Grind.{get_or-set_at}
+use Rattle.std.proofs.lemmas.List.{get_or-set_same, get_or_read_under, length-set}
 use Rattle.granule_rows.specs.Laws.{whole_written}
 use Rattle.granule_rows.specs.Runs.{is_within}
 use Rattle.heap_core.proofs.EmptyLaws.{get_or-zeros, zeros}
 use Rattle.heap_core.specs.Rows.{AreGiven, AreRows, row_granules}
 use Rattle.heap_core.specs.declared.rows.Rows.{Rows}
-use Rattle.tag_memory.specs.Laws.{is_set_zero}
+use Rattle.tag_memory.specs.Laws.{is_set_for-at, is_set_for-other, is_set_zero}
 use Rattle.tag_memory.specs.Tags.{is_set, is_set_for}
 
 -- ---- a row written
@@ -119,21 +121,34 @@ AreGiven-then first second = record {
   held_pages = λ page clear. second.held_pages page (first.held_pages page clear);
 }
 
-pub unmarked : (b : Bool) (page : ℕ) → (b && not (is_within page (page + 1) page)) ≡ false
-unmarked b page = grind (arith, nat_tests)
+-- One mark is taken away.
+pub record IsUnmarked (old new : List ℕ) (page : ℕ) : Type 0 where
+  pub long : length new ≡ length old
+  pub here : is_set_for new page ≡ false
+  pub rest : (p : ℕ) → p ≢ page → is_set_for new p ≡ is_set_for old p
 
--- A mark that stays is as it was.
-other_mark : (a b : Bool) → (a && not b) ≡ false → b ≡ false → a ≡ false
-other_mark a true none is = absurd (both_ways true is refl)
-other_mark false false none is = refl
-other_mark true false none is = absurd (both_ways true none refl)
+-- A bit of the word that was read before.
+pub IsUnmarked-bit : {old words : List ℕ} {w word j : ℕ} (less : ℕ) → words ≡ old → w < length old → word ≡ get_or old w word → j < 64
+    → ((k : ℕ) → is_set less k ≡ (if k == j then false else is_set word k)) → IsUnmarked words (set words w less) (64 * w + j)
+IsUnmarked-bit {old = old} {words = words} {w = w} {word = word} {j = j} less same_words inside read lt bits =
+    let there : w < length words = omega (arith, ap length same_words) in
+    let word_is : word ≡ get_or words w 0 = get_or_read_under old w (length old) word 0 read inside refl ∙ ap (λ (xs : List ℕ). get_or xs w 0) (sym same_words) in
+    record {
+      long = length-set words w less;
+      here = is_set_for-at (set words w less) w j lt ∙ (ap (λ (x : ℕ). is_set x j) (get_or-set_same words w less 0 there) ∙ (bits j ∙ rw (eq-eqb j j refl) refl));
+      rest = λ p other. elim (cases_eq (p / 64) w) [
+        | inl same ↦
+            ap (λ (x : ℕ). is_set x (p % 64)) (get_or-set_at words w (p / 64) less 0 same there)
+            ∙ (bits (p % 64)
+            ∙ rw (ne_eqb (p % 64) j (λ e. other (omega (arith, e, same)))) (ap (λ (x : ℕ). is_set x (p % 64)) (word_is ∙ ap (λ (i : ℕ). get_or words i 0) (sym same))))
+        | inr away ↦ is_set_for-other words w less p away
+      ];
+    }
 
 -- The mark of a page is taken away whose granules are given back.
 pub AreRows-unmarked : (r s : Rows) (page : ℕ) → AreRows r → ((k : ℕ) → k / 256 ≡ page → is_set_for r.held.items k ≡ false)
-    → s.free ≡ r.free → s.starts ≡ r.starts → s.held ≡ r.held → length s.held_pages.items ≡ length r.held_pages.items
-    → ((p : ℕ) → is_set_for s.held_pages.items p ≡ (is_set_for r.held_pages.items p && not (is_within page (page + 1) p)))
-    → AreRows s
-AreRows-unmarked r s page rows gone free starts held long bits =
+    → s.free ≡ r.free → s.starts ≡ r.starts → s.held ≡ r.held → IsUnmarked r.held_pages.items s.held_pages.items page → AreRows s
+AreRows-unmarked r s page rows gone free starts held marks =
     let count : row_granules s ≡ row_granules r = ap (λ x. 64 * length x.items) starts in
     record {
       pages = rows.pages;
@@ -141,34 +156,31 @@ AreRows-unmarked r s page rows gone free starts held long bits =
       limit = omega (arith, rows.limit);
       free = omega (arith, rows.free, ap length free);
       held = ap (λ x. length x.items) held ∙ (rows.held ∙ sym (ap (λ x. length x.items) starts));
-      held_pages = omega (arith, rows.held_pages);
-      held_pages_limit = omega (arith, rows.held_pages_limit);
-      inside = λ p set. rows.inside p (and_parts _ _ (sym (bits p) ∙ set)).0;
+      held_pages = omega (arith, rows.held_pages, marks.long);
+      held_pages_limit = omega (arith, rows.held_pages_limit, marks.long);
+      inside = λ p set. elim (cases_eq p page) [
+        | inl same ↦ absurd (both_ways _ (ap (is_set_for s.held_pages.items) same ∙ marks.here) set)
+        | inr other ↦ rows.inside p (sym (marks.rest p other) ∙ set)
+      ];
       marked = λ k clear. ap (λ x. is_set_for x.items k) held
           ∙ elim (cases_eq (k / 256) page) [
             | inl same ↦ gone k same
-            | inr other ↦ rows.marked k (other_mark _ _ (sym (bits (k / 256)) ∙ clear) (grind (arith, nat_tests, other)))
+            | inr other ↦ rows.marked k (sym (marks.rest (k / 256) other) ∙ clear)
           ];
     }
 
-pub AreGiven-unmarked : (r s : Rows) (page : ℕ) → s.free ≡ r.free → s.starts ≡ r.starts → s.held ≡ r.held → length s.held_pages.items ≡ length r.held_pages.items
-    → ((p : ℕ) → is_set_for s.held_pages.items p ≡ (is_set_for r.held_pages.items p && not (is_within page (page + 1) p)))
-    → AreGiven r s
-AreGiven-unmarked r s page free starts held long bits = record {
+pub AreGiven-unmarked : (r s : Rows) (page : ℕ) → s.free ≡ r.free → s.starts ≡ r.starts → s.held ≡ r.held
+    → IsUnmarked r.held_pages.items s.held_pages.items page → AreGiven r s
+AreGiven-unmarked r s page free starts held marks = record {
   count = ap (λ x. 64 * length x.items) starts;
-  marks = long;
+  marks = marks.long;
   free = λ k. rw (free, held) refl;
   starts = λ k. rw (starts, held) refl;
-  held_pages = λ p clear. bits p ∙ ap (λ b. b && not (is_within page (page + 1) p)) clear;
+  held_pages = λ p clear. elim (cases_eq p page) [
+    | inl same ↦ ap (is_set_for s.held_pages.items) same ∙ marks.here
+    | inr other ↦ marks.rest p other ∙ clear
+  ];
 }
-
--- One mark more is taken away.
-pub one_more : {r s : Rows} {at : ℕ} → AreGiven r s → is_set_for s.held_pages.items at ≡ false → (page : ℕ)
-    → (page < at → is_set_for r.held_pages.items page ≡ false) → page < at + 1 → is_set_for s.held_pages.items page ≡ false
-one_more {s = s} {at = at} given here page before lt = elim (cases_lt page at) [
-  | inl less ↦ given.held_pages page (before less)
-  | inr from ↦ (let same : at ≡ page = omega arith in subst (λ (p : ℕ). is_set_for s.held_pages.items p ≡ false) same here)
-]
 
 -- ---- no page is marked
 

@@ -1,13 +1,13 @@
 //! The granules of a heap, in rows of bits.
 
-ghost use Rattle.std.specs.Prelude.{◌≡◌, ◌<◌, ◌≤◌, ◌+◌, ◌*◌, ◌%◌, ◌^◌, ◌&&◌, ◌||◌, ◌/◌, not, ℕ, IfOk, false, length};
+ghost use Rattle.std.specs.Prelude.{◌≡◌, ◌<◌, ◌≤◌, ◌+◌, ◌*◌, ◌%◌, ◌^◌, ◌&&◌, ◌||◌, ◌/◌, not, ℕ, IfOk, false, length, slice_index};
 ghost use Rattle.granule_rows.specs.Runs.{is_within};
 ghost use Rattle.heap_core.specs.Rows.{AreGiven, AreRows, row_granules};
 ghost use Rattle.tag_memory.specs.Tags.{is_set_for};
 
-use granule_rows::{FreeRow, clear_run, clear_words, row_bit, set_run};
+use granule_rows::{FreeRow, clear_run, clear_words, set_run};
 use std::alloc::{AllocError, Global};
-use tag_memory::WORD_GRANULES;
+use tag_memory::{WORD_GRANULES, lowest_bit, without_lowest};
 
 // Bits and words of a row that the granules of one page have.
 const PAGE_BITS: usize = 256;
@@ -110,26 +110,23 @@ impl Rows {
         ensures given { AreGiven self.old self.new }
         ensures gone { (page : ℕ) → page / 64 ≡ w → is_set_for self.new.held_pages.items page ≡ false }
     {
-        if self.held_pages[w] == 0 {
-            return;
-        }
-        for j in 0..WORD_GRANULES {
-            self.give_marked(WORD_GRANULES * w + j);
+        while self.held_pages[w] != 0 {
+            self.give_lowest(w);
         }
     }
 
-    // Gives back the granules of a page that is marked, and takes the mark away.
-    fn give_marked(&mut self, page: usize)
+    // Gives back the granules of the first page that is marked in word `w`, and takes the mark away.
+    fn give_lowest(&mut self, w: usize)
         requires rows { AreRows self.old }
-        requires inside { page < 64 * length self.old.held_pages.items }
+        requires inside { w < length self.old.held_pages.items }
+        requires some { 0 < slice_index self.old.held_pages.items w }
         ensures rows { AreRows self.new }
         ensures given { AreGiven self.old self.new }
-        ensures gone { is_set_for self.new.held_pages.items page ≡ false }
+        ensures less { slice_index self.new.held_pages.items w < slice_index self.old.held_pages.items w }
     {
-        if row_bit(&self.held_pages, page) {
-            self.give_page(page);
-            clear_run(&mut self.held_pages, page, page + 1);
-        }
+        let word = self.held_pages[w];
+        self.give_page(WORD_GRANULES * w + lowest_bit(word));
+        self.held_pages[w] = without_lowest(word);
     }
 
     // Gives back the granules of one page.
