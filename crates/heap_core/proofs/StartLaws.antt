@@ -1,6 +1,6 @@
 -- Blocks made held by the bits of their first granules.
-use Rattle.std.proofs.Common.{◌≡◌, ◌≢◌, ◌<◌, ◌≤◌, ◌+◌, ◌*◌, ◌/◌, ◌%◌, ◌&&◌, inl, inr, nat_lt, ℕ, Bool, true, false, List, length, get_or, set, refl, sym, ap, ◌∙◌, arith}
-use Rattle.std.proofs.lemmas.Bool.{and_from, cases_eq, cases_lt, le-ltb, lt-ltb}
+use Rattle.std.proofs.Common.{◌≡◌, ◌≢◌, ◌==◌, if◌then◌else◌, ◌<◌, ◌≤◌, ◌+◌, ◌*◌, ◌/◌, ◌%◌, ◌&&◌, inl, inr, nat_lt, ℕ, Bool, true, false, List, length, get_or, set, refl, sym, ap, ◌∙◌, arith}
+use Rattle.std.proofs.lemmas.Bool.{both_ways, cases_eq, eq-eqb, ne_eqb, cases_lt, le-ltb, lt-ltb}
 use Rattle.std.proofs.lemmas.Grind.{get_or-set_at}
 use Rattle.std.proofs.lemmas.List.{get_or-set_other, get_or_past}
 use Rattle.tag_memory.specs.Laws.{is_set_zero}
@@ -15,46 +15,42 @@ below_other i j other =
       | inr from ↦ rw (le-ltb i j from, le-ltb i (j + 1) (omega (arith, from, other))) refl
     ]
 
-none_below_itself : (j : ℕ) (b : Bool) → (nat_lt j j && b) ≡ false
-none_below_itself j b = ap (λ (a : Bool). a && b) (le-ltb j j (omega arith))
+-- Blocks that start at the bits of a word are made held, one by one: those of `rest` are left.
+pub record AreLeft (marks : List Bool) (w word rest : ℕ) : Type 0 where
+  pub ones : (i : ℕ) → is_set rest i ≡ true → is_set word i ≡ true
+  pub live : (i : ℕ) → i < 64 → is_set rest i ≡ true → get_or marks (64 * w + i) false ≡ false
+  pub held : (i : ℕ) → i < 64 → is_set rest i ≡ false → get_or marks (64 * w + i) false ≡ is_set word i
 
--- A bit that is 1, and its block held.
-pub held_more : (marks : List Bool) (w j i word : ℕ) → 64 * w + j < length marks → is_set word j ≡ true
-    → get_or marks (64 * w + i) false ≡ (nat_lt i j && is_set word i) → get_or (set marks (64 * w + j) true) (64 * w + i) false ≡ (nat_lt i (j + 1) && is_set word i)
-held_more marks w j i word inside one before =
-    elim (cases_eq i j) [
-      | inl same ↦
-          get_or-set_at marks (64 * w + j) (64 * w + i) true false (omega (arith, same)) inside
-          ∙ sym (and_from (nat_lt i (j + 1)) (is_set word i) (lt-ltb i (j + 1) (omega (arith, same))) (ap (is_set word) same ∙ one))
-      | inr other ↦
-          get_or-set_other marks (64 * w + j) (64 * w + i) true false (λ e. other (omega (arith, e)))
-          ∙ (before ∙ ap (λ (b : Bool). b && is_set word i) (below_other i j other))
-    ]
+pub AreLeft-all : (marks : List Bool) (w word : ℕ) → ((i : ℕ) → i < 64 → get_or marks (64 * w + i) false ≡ false) → AreLeft marks w word word
+AreLeft-all marks w word none = record { ones = λ i one. one; live = λ i lt one. none i lt; held = λ i lt unset. none i lt ∙ sym unset }
 
--- A bit that is 0.
-pub not_held_more : (word i j : ℕ) → is_set word j ≡ false → (nat_lt i j && is_set word i) ≡ (nat_lt i (j + 1) && is_set word i)
-not_held_more word i j none =
-    elim (cases_eq i j) [
-      | inl same ↦
-          let here : is_set word i ≡ false = ap (is_set word) same ∙ none in
-          let off : (b : Bool) → (b && is_set word i) ≡ false = λ b. and_off b (is_set word i) here in
-          off (nat_lt i j) ∙ sym (off (nat_lt i (j + 1)))
-      | inr other ↦ ap (λ (b : Bool). b && is_set word i) (below_other i j other)
-    ] where
-      and_off : (a b : Bool) → b ≡ false → (a && b) ≡ false
-      and_off true b e = e
-      and_off false b e = refl
+pub AreLeft-less : (marks : List Bool) (w word rest less j : ℕ) → AreLeft marks w word rest → 64 * w + j < length marks → is_set rest j ≡ true
+    → ((i : ℕ) → is_set less i ≡ (if i == j then false else is_set rest i)) → AreLeft (set marks (64 * w + j) true) w word less
+AreLeft-less marks w word rest less j are inside one bits =
+    let here : (i : ℕ) → i ≡ j → is_set less i ≡ false = λ i same. bits i ∙ rw (eq-eqb i j same) refl in
+    let there : (i : ℕ) → i ≢ j → is_set rest i ≡ is_set less i = λ i other. sym (bits i ∙ rw (ne_eqb i j other) refl) in
+    let kept : (i : ℕ) → i ≢ j → get_or (set marks (64 * w + j) true) (64 * w + i) false ≡ get_or marks (64 * w + i) false =
+    λ i other. get_or-set_other marks (64 * w + j) (64 * w + i) true false (λ e. other (omega (arith, e))) in
+    record {
+      ones = λ i is. elim (cases_eq i j) [
+        | inl same ↦ absurd (both_ways _ (here i same) is)
+        | inr other ↦ are.ones i (there i other ∙ is)
+      ];
+      live = λ i lt is. elim (cases_eq i j) [
+        | inl same ↦ absurd (both_ways _ (here i same) is)
+        | inr other ↦ kept i other ∙ are.live i lt (there i other ∙ is)
+      ];
+      held = λ i lt unset. elim (cases_eq i j) [
+        | inl same ↦
+            get_or-set_at marks (64 * w + j) (64 * w + i) true false (omega (arith, same)) inside
+            ∙ sym (ap (is_set word) same ∙ are.ones j one)
+        | inr other ↦ kept i other ∙ are.held i lt (there i other ∙ unset)
+      ];
+    }
 
 -- No other word's marks change.
 pub held_elsewhere : (marks : List Bool) (w j k : ℕ) → j < 64 → k / 64 ≢ w → get_or (set marks (64 * w + j) true) k false ≡ get_or marks k false
 held_elsewhere marks w j k below other = get_or-set_other marks (64 * w + j) k true false (λ e. other (omega (arith, e, below)))
-
--- Before the first bit there is none, and after the last one all are.
-pub none_yet : (w i word : ℕ) → (nat_lt i 0 && is_set word i) ≡ false
-none_yet w i word = ap (λ (b : Bool). b && is_set word i) (le-ltb i 0 (omega arith))
-
-pub all_of_word : (i j word : ℕ) → i < 64 → 64 ≤ j → (nat_lt i j && is_set word i) ≡ is_set word i
-all_of_word i j word below all = ap (λ (b : Bool). b && is_set word i) (lt-ltb i j (omega (arith, below, all)))
 
 -- ---- one word more
 

@@ -15,7 +15,7 @@ use granule_rows::{count_both, place_of_both, row_bit};
 use mark_board::{Board, MarkSeat};
 use std::alloc::{AllocError, Global};
 use std::marker::Model;
-use tag_memory::{GRANULE, WORD_GRANULES, bit};
+use tag_memory::{GRANULE, WORD_GRANULES, lowest_bit, without_lowest};
 
 /// The blocks over the granules of one heap, and which of them are held.
 #[derive(Drop)]
@@ -177,13 +177,10 @@ impl Table {
         ensures here { (j : ℕ) → j < 64 → slice_index_or self.new.marks (64 * w + j) false ≡ is_set word j }
         ensures rest { (k : ℕ) → k / 64 ≢ w → slice_index_or self.new.marks k false ≡ slice_index_or self.old.marks k false }
     {
-        if word == 0 {
-            return;
-        }
-        for j in 0..WORD_GRANULES {
-            if bit(word, j) {
-                self.hold(WORD_GRANULES * w + j);
-            }
+        let mut rest = word;
+        while rest != 0 {
+            self.hold(WORD_GRANULES * w + lowest_bit(rest));
+            rest = without_lowest(rest);
         }
     }
 

@@ -1,11 +1,14 @@
-use Rattle.std.proofs.Common.{◌≡◌, ◌≢◌, ◌<◌, ◌+◌, ◌*◌, ◌/◌, ◌&&◌, ℕ, false, get_or, length, nat_lt}
-use Rattle.tag_memory.specs.Tags.{is_set}
+use Rattle.std.proofs.Common.{◌≡◌, ◌≢◌, ◌/◌, ℕ, false, get_or, length}
+use Rattle.heap_core.proofs.StartLaws.{AreLeft}
 use Rattle.heap_core.proofs.table.Table.hold_word.Given as goal
 
-abbrev pub invariant-loop-j : goal.invariant-loop-j
-invariant-loop-j l = record {
+abbrev pub invariant-loop-rest : goal.invariant-loop-rest
+invariant-loop-rest l = record {
   lengths : l.self.lengths ≡ l.initial.self.lengths;
   count : length l.self.marks ≡ length l.initial.self.marks;
-  here : (i : ℕ) → i < 64 → get_or l.self.marks (64 * l.w + i) false ≡ (nat_lt i l.j && is_set l.word i);
+  here : AreLeft l.self.marks l.w l.word l.rest;
   rest : (k : ℕ) → k / 64 ≢ l.w → get_or l.self.marks k false ≡ get_or l.initial.self.marks k false;
 }
+
+abbrev pub decreases-loop-rest : goal.decreases-loop-rest
+decreases-loop-rest l = l.rest
