@@ -1,5 +1,5 @@
 -- The least exponent from the place of the length's highest bit.
-use Rattle.std.proofs.Common.{◌≡◌, ℕ, ◌+◌, ◌-◌, ◌*◌, ◌^◌, ◌<◌, ◌≤◌, max, sym, ap, ◌∙◌, arith, subst, ⊎_elim}
+use Rattle.std.proofs.Common.{◌≡◌, ℕ, ◌+◌, ◌-◌, ◌*◌, ◌^◌, ◌<◌, ◌≤◌, sym, ap, ◌∙◌, arith, subst, ⊎_elim}
 use Rattle.std.proofs.Math.Nat.{pow-le-pow_right}
 use Rattle.std.proofs.lemmas.Bool.{cases_lt}
 use Rattle.std.proofs.lemmas.Nat.{pow-add}
@@ -10,30 +10,30 @@ use Rattle.cap_codec.proofs.RoundingLaws.{exponent_for-is, round_down-le, round_
 pow-mono : (a b : ℕ) → a ≤ b → 2 ^ a ≤ 2 ^ b
 pow-mono a b h = pow-le-pow_right (omega arith) h
 
--- The highest bit of n is at p. Lengths below 2 ^ 12 count as 2 ^ 12.
+-- The highest bit of the bounds' length is at p.
 pub record IsHighest (base top p : ℕ) : Type 0 where
-  pub least : 12 < p → 2 ^ p ≤ top - base
+  pub least : 2 ^ p ≤ top - base
   pub most : top - base < 2 * 2 ^ p
   pub from : 12 ≤ p
   pub limit : p ≤ 64
 
-pub IsHighest-of : (base top n p : ℕ) → top ≤ 2 ^ 64 → n ≡ max (top - base) (2 ^ 12) → 2 ^ p ≤ n → n < 2 * 2 ^ p → IsHighest base top p
-IsHighest-of base top n p room is le lt =
+pub IsHighest-of : (base top p : ℕ) → top ≤ 2 ^ 64 → 2 ^ 12 ≤ top - base → 2 ^ p ≤ top - base → top - base < 2 * 2 ^ p → IsHighest base top p
+IsHighest-of base top p room long le lt =
     let double = pow-add 2 p 1 in
     let few : p < 12 → ⊥ = λ h. let m = pow-mono (p + 1) 12 (omega (arith, h)) in omega arith in
     let many : 64 < p → ⊥ = λ h. let m = pow-mono 65 p (omega (arith, h)) in omega arith in
-    record {
-      least = λ h. let m = pow-mono 13 p (omega (arith, h)) in omega arith;
-      most = omega arith;
-      from = omega (arith, few);
-      limit = omega (arith, many);
-    }
+    record { least = le; most = lt; from = omega (arith, few); limit = omega (arith, many) }
 
 -- No exponent below the highest bit's fits.
 none-before : (base top p k : ℕ) → IsHighest base top p → k + 12 < p → Fits base top k → ⊥
 none-before base top p k x h f =
     let m = pow-mono (k + 13) p (omega arith) in
-    omega (arith, x.least (omega arith), le-round_up (k + 3) top, round_down-le (k + 3) base)
+    omega (arith, x.least, le-round_up (k + 3) top, round_down-le (k + 3) base)
+
+-- Short bounds fit at once.
+pub short-is : (base top : ℕ) → base ≤ top → top ≤ 2 ^ 64 → top - base < 2 ^ 12 → 0 ≡ exponent_for base top
+short-is base top order room short =
+    exponent_for-is base top 0 order room (omega (arith, round_up-near 3 top, round_down-near 3 base)) (λ k lt f. absurd (omega arith))
 
 -- The next one fits.
 fits-next : (base top q : ℕ) → top - base < 2 * 2 ^ (q + 12) → Fits base top (q + 1)

@@ -61,14 +61,18 @@ pub fn alignment_mask(n: u64) -> u64
 }
 
 // The least exponent for which the bounds, rounded, are short enough: the place of the length's
-// highest bit less 12, or one more where rounding makes them too long for that.
+// highest bit less 12, or one more where rounding makes them too long for that. Most bounds are short,
+// and have the exponent 0.
 fn least_exponent(base: u64, top: u128) -> u8
     requires order { base ≤ top }
     requires room { top ≤ 2 ^ 64 }
     ensures value { result ≡ exponent_for base top }
     ensures limit { result ≤ 52 }
 {
-    let length = (top - u128::from(base)).max(SHORT);
+    let length = top - u128::from(base);
+    if length < SHORT {
+        return 0;
+    }
     let exponent = (length.ilog2() - 12) as u8;
     if fits(base, top, exponent) {
         exponent

@@ -2,10 +2,10 @@
 use Rattle.std.proofs.Common.{◌≡◌, ◌<◌, ◌≤◌, ◌+◌, ◌-◌, ◌*◌, ◌/◌, ◌%◌, ◌^◌, ◌⊎◌, inl, inr, ℕ, zero, suc, max, refl, sym, ap, ◌∙◌, subst, true, false, arith}
 use Rattle.std.proofs.Math.Arith.{mod-mul}
 use Rattle.std.proofs.Math.Nat.{le-max_left, max-eq_right, mod-one, mul-mod_left}
-use Rattle.std.proofs.lemmas.Bool.{cases_Bool}
+use Rattle.std.proofs.lemmas.Bool.{cases_Bool, lt-ltb}
 use Rattle.std.proofs.lemmas.Nat.{pow-add, pow_pos}
 use Rattle.cap_codec.specs.Laws.{le-round_up}
-use Rattle.cap_codec.specs.Rounding.{exponent_for, is_short, length_for, round_up, unit_for}
+use Rattle.cap_codec.specs.Rounding.{IsExact, exponent_for, is_short, length_for, round_up, unit_for}
 use Rattle.heap_core.specs.Place.{block_length, block_unit, granule_size}
 
 -- ---- lengths
@@ -129,6 +129,22 @@ IsUnit-unit_for n unit is =
             rw (more.1.0, same) (IsUnit-granules more.0 more.1.1)
       ]
     ]
+
+-- ---- short blocks
+
+-- A length below 2 ^ 12 is held as it is, from everywhere.
+module _ (n : ℕ) (short : n < 2 ^ 12) where
+  is_short-at : (base length : ℕ) → length ≡ n → is_short base (base + length) ≡ true
+  is_short-at base length is = lt-ltb (base + length - base) (2 ^ 12) (omega arith)
+
+  pub short_length : length_for n ≡ n
+  short_length = length_for_short n (lt-ltb (n - 0) (2 ^ 12) (omega arith))
+
+  pub short_unit : unit_for n ≡ 1
+  short_unit = unit_for_short n (lt-ltb (n - 0) (2 ^ 12) (omega arith))
+
+  pub IsExact-short : (base : ℕ) → IsExact base (base + length_for n)
+  IsExact-short base = rw (is_short-at base (length_for n) short_length) refl
 
 -- ---- a block of this size
 

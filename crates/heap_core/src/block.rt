@@ -7,6 +7,9 @@ ghost use Rattle.heap_core.specs.Place.{granule_size};
 use cap_codec::{alignment_mask, representable_length};
 use tag_memory::GRANULE;
 
+// A word holds the bounds of a block of fewer granules wherever it starts.
+const SHORT_GRANULES: u64 = 256;
+
 /// A block: the bytes from the address `base` on, before `top`, which is at most 2^64.
 #[derive(Debug, Clone, Copy, PartialEq, Eq, Hash)]
 pub struct Block {
@@ -53,6 +56,9 @@ pub fn shape_for(granules: u64) -> Shape
     ensures granules_limit { result.granules ≤ 2 ^ 60 }
     ensures unit_limit { result.unit ≤ 2 ^ 60 }
 {
+    if granules < SHORT_GRANULES {
+        return Shape { granules, unit: 1 };
+    }
     let bytes = GRANULE * granules;
     let length = representable_length(bytes);
     // The unit in bytes is one more than what the mask leaves out.

@@ -1,6 +1,18 @@
-use Rattle.std.proofs.Common.{◌*◌, ◌-◌, arith}
-use Rattle.heap_core.proofs.SizeLaws.{granules_of_unit, length_for_granules, unit_some}
+use Rattle.std.proofs.Common.{◌*◌, ◌-◌, ◌^◌, ◌<◌, refl, sym, arith}
+use Rattle.heap_core.proofs.SizeLaws.{IsExact-short, granules_of_unit, length_for_granules, short_length, short_unit, unit_some}
 use Rattle.heap_core.proofs.block.shape_for.Goals as goal
+
+pub returns-then-granules-lt-SHORT_GRANULES : goal.returns-then-granules-lt-SHORT_GRANULES
+returns-then-granules-lt-SHORT_GRANULES c =
+    let short : 16 * c.args.granules < 2 ^ 12 = omega arith in
+    record {
+      granules = sym (short_length _ short);
+      exact = λ base unit room. IsExact-short _ short base;
+      unit = rw (short_unit _ short) refl;
+      some = c.requires.some;
+      granules_limit = omega arith;
+      unit_limit = omega arith;
+    }
 
 pub returns-clause-granules : goal.returns-clause-granules
 returns-clause-granules c =
