@@ -41,7 +41,22 @@ fn aligned(k: usize, origin: u64, unit: u64) -> usize
     requires unit { unit ≤ 2 ^ 60 }
     ensures { result ≡ aligned_from origin unit k }
 {
-    ((origin + k as u64).next_multiple_of(unit) - origin) as usize
+    let place = origin + k as u64;
+    let missing = rest(unit - rest(place, unit), unit);
+    (place + missing - origin) as usize
+}
+
+// What is left of a number where units are taken away. The units of blocks are powers of two, for which
+// no division is needed.
+fn rest(number: u64, unit: u64) -> u64
+    requires { 0 < unit }
+    ensures { result ≡ number % unit }
+{
+    if 1 << unit.trailing_zeros() == unit {
+        number & (unit - 1)
+    } else {
+        number % unit
+    }
 }
 
 impl FreeRow {
