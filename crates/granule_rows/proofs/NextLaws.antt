@@ -1,13 +1,14 @@
 -- The search for a run from a place on, up the tree.
-use Rattle.std.proofs.Common.{◌≡◌, ◌<◌, ◌≤◌, ◌+◌, ◌-◌, ◌*◌, ◌/◌, ◌%◌, ◌^◌, ◌&&◌, nat_le, ℕ, zero, suc, Bool, true, false, inl, inr, List, length, get_or, bit_and, refl, sym, ap, ◌∙◌, subst, arith}
+use Rattle.std.proofs.Common.{◌≡◌, ◌==◌, if◌then◌else◌, ◌<◌, ◌≤◌, ◌+◌, ◌-◌, ◌*◌, ◌/◌, ◌%◌, ◌^◌, ◌&&◌, nat_le, ℕ, zero, suc, Bool, true, false, inl, inr, List, length, get_or, bit_and, refl, sym, ap, ◌∙◌, subst, arith}
 use Rattle.std.proofs.lemmas.Bool.{and_parts, cases_lt, le-leb, leb-true, lt-leb}
 use Rattle.std.proofs.lemmas.Nat.{pow_pos}
 use Rattle.std.proofs.lemmas.Nat.Bits.{bit_at_mask_below, bit_at_mask_inside, ones_shl}
 use Rattle.std.proofs.Math.Nat.{mul-le-mul_right}
 use Rattle.std.proofs.Math.Bool.{and_comm}
-use Rattle.granule_rows.proofs.FindLaws.{node_summary}
+use Rattle.granule_rows.proofs.FindLaws.{across, beyond, node_summary}
+use Rattle.granule_rows.proofs.JoinLaws.{IsSummary-joined}
 use Rattle.granule_rows.specs.Runs.{AreSet, IsFirst, test_from}
-use Rattle.granule_rows.specs.Summaries.{IsSummary}
+use Rattle.granule_rows.specs.Summaries.{IsSummary, joined_of}
 use Rattle.granule_rows.specs.Tree.{IsNode, IsTree, node}
 use Rattle.granule_rows.specs.declared.summary.Summary.{Summary}
 use Rattle.tag_memory.specs.Laws.{is_set-and, is_set_for-at, same_test}
@@ -171,3 +172,42 @@ IsFirst-moved {from = from} {to = to} a n p same some fits found = record {
         absurd (omega (arith, found.least (q - a) (omega arith) part))
   ];
 }
+
+-- ---- what was passed
+
+-- The bits from `first` on and before `end`, the last of which are so many ones, have no n ones in a row.
+pub record IsPassed (bits : ℕ → Bool) (first end ones n : ℕ) : Type 0 where
+  pub part : Summary
+  pub is : IsSummary bits first part
+  pub end_is : first + part.length ≡ end
+  pub ones_is : part.suffix ≡ ones
+  pub short : part.longest < n
+
+-- The part behind it.
+module _ {bits : ℕ → Bool} {first end ones n : ℕ} {r : Summary} (passed : IsPassed bits first end ones n) (right : IsSummary bits end r) where
+  behind : IsSummary bits (first + passed.part.length) r
+  behind = subst (λ (e : ℕ). IsSummary bits e r) (sym passed.end_is) right
+
+  pub passed_across : n ≤ ones + r.prefix → IsFirst bits first n (end - ones)
+  passed_across enough =
+      let place : first + passed.part.length - passed.part.suffix ≡ end - ones = omega (arith, passed.end_is, passed.ones_is) in
+      subst (IsFirst bits first n) place (across bits first n passed.part r passed.is behind passed.short (omega (arith, passed.ones_is)))
+
+  pub passed_beyond : ones + r.prefix < n → n ≤ r.longest → (q : ℕ) → first ≤ q → AreSet bits q n → end ≤ q
+  passed_beyond few enough q from run =
+      omega (arith, passed.end_is, beyond bits first n passed.part r passed.is behind passed.short (omega (arith, passed.ones_is)) enough q from run)
+
+  pub passed_more : ones + r.prefix < n → r.longest < n → IsPassed bits first (end + r.length) (if r.suffix == r.length then r.length + ones else r.suffix) n
+  passed_more few none = record {
+    part = joined_of passed.part r;
+    is = IsSummary-joined bits first passed.part r passed.is behind;
+    end_is = omega (arith, passed.end_is);
+    ones_is = ap (λ (x : ℕ). if r.suffix == r.length then r.length + x else r.suffix) passed.ones_is;
+    short = omega (arith, passed.ones_is, passed.short);
+  }
+
+pub passed_end : {bits : ℕ → Bool} {first end ones n : ℕ} → IsPassed bits first end ones n → first + ones ≤ end
+passed_end passed = omega (arith, passed.end_is, passed.ones_is, passed.is.suffix_within)
+
+pub passed_none : {bits : ℕ → Bool} {first end ones n : ℕ} → IsPassed bits first end ones n → (q : ℕ) → first ≤ q → q + n ≤ end → AreSet bits q n → ⊥
+passed_none {n = n} passed q from to run = omega (arith, passed.short, passed.is.longest_most q n from (omega (arith, passed.end_is)) run)

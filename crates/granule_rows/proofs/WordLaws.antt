@@ -1,12 +1,14 @@
 -- Runs of ones in words.
 use Rattle.std.proofs.Common.{◌≡◌, ◌≢◌, ◌<◌, ◌≤◌, ◌+◌, ◌-◌, ◌*◌, ◌/◌, ◌%◌, ◌^◌, ℕ, zero, suc, true, false, inl, inr, refl, sym, ap, ◌∙◌, subst, arith, bit_and, w64}
 use Rattle.std.proofs.lemmas.Bool.{and_from, and_parts, both_ways, cases_lt}
-use Rattle.std.proofs.lemmas.Nat.{div_below, le-div, leading_length, pow_pos, shr-shr}
+use Rattle.std.proofs.lemmas.Nat.{and_le_l, div_below, le-div, leading_length, pow_pos, shr-shr}
 use Rattle.std.proofs.lemmas.Nat.Bits.{bit_at-lt, bit_at_above, bit_at_not, bit_at_ones, bit_at-trailing_zeros}
+use Rattle.std.specs.Int.Count.{count_leading_zeros}
 use Rattle.std.specs.Int.{bit_at, bit_not, leading_zeros, trailing_zeros}
 use Rattle.granule_rows.specs.Runs.{AreSet, HasRun, IsFirst}
 use Rattle.granule_rows.specs.Starts.{AreStarts, IsNearLongest}
 use Rattle.granule_rows.specs.Tree.{IsLeaf}
+use Rattle.granule_rows.specs.declared.summary.Summary.{Summary}
 use Rattle.granule_rows.specs.declared.word.Starts.{Starts}
 use Rattle.tag_memory.specs.Laws.{is_set-and, is_set_zero, same_test}
 use Rattle.tag_memory.specs.Tags.{is_set}
@@ -118,6 +120,37 @@ module _ {word added more : ℕ} {s : Starts} (near : IsNearLongest word s (2 * 
     ];
   }
 
+-- Some run of a word is the longest: runs of n ones start somewhere, and there are `more` lengths left.
+longest_from : (word t n more : ℕ) → word < 2 ^ 64 → AreStarts word t n → 0 < t → t < 2 ^ 64 → 65 ≤ n + more
+    → (m : ℕ) × HasRun (is_set word) m × ((q k : ℕ) → AreSet (is_set word) q k → k ≤ m)
+longest_from word t n zero fits starts some t_fits room = absurd (omega (arith, HasRun-fits word n fits (HasRun-start word t n starts some t_fits)))
+longest_from word t n (suc more) fits starts some t_fits room =
+    let next = AreStarts-more word t word n 1 n (n + 1) starts (AreStarts-one word) (omega arith) (omega arith) refl in
+    elim (cases_lt 0 (bit_and t (word / 2 ^ n))) [
+      | inl longer ↦ longest_from word (bit_and t (word / 2 ^ n)) (n + 1) more fits next longer (omega (arith, and_le_l t (word / 2 ^ n))) (omega arith)
+      | inr none ↦ (
+        n,
+        HasRun-start word t n starts some t_fits,
+        λ q k run. elim (cases_lt n k) [
+          | inl past ↦ absurd (no_starts word _ (n + 1) next (omega arith) q (record { each = λ j from to. run.each j from (omega arith) }))
+          | inr fine ↦ fine
+        ],
+      )
+    ]
+
+longest_of : (word : ℕ) → word < 2 ^ 64 → (m : ℕ) × HasRun (is_set word) m × ((q k : ℕ) → AreSet (is_set word) q k → k ≤ m)
+longest_of word fits = elim (cases_lt 0 word) [
+  | inl some ↦ longest_from word word 1 64 fits (AreStarts-one word) some fits (omega arith)
+  | inr none ↦ (
+    0,
+    HasRun-none word,
+    λ q k run. elim (cases_lt 0 k) [
+      | inl past ↦ absurd (no_starts word word 1 (AreStarts-one word) (omega arith) q (record { each = λ j from to. run.each j from (omega arith) }))
+      | inr fine ↦ fine
+    ],
+  )
+]
+
 -- ---- the summary
 
 pub IsLeaf-full : (word : ℕ) → word < 2 ^ 64 → bit_not w64 word ≡ 0 → IsLeaf word (record { length = 64; prefix = 64; longest = 64; suffix = 64 })
@@ -188,3 +221,14 @@ IsLeaf-part word longest fits some has most =
         longest_most = λ q n from to run. most q n run;
       };
     }
+
+-- The summary of a word ends with its highest ones.
+full_ones : 64 ≡ leading_zeros w64 0
+unfolding count_leading_zeros
+full_ones = refl
+
+pub leaf_ones : (word : ℕ) → word < 2 ^ 64 → (s : Summary) × IsLeaf word s × (s.suffix ≡ leading_zeros w64 (bit_not w64 word))
+leaf_ones word fits = elim (cases_lt 0 (bit_not w64 word)) [
+  | inr none ↦ (let full : bit_not w64 word ≡ 0 = omega arith in (_, IsLeaf-full word fits full, full_ones ∙ sym (ap (leading_zeros w64) full)))
+  | inl some ↦ (let long = longest_of word fits in (_, IsLeaf-part word long.0 fits (λ e. absurd (omega (arith, e))) long.1 long.2, refl))
+]

@@ -3,10 +3,10 @@
 ghost use Rattle.std.specs.Prelude.{◌≡◌, ◌<◌, ◌≤◌, ◌+◌, ◌*◌, ◌^◌, ℕ, length, MatchOption};
 ghost use Rattle.granule_rows.specs.Runs.{AreSet, IsFirst};
 ghost use Rattle.granule_rows.specs.Tree.{IsNode, IsTree, node};
-ghost use Rattle.tag_memory.specs.Tags.{is_set_for};
+ghost use Rattle.tag_memory.specs.Tags.{is_set, is_set_for};
 
-use crate::summary::{Summary, joined};
-use crate::word::{first_run_of_word, summary_of_word};
+use crate::summary::{Summary, ones_at_end};
+use crate::word::first_run_of_word;
 use tag_memory::WORD_GRANULES;
 
 /// The first place, in the part of the row under node `root`, which begins at bit `first`, where `n`
@@ -51,12 +51,12 @@ pub fn first_from(nodes: &[Summary], words: &[u64], n: u32, from: usize) -> Opti
     let w = from / WORD_GRANULES;
     let base = WORD_GRANULES * w;
     let word = words[w] & (u64::MAX << (from % WORD_GRANULES));
-    // What was passed, from `base` on, with the bits before `from` as 0.
-    let mut passed = summary_of_word(word);
-    if passed.longest >= n {
-        let place = first_run_of_word(word, n).unwrap();
+    if let Some(place) = first_run_in(word, n) {
         return Some(base + place as usize);
     }
+    // Where what was passed ends, and how many ones it ends with, where the bits before `from` are 0.
+    let mut end = base + WORD_GRANULES;
+    let mut ones = (!word).leading_zeros();
     let mut at = words.len() + w;
     while at > 1 {
         if at % 2 == 1 {
@@ -64,15 +64,26 @@ pub fn first_from(nodes: &[Summary], words: &[u64], n: u32, from: usize) -> Opti
             continue;
         }
         let next = nodes[at + 1];
-        let end = base + passed.length as usize;
-        if passed.suffix + next.prefix >= n {
-            return Some(end - passed.suffix as usize);
+        if ones + next.prefix >= n {
+            return Some(end - ones as usize);
         }
         if next.longest >= n {
             return Some(first_in(nodes, words, at + 1, end, n));
         }
-        passed = joined(passed, next);
+        ones = ones_at_end(ones, next);
+        end += next.length as usize;
         at /= 2;
     }
     None
+}
+
+// The first bit of a word at which `n` ones start, which may be more than it has bits.
+fn first_run_in(word: u64, n: u32) -> Option<u32>
+    requires { 0 < n }
+    ensures { MatchOption result ((q : ℕ) → ¬ AreSet (is_set word) q n) (IsFirst (is_set word) 0 n) }
+{
+    if n as usize > WORD_GRANULES {
+        return None;
+    }
+    first_run_of_word(word, n)
 }

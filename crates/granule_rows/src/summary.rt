@@ -1,6 +1,6 @@
 //! What is kept of a part of a row.
 
-ghost use Rattle.std.specs.Prelude.{◌≡◌, ◌<◌, ◌≤◌, ◌+◌, ◌^◌, ℕ, Bool};
+ghost use Rattle.std.specs.Prelude.{◌≡◌, ◌<◌, ◌≤◌, ◌+◌, ◌^◌, ◌==◌, if◌then◌else◌, ℕ, Bool};
 ghost use Rattle.granule_rows.specs.Summaries.{IsSummary, joined_of};
 
 /// How many bits a part of a row has, how many ones it starts with, the length of its longest run of
@@ -27,11 +27,6 @@ pub fn joined(left: Summary, right: Summary) -> Summary
     } else {
         left.prefix
     };
-    let suffix = if right.suffix == right.length {
-        right.length + left.suffix
-    } else {
-        right.suffix
-    };
     Summary {
         length: left.length + right.length,
         prefix,
@@ -39,6 +34,18 @@ pub fn joined(left: Summary, right: Summary) -> Summary
             .longest
             .max(right.longest)
             .max(left.suffix + right.prefix),
-        suffix,
+        suffix: ones_at_end(left.suffix, right),
+    }
+}
+
+/// How many ones a part ends with, where one that ends with `ones` comes before it.
+pub fn ones_at_end(ones: u32, part: Summary) -> u32
+    requires { part.length + ones < 2 ^ 32 }
+    ensures { result ≡ (if part.suffix == part.length then part.length + ones else part.suffix) }
+{
+    if part.suffix == part.length {
+        part.length + ones
+    } else {
+        part.suffix
     }
 }

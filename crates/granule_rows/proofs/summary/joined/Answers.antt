@@ -2,7 +2,7 @@ use Rattle.std.proofs.Common.{◌≡◌, ◌+◌, ◌==◌, max, if◌then◌els
 use Rattle.std.proofs.lemmas.Bool.{eq-eqb, ne_eqb}
 use Rattle.granule_rows.proofs.JoinLaws.{IsSummary-joined}
 use Rattle.granule_rows.proofs.summary.joined.Goals as goal
-use Rattle.granule_rows.proofs.summary.joined.Goals.{then-left, else-left, then-right, else-right}
+use Rattle.granule_rows.proofs.summary.joined.Goals.{then-left, else-left}
 
 pub returns-clause-summary : goal.returns-clause-summary
 returns-clause-summary c = λ bits first l r.
@@ -11,10 +11,5 @@ returns-clause-summary c = λ bits first l r.
       | then-left w ↦ rw (eq-eqb c.args.left.prefix c.args.left.length w.if-left.true) w.prefix-is
       | else-left w ↦ rw (ne_eqb c.args.left.prefix c.args.left.length w.if-left.false) w.prefix-is
     ] in
-    let s : c.if-right.suffix ≡ (if c.args.right.suffix == c.args.right.length then c.args.right.length + c.args.left.suffix else c.args.right.suffix) =
-    elim c.if-right.branch [
-      | then-right w ↦ rw (eq-eqb c.args.right.suffix c.args.right.length w.if-right.true) w.suffix-is
-      | else-right w ↦ rw (ne_eqb c.args.right.suffix c.args.right.length w.if-right.false) w.suffix-is
-    ] in
     let m : c.max-2.result ≡ max (max c.args.left.longest c.args.right.longest) (c.args.left.suffix + c.args.right.prefix) = cc in
-    rw (p, s, m) (IsSummary-joined bits first c.args.left c.args.right l r)
+    rw (p, c.ones_at_end.ensures, m) (IsSummary-joined bits first c.args.left c.args.right l r)
