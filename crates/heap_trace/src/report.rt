@@ -1,47 +1,48 @@
 //! The text of a report.
 
-ghost use Rattle.std.specs.Prelude.{◌≡◌, ◌≤◌, ◌++◌, [], IfOk, OnErr, OnOk, length};
+ghost use Rattle.std.specs.Prelude.{◌≡◌, ◌≤◌, ◌+◌, ◌++◌, [], IfOk, OnErr, OnOk, codes, length};
 ghost use Rattle.heap_machine.specs.State.{tags_of};
 ghost use Rattle.heap_trace.specs.Report.{end_text, line_text, name_of};
 
 use heap_machine::{Machine, Reply};
-use reply_text::{ShortText, put_reply};
+use reply_text::{ShortText, put_reply_of};
 use std::alloc::{AllocError, Global};
 use std::marker::Model;
 use trace_text::Command;
 
-fn name(command: Command) -> &'static str
-    ensures name { result.now ≡ name_of command }
-    ensures short { length result.now ≤ 8 }
+// Puts a command's name with a blank at each side: each a text of known length, which a few moves copy.
+#[inline(always)]
+fn put_name(line: &mut ShortText, command: Command)
+    requires room { 10 + length line.old ≤ 256 }
+    ensures text { line.new ≡ codes " " ++ name_of command ++ codes " " ++ line.old }
+    ensures length { length line.new ≤ 10 + length line.old }
 {
     match command {
-        Command::Malloc { .. } => "malloc",
-        Command::Free { .. } => "free",
-        Command::Copy { .. } => "copy",
-        Command::SetAddr { .. } => "setaddr",
-        Command::Narrow { .. } => "narrow",
-        Command::AndPerm { .. } => "andperm",
-        Command::StoreCap { .. } => "storecap",
-        Command::LoadCap { .. } => "loadcap",
-        Command::Write { .. } => "write",
-        Command::Show { .. } => "show",
-        Command::Sweep => "sweep",
-        Command::Begin => "begin",
-        Command::End => "end",
+        Command::Malloc { .. } => line.put(" malloc "),
+        Command::Free { .. } => line.put(" free "),
+        Command::Copy { .. } => line.put(" copy "),
+        Command::SetAddr { .. } => line.put(" setaddr "),
+        Command::Narrow { .. } => line.put(" narrow "),
+        Command::AndPerm { .. } => line.put(" andperm "),
+        Command::StoreCap { .. } => line.put(" storecap "),
+        Command::LoadCap { .. } => line.put(" loadcap "),
+        Command::Write { .. } => line.put(" write "),
+        Command::Show { .. } => line.put(" show "),
+        Command::Sweep => line.put(" sweep "),
+        Command::Begin => line.put(" begin "),
+        Command::End => line.put(" end "),
     }
 }
 
 // Makes the line of a command and its answer.
 #[inline(always)]
-fn put_line(line: &mut ShortText, number: u32, command: Command, reply: Reply)
+fn put_line(line: &mut ShortText, number: u32, command: Command, reply: &Reply)
     requires { line.old ≡ [] }
-    ensures { line.new ≡ line_text number command reply }
+    ensures { line.new ≡ line_text number command reply.now }
 {
     line.put("\n");
-    put_reply(line, reply);
-    line.put(" ");
-    line.put(name(command));
-    line.put(" ");
+    put_reply_of(line, reply);
+    put_name(line, command);
     line.put_decimal(u64::from(number));
 }
 
@@ -73,8 +74,13 @@ impl Report {
     }
 
     /// Adds the line of a command and its answer.
-    pub fn push(&mut self, number: u32, command: Command, reply: Reply) -> Result<(), AllocError>
-        ensures ok { OnOk result (self.new ≡ self.old ++ line_text number command reply) }
+    pub fn push(
+        &mut self,
+        number: u32,
+        command: Command,
+        reply: &Reply,
+    ) -> Result<(), AllocError>
+        ensures ok { OnOk result (self.new ≡ self.old ++ line_text number command reply.now) }
         ensures err { OnErr result (self.new ≡ self.old) }
     {
         self.text.extend_from_slice(self.last.as_bytes())?;

@@ -107,7 +107,7 @@ fn run_commands<R: Threads + Sync>(
         let Ok(reply) = machine.step(rt, alloc, *command, &Open) else {
             return None;
         };
-        let Ok(()) = report.push(*line, *command, reply) else {
+        let Ok(()) = report.push(*line, *command, &reply) else {
             return None;
         };
     }

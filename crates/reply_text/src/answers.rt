@@ -8,9 +8,9 @@ use heap_reply::{Reply, Shown, flag_number};
 
 // Puts what is shown of a register before what stands.
 #[inline(always)]
-fn put_shown(text: &mut ShortText, shown: Shown)
+fn put_shown(text: &mut ShortText, shown: &Shown)
     requires room { 200 + length text.old ≤ 256 }
-    ensures text { text.new ≡ shown_text shown ++ text.old }
+    ensures text { text.new ≡ shown_text shown.now ++ text.old }
     ensures length { length text.new ≤ 200 + length text.old }
 {
     text.put_decimal(u64::from(shown.exponent));
@@ -45,7 +45,17 @@ pub fn put_reply(text: &mut ShortText, reply: Reply)
     ensures text { text.new ≡ answer_text reply ++ text.old }
     ensures length { length text.new ≤ 200 + length text.old }
 {
-    match reply {
+    put_reply_of(text, &reply);
+}
+
+/// The same of a reply that stays where it is: a copy of one that was just written waits for the cache.
+#[inline(always)]
+pub fn put_reply_of(text: &mut ShortText, reply: &Reply)
+    requires room { 200 + length text.old ≤ 256 }
+    ensures text { text.new ≡ answer_text reply.now ++ text.old }
+    ensures length { length text.new ≤ 200 + length text.old }
+{
+    match *reply {
         Reply::Block { base, top } => put_bounds(text, base, top),
         Reply::BlockAfter { base, top, cleared } => {
             text.put_decimal(u64::from(cleared));
@@ -73,7 +83,7 @@ pub fn put_reply(text: &mut ShortText, reply: Reply)
             text.put_decimal(u64::from(cleared));
             text.put("cleared ");
         }
-        Reply::Shown(shown) => put_shown(text, shown),
+        Reply::Shown(ref shown) => put_shown(text, shown),
         Reply::Trap(trap) => {
             text.put(trap.name());
             text.put("trap ");

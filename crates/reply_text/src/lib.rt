@@ -5,5 +5,5 @@ mod answers;
 mod digits;
 mod short_text;
 
-pub use crate::answers::put_reply;
+pub use crate::answers::{put_reply, put_reply_of};
 pub use crate::short_text::ShortText;

@@ -6,7 +6,7 @@ use Rattle.reply_text.proofs.answers.put_shown.Goals as goal
 
 pub returns-clause-text : goal.returns-clause-text
 returns-clause-text c =
-    let s = c.args.shown in
+    let s = c.args.shown.now in
     rw (
       c.put-5.ensures.text,
       c.put_decimal-2.ensures.text,
