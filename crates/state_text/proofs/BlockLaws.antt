@@ -12,8 +12,10 @@ use Rattle.heap_core.specs.Place.{IsPlace, block_length, with_live}
 use Rattle.heap_core.specs.Quarantine.{with_epoch, with_waiting, without_due, without_epoch, without_waiting}
 use Rattle.heap_machine.specs.State.{State}
 use Rattle.heap_reply.specs.declared.reply.Reply.{Reply}
+use Rattle.heap_reply.specs.declared.reply.Reply.TheVariants.{Block, BlockAfter, NoSpace, NoSpaceAfter, Held, Done, Cleared, Swept, Begun, Shown, Trap}
 use Rattle.json.specs.Token.{Token}
 use Rattle.state_text.specs.Blocks.{block_tokens, blocks_tokens, come_in, ended_in, has_block, is_known, told_blocks}
+use Rattle.state_text.specs.States.{tells_pass}
 use Rattle.state_text.specs.Told.{blocks_told}
 use Rattle.state_text.proofs.Did.{Did}
 use Rattle.state_text.proofs.Did.Did.{quiet, wrote, handed_out, gave_up, freed, freed_and_handed_out, began}
@@ -124,7 +126,7 @@ held_heap h base top sound is =
     (come_one b h.waiting (apart_none b h.waiting inside.some apart)) (come_itself h.painted)
     ∙ append-nil (told_blocks (codes "waiting") (b ∷ []))
 
-some_bytes : (h : HeapState) (blocks : List Span) → All (IsInside h) blocks → All (λ b. 0 < length_of b) blocks
+pub some_bytes : (h : HeapState) (blocks : List Span) → All (IsInside h) blocks → All (λ b. 0 < length_of b) blocks
 some_bytes h blocks inside = All-weaker (IsInside h) (λ b. 0 < length_of b) (λ b is. is.some) blocks inside
 
 -- Where nothing is told but what ended.
@@ -229,6 +231,20 @@ freed_heap true h sound is =
     ap (blocks_tokens h) (without_due-open h is) ∙ (freed_open h sound ∙ ap (told_blocks (codes "free")) (sym (due-open h is)))
 freed_heap false h sound is =
     ap (blocks_tokens h) (without_due-closed h is) ∙ (freed_closed h sound is ∙ ap (told_blocks (codes "free")) (sym (due-closed h is)))
+
+-- Only where the reply tells of a pass does it matter which are due.
+pub blocks_told-same : (r : Reply) (these those : List Span) (start : ℕ) → (tells_pass r ≡ true → these ≡ those) → blocks_told r these start ≡ blocks_told r those start
+blocks_told-same (Block base top) these those start same = refl
+blocks_told-same (BlockAfter base top cleared) these those start same = ap (λ (due : List Span). blocks_told (BlockAfter base top cleared) due start) (same refl)
+blocks_told-same NoSpace these those start same = refl
+blocks_told-same (NoSpaceAfter cleared) these those start same = ap (told_blocks (codes "free")) (same refl)
+blocks_told-same (Held bytes) these those start same = refl
+blocks_told-same Done these those start same = refl
+blocks_told-same Cleared these those start same = refl
+blocks_told-same (Swept cleared released) these those start same = ap (told_blocks (codes "free")) (same refl)
+blocks_told-same (Begun cleared) these those start same = ap (told_blocks (codes "painted")) (same refl)
+blocks_told-same (Shown shown) these those start same = refl
+blocks_told-same (Trap trap) these those start same = refl
 
 length_is : (base top size : ℕ) → top ≡ base + block_length size → top - base ≡ block_length size
 length_is base top size end = omega (arith, end)

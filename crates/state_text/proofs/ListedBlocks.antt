@@ -1,10 +1,15 @@
--- Lists of blocks: which have a block, and what comes into one.
-use Rattle.std.proofs.Common.{◌≡◌, ◌∙◌, ◌<◌, ◌≤◌, ◌||◌, ℕ, zero, suc, get_or, insert, length, Bool, true, false, not, cond, nat_lt, inl, inr, All, List, [], ◌∷◌, refl, sym, ap, arith}
-use Rattle.std.specs.List.{filter}
+-- Lists of blocks: which have a block, what comes into one, and their order.
+use Rattle.std.proofs.Common.{◌≡◌, ◌∙◌, ◌<◌, ◌≤◌, ◌||◌, ◌++◌, ℕ, suc, get_or, Bool, true, false, not, cond, if◌then◌else◌, nat_lt, inl, inr, All, AllPairs, List, [], ◌∷◌, refl, sym, ap, arith}
+use Rattle.std.specs.List.{filter, sum_by}
+use Rattle.std.specs.List.Sorted.{IsNonDecreasingBy, IsPermutation}
 use Rattle.std.proofs.Math.Bool.{or-true}
-use Rattle.std.proofs.lemmas.Bool.{cases_Bool, eq-eqb, le-ltb, lt-ltb, true≢false}
+use Rattle.std.proofs.Math.ListN.{get_or-map}
+use Rattle.std.proofs.lemmas.Bool.{cases_Bool, cases_lt, eq-eqb, le-ltb, lt-ltb, ne_eqb, true≢false}
+use Rattle.std.proofs.lemmas.List.{length-map}
 use Rattle.std.proofs.lemmas.List.Elements.{All-cons, All-head, All-nil, All-tail, All-weaker}
-use Rattle.heap_core.specs.Blocks.{IsApart, Span, blocks_with, blocks_without, end_of, has_bounds, length_of, start_of}
+use Rattle.std.proofs.lemmas.List.Sorted.{IsPermutation-cons, IsPermutation-refl, IsPermutation-to_front, sum_by-IsPermutation}
+use Rattle.std.proofs.lemmas.List.Sums.{sum_by-cons, sum_by-le}
+use Rattle.heap_core.specs.Blocks.{IsApart, IsBefore, Span, blocks_with, blocks_without, end_of, has_bounds, length_of, start_of}
 use Rattle.heap_core.specs.Laws.{has_bounds-is}
 use Rattle.state_text.specs.Blocks.{come_in, has_block}
 use Rattle.state_text.specs.Spans.{span_of, spans_of}
@@ -144,19 +149,78 @@ come_one b blocks none =
     filter_with (λ c. not (has_block blocks c)) b blocks (not_false (has_block blocks b) none)
     (All-weaker (λ c. has_block blocks c ≡ true) (λ c. not (has_block blocks c) ≡ false) (λ c is. not_true (has_block blocks c) is) blocks (all_has blocks))
 
--- ---- a block put at its place
+-- ---- the order of blocks
 
-pub insert_place : (b : Span) (blocks : List Span) (i : ℕ) (d : Span) → ((k : ℕ) → k < i → start_of (get_or blocks k d) ≤ start_of b)
-    → (i < length blocks → start_of b < start_of (get_or blocks i d)) → i ≤ length blocks → insert blocks i b ≡ blocks_with b blocks
-insert_place b [] zero d before after within = refl
-insert_place b [] (suc i) d before after within = absurd (omega (arith, within))
-insert_place b (x ∷ blocks) zero d before after within = rw (lt-ltb (start_of b) (start_of x) (after (omega arith))) refl
-insert_place b (x ∷ blocks) (suc i) d before after within =
-    rw (le-ltb (start_of b) (start_of x) (before 0 (omega arith)))
-    (ap (λ rest. x ∷ rest) (insert_place b blocks i d (λ k lt. before (suc k) (omega (arith, lt))) (λ lt. after (omega (arith, lt))) (omega (arith, within))))
+-- With one more put last they are the same blocks as with it at its place.
+pub last-with : (b : Span) (blocks : List Span) → IsPermutation (blocks ++ b ∷ []) (blocks_with b blocks)
+last-with b [] = IsPermutation-refl (b ∷ [])
+last-with b (x ∷ blocks) =
+    elim (cases_Bool (nat_lt (start_of b) (start_of x))) [
+      | inl first ↦ rw first (IsPermutation-to_front (x ∷ blocks) b)
+      | inr later ↦ rw later (IsPermutation-cons x (blocks ++ b ∷ []) (blocks_with b blocks) (last-with b blocks))
+    ]
 
-pub spans_insert : (blocks : List HeldBlock) (i : ℕ) (b : HeldBlock) → spans_of (insert blocks i b) ≡ insert (spans_of blocks) i (span_of b)
-spans_insert [] zero b = refl
-spans_insert [] (suc i) b = refl
-spans_insert (x ∷ blocks) zero b = refl
-spans_insert (x ∷ blocks) (suc i) b = ap (λ rest. span_of x ∷ rest) (spans_insert blocks i b)
+-- 1 for a block that passes the test.
+abbrev one_if : (Span → Bool) → Span → ℕ
+one_if test b = if test b then 1 else 0
+
+none_passes : (test : Span → Bool) (blocks : List Span) → All (λ b. test b ≡ false) blocks → sum_by (one_if test) blocks ≡ 0
+none_passes test blocks none =
+    let low = sum_by-le (one_if test) 0 blocks (All-weaker (λ b. test b ≡ false) (λ b. one_if test b ≤ 0) (λ b is. rw is (omega arith)) blocks none) in
+    omega (arith, low)
+
+first_passes : (test : Span → Bool) (b : Span) (blocks : List Span) → test b ≡ true → 1 ≤ sum_by (one_if test) (b ∷ blocks)
+first_passes test b blocks is = let one : one_if test b ≡ 1 = rw is refl in omega (arith, one, sum_by-cons (one_if test) b blocks)
+
+-- The same blocks by rising starts: none of either list starts before the first of the other, so these are the same.
+first_is : (x y : Span) (these those : List Span) → ((f : Span → ℕ) → sum_by f (x ∷ these) ≡ sum_by f (y ∷ those)) → IsNonDecreasingBy start_of (x ∷ these)
+    → AllPairs IsBefore (y ∷ those) → 0 < length_of y → x ≡ y
+first_is x y these those same rise order some =
+    let before : Span → Bool = λ b. nat_lt (start_of b) (start_of x) in
+    let bounds : Span → Bool = has_bounds (start_of x) (end_of x) in
+    let low : start_of x ≤ start_of y =
+    elim (cases_lt (start_of y) (start_of x)) [
+      | inl lt ↦
+          let none = none_passes before (x ∷ these) (λ k d within. le-ltb (start_of (get_or (x ∷ these) k d)) (start_of x) (rise 0 k d (omega arith) within)) in
+          let one = first_passes before y those (lt-ltb (start_of y) (start_of x) lt) in
+          absurd (omega (arith, none, one, same (one_if before)))
+      | inr le ↦ le
+    ] in
+    elim (cases_Bool (has_bounds (start_of x) (end_of x) y)) [
+      | inl is ↦ (let both = has_bounds-is (start_of x) (end_of x) y is in let long : length_of x ≡ length_of y = omega (arith, both.0, both.1) in λ i. (sym both.0 i, long i))
+      | inr other ↦
+          let rest : All (λ b. has_bounds (start_of x) (end_of x) b ≡ false) those =
+          λ k d within.
+          let later = order 0 (suc k) d (omega arith) (omega (arith, within)) in
+          rw (ne_eqb (start_of (get_or those k d)) (start_of x) (λ e. omega (arith, e, low, some, later))) refl in
+          let none = none_passes bounds (y ∷ those) (All-cons (λ b. has_bounds (start_of x) (end_of x) b ≡ false) y those other rest) in
+          let one = first_passes bounds x these (itself x) in
+          absurd (omega (arith, none, one, same (one_if bounds)))
+    ]
+
+rest_rises : (x : Span) (blocks : List Span) → IsNonDecreasingBy start_of (x ∷ blocks) → IsNonDecreasingBy start_of blocks
+rest_rises x blocks rise i j d le lt = rise (suc i) (suc j) d (omega (arith, le)) (omega (arith, lt))
+
+rest_ordered : (x : Span) (blocks : List Span) → AllPairs IsBefore (x ∷ blocks) → AllPairs IsBefore blocks
+rest_ordered x blocks order i j d less lt = order (suc i) (suc j) d (omega (arith, less)) (omega (arith, lt))
+
+one_order : (these those : List Span) → ((f : Span → ℕ) → sum_by f these ≡ sum_by f those) → IsNonDecreasingBy start_of these → AllPairs IsBefore those → All (λ b. 0 < length_of b) those
+    → these ≡ those
+one_order [] [] same rise order some = refl
+one_order [] (y ∷ those) same rise order some = absurd (omega (arith, same (λ b. 1), sum_by-cons (λ (b : Span). 1) y those))
+one_order (x ∷ these) [] same rise order some = absurd (omega (arith, same (λ b. 1), sum_by-cons (λ (b : Span). 1) x these))
+one_order (x ∷ these) (y ∷ those) same rise order some =
+    let first : x ≡ y = first_is x y these those same rise order (All-head (λ b. 0 < length_of b) y those some) in
+    let rest : these ≡ those =
+    one_order these those (λ f. omega (arith, same f, ap f first, sum_by-cons f x these, sum_by-cons f y those)) (rest_rises x these rise) (rest_ordered y those order) (All-tail (λ b. 0 < length_of b) y those some) in
+    λ i. first i ∷ rest i
+
+-- The same blocks, with some bytes each and none in another, have one order by rising starts.
+pub in_order-is : (these those : List Span) → IsPermutation these those → IsNonDecreasingBy start_of these → AllPairs IsBefore those → All (λ b. 0 < length_of b) those → these ≡ those
+in_order-is these those same = one_order these those (λ f. sym (sum_by-IsPermutation f these those same))
+
+-- Blocks by rising bases are spans by rising starts.
+pub spans_rise : (blocks : List HeldBlock) → IsNonDecreasingBy (λ block. block.base) blocks → IsNonDecreasingBy start_of (spans_of blocks)
+spans_rise blocks rise i j d le lt =
+    let none : HeldBlock = record { base = start_of d; length = length_of d } in
+    omega (arith, rise i j none le (omega (arith, lt, length-map blocks span_of)), ap start_of (get_or-map span_of blocks i none), ap start_of (get_or-map span_of blocks j none))

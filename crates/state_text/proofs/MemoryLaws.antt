@@ -16,6 +16,7 @@ use Rattle.tag_memory.specs.Cells.{Cell, Granule, cell_of, null_cell, register_a
 use Rattle.tag_memory.specs.Tags.{is_set_for, is_tagged}
 use Rattle.state_text.specs.Changes.{below, change_tokens, granule_change, granules_tokens, is_same, tag_change}
 use Rattle.state_text.specs.Line.{list_tokens}
+use Rattle.state_text.specs.Spans.{spans_of}
 use Rattle.state_text.specs.States.{pass_tokens, tells_pass, tells_registers}
 use Rattle.state_text.specs.Taken.{is_granule_taken, is_register_taken, is_tag_gone, number_if, register_numbers, taken_tokens}
 use Rattle.state_text.specs.Told.{IsSeen, due_seen, granule_before, granules_told, is_stale, none_taken, pass_told, takes_tags}
@@ -240,9 +241,9 @@ tag-kept s w start r new did k lt fresh =
 
 -- ---- passes
 
-pub due-seen : (seen : Seen) (s : State) → IsSeen seen s → due_seen seen ≡ due s.heap
+pub due-seen : (seen : Seen) (s : State) → IsSeen seen s → spans_of seen.waiting.items ≡ s.heap.waiting → due_seen seen ≡ due s.heap
 unfolding due
-due-seen seen s is = λ i. if is.is_open i then is.painted i else is.waiting i
+due-seen seen s is waiting = λ i. if is.is_open i then is.painted i else waiting i
 
 gone_is_taken : (t r : Bool) → (t && not (t && not r)) ≡ (t && r)
 gone_is_taken true true = refl
@@ -279,11 +280,10 @@ none_told s r tags none =
     λ i. key (codes "taken") ∷ begin_object ∷ (list_tokens (codes "registers") (sym registers i) ++ (list_tokens (codes "granules") (sym granules i) ++ end_object ∷ []))
 
 -- Where the pass took tags, those that are gone are those that it took.
-swept_told : (s : State) (w : Option ℕ) (r : Reply) (seen : Seen) (new : State) → AreSwept s w r new → IsSeen seen s
+swept_told : (s : State) (w : Option ℕ) (r : Reply) (seen : Seen) (new : State) → AreSwept s w r new → IsSeen seen s → due_seen seen ≡ due s.heap
     → taken_tokens (λ k. tells_registers r && is_register_taken (due_seen seen) seen.registers k) (is_tag_gone seen.tags.items new.cells) (length new.cells)
     ≡ taken_tokens (λ k. tells_registers r && is_register_taken (due s.heap) s.registers k) (is_granule_taken (due s.heap) s.cells) (length s.cells)
-swept_told s w r seen new are is =
-    let held = due-seen seen s is in
+swept_told s w r seen new are is held =
     let count : length new.cells ≡ length s.cells = ap length are.cells ∙ length-map s.cells (swept_granule (due s.heap)) in
     let each : (k : ℕ) → k < length s.cells → is_tag_gone seen.tags.items new.cells k ≡ is_granule_taken (due s.heap) s.cells k =
     λ k lt.
@@ -298,13 +298,13 @@ swept_told s w r seen new are is =
     ∷ (list_tokens (codes "registers") (register_numbers (λ k. tells_registers r && is_register_taken (held i) (is.registers i) k))
     ++ (list_tokens (codes "granules") (granules i) ++ end_object ∷ []))
 
-pub pass_told-is : (s : State) (w : Option ℕ) (start : ℕ) (r : Reply) (seen : Seen) (new : State) → Did s w start r new → IsSeen seen s
+pub pass_told-is : (s : State) (w : Option ℕ) (start : ℕ) (r : Reply) (seen : Seen) (new : State) → Did s w start r new → IsSeen seen s → (tells_pass r ≡ true → due_seen seen ≡ due s.heap)
     → pass_told r seen new.cells ≡ pass_tokens r s
-pass_told-is s w start r seen new did is =
+pass_told-is s w start r seen new did is held =
     elim (Did-pass s w start r new did) [
       | inl are ↦ rw are.0 refl
       | inr pass ↦ elim (cases_Bool (takes_tags r)) [
-        | inl some ↦ rw (pass.pass, some) (swept_told s w r seen new (record { tags = some; none = pass.none; cells = pass.cells }) is)
+        | inl some ↦ rw (pass.pass, some) (swept_told s w r seen new (record { tags = some; none = pass.none; cells = pass.cells }) is (held pass.pass))
         | inr none ↦ rw (pass.pass, none) (none_told s r pass.tags none)
       ]
     ]

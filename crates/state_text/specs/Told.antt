@@ -1,9 +1,10 @@
 -- What is told of a command, by what was seen before it, its reply, and the machine after it.
 use Rattle.std.specs.Prelude.{ℕ, ◌&&◌, ◌==◌, nat_lt, ◌-◌, ◌*◌, ◌<◌, ◌≤◌, ◌≡◌, ◌≢◌, Bool, false, true, not, List, [], ◌∷◌, ◌++◌, Option, Some, None, codes, filter, if◌then◌else◌, length, slice_index_or}
+use Rattle.std.specs.List.Sorted.{IsNonDecreasingBy, IsPermutation}
 use Rattle.json.specs.Token.{Token, begin_object, end_object, key}
 use Rattle.state_text.specs.Taken.{is_register_taken, is_tag_gone, taken_tokens}
 use Rattle.cap_codec.specs.Words.{base_of}
-use Rattle.heap_core.specs.Blocks.{Span, blocks_with, has_bounds}
+use Rattle.heap_core.specs.Blocks.{Span, has_bounds, start_of}
 use Rattle.heap_machine.specs.State.{State, register}
 use Rattle.heap_machine.specs.Safety.{IsSafe}
 use Rattle.heap_machine.specs.Step.{Step, index_in}
@@ -21,12 +22,12 @@ use Rattle.state_text.specs.States.{Tells, data_line_text, line_tokens, parts_to
 use Rattle.state_text.specs.declared.seen.Before.{Before}
 use Rattle.state_text.specs.declared.seen.Seen.{Seen}
 
--- What was seen is the state's: registers, tags, and the blocks that wait or are painted.
+-- What was seen is the state's: registers, tags, and the blocks that wait, in any order, or are painted.
 pub record IsSeen (seen : Seen) (s : State) : Type 0 where
   pub registers : seen.registers ≡ s.registers
   pub count : 64 * length seen.tags.items ≡ length s.cells
   pub bits : (i : ℕ) → i < length s.cells → is_set_for seen.tags.items i ≡ is_tagged s.cells i
-  pub waiting : spans_of seen.waiting.items ≡ s.heap.waiting
+  pub waiting : IsPermutation (spans_of seen.waiting.items) s.heap.waiting
   pub painted : spans_of seen.painted.items ≡ s.heap.painted
   pub is_open : seen.is_open ≡ s.heap.is_open
 
@@ -170,13 +171,13 @@ abbrev pub is_stale : Option (ℕ × Granule) → Reply → ℕ → Bool
 is_stale (Some at) r k = k == at.0
 is_stale None r k = takes_tags r
 
--- The blocks that wait after a command, those that are painted, and whether an epoch is open.
+-- The blocks that wait after a command, as they were given up, those that are painted, and whether an epoch is open.
 abbrev pub waiting_after : Reply → Bool → List Span → ℕ → List Span
 waiting_after (Block base top) is_open waiting start = waiting
 waiting_after (BlockAfter base top cleared) is_open waiting start = if is_open then waiting else []
 waiting_after NoSpace is_open waiting start = waiting
 waiting_after (NoSpaceAfter cleared) is_open waiting start = if is_open then waiting else []
-waiting_after (Held bytes) is_open waiting start = blocks_with (start, bytes) waiting
+waiting_after (Held bytes) is_open waiting start = waiting ++ (start, bytes) ∷ []
 waiting_after Done is_open waiting start = waiting
 waiting_after Cleared is_open waiting start = waiting
 waiting_after (Swept cleared released) is_open waiting start = if is_open then waiting else []
@@ -209,6 +210,15 @@ open_after (Swept cleared released) is_open = false
 open_after (Begun cleared) is_open = true
 open_after (Shown shown) is_open = is_open
 open_after (Trap trap) is_open = is_open
+
+-- The same is seen, and the blocks that wait are in the order of their starts where the reply tells of a pass.
+pub record IsPutInOrder (old new : Seen) (r : Reply) : Type 0 where
+  pub waiting : IsPermutation (spans_of new.waiting.items) (spans_of old.waiting.items)
+  pub order : tells_pass r ≡ true → IsNonDecreasingBy start_of (spans_of new.waiting.items)
+  pub registers : new.registers ≡ old.registers
+  pub tags : new.tags ≡ old.tags
+  pub painted : new.painted ≡ old.painted
+  pub is_open : new.is_open ≡ old.is_open
 
 -- What is seen after a command that left this state.
 pub record Follows (old new : Seen) (before : Before) (r : Reply) (s : State) : Type 0 where

@@ -1,18 +1,17 @@
 //! What is seen of a machine before a command.
 
-ghost use Rattle.std.specs.Prelude.{AllPairs, ◌≡◌, ◌≢◌, ◌<◌, ◌≤◌, ◌*◌, ◌/◌, ℕ, [], IfOk, IfSome, OnOk, false, if◌then◌else◌, insert, length, true};
+ghost use Rattle.std.specs.Prelude.{◌≡◌, ◌≢◌, ◌<◌, ◌*◌, ◌/◌, ◌++◌, ◌∷◌, ℕ, [], IfOk, IfSome, OnOk, false, if◌then◌else◌, length, true};
 ghost use Rattle.cap_codec.specs.Words.{address_in};
 ghost use Rattle.heap_machine.specs.State.{register};
 ghost use Rattle.state_text.specs.Spans.{spans_of};
-ghost use Rattle.heap_core.specs.Blocks.{IsBefore, blocks_with};
 ghost use Rattle.state_text.specs.States as states;
 ghost use Rattle.state_text.specs.Told as told;
-ghost use Rattle.state_text.specs.Told.{Follows, IsSeen, StayBut, before_of, changed_register, due_seen, given_up, granule_before, is_stale, open_after, painted_after, waiting_after, written};
+ghost use Rattle.state_text.specs.Told.{Follows, IsPutInOrder, IsSeen, StayBut, before_of, changed_register, due_seen, given_up, granule_before, is_stale, open_after, painted_after, waiting_after, written};
 ghost use Rattle.tag_memory.specs.Tags.{is_set_for, is_tagged};
 ghost use Rattle.trace_text.specs.Command.{IsValid};
 
 use crate::blocks::HeldBlock;
-use crate::replies::{takes_tags, tells_registers};
+use crate::replies::{takes_tags, tells_pass, tells_registers};
 use cap_codec::{Word, bounds, fields};
 use heap_machine::Machine;
 use heap_reply::Reply;
@@ -27,6 +26,8 @@ pub struct Seen {
     pub registers: [(Word, bool); 32],
     /// Bit `j` of word `w` is that of granule `64 * w + j`.
     pub tags: Vec<u64>,
+    /// Each is put last as it is given up. They come into the order of their starts together, when a pass tells of them: to
+    /// find each its place would move half of the others.
     pub waiting: Vec<HeldBlock>,
     pub painted: Vec<HeldBlock>,
     pub is_open: bool,
@@ -50,6 +51,16 @@ impl Seen {
             return &self.painted;
         }
         &self.waiting
+    }
+
+    /// The blocks that wait come into the order of their starts, if the reply tells of a pass.
+    pub fn put_in_order(&mut self, reply: Reply)
+        ensures { IsPutInOrder self.old self.new reply }
+    {
+        if !tells_pass(reply) {
+            return;
+        }
+        self.waiting.sort_unstable_by_key(|block| block.base);
     }
 }
 
@@ -137,20 +148,6 @@ pub fn read_before(machine: &Machine, command: Command) -> Before
     }
 }
 
-// Where a block that starts there has its place among these, which are in the order of their starts. Most blocks are given
-// up in that order too, so the last one is looked at first.
-fn place_of(blocks: &[HeldBlock], start: u64) -> usize
-    requires { AllPairs IsBefore (spans_of blocks.now) }
-    ensures within { result ≤ length blocks.now }
-    ensures place { (length : ℕ) → insert (spans_of blocks.now) result (start, length) ≡ blocks_with (start, length) (spans_of blocks.now) }
-{
-    let count = blocks.len();
-    if count > 0 && blocks[count - 1].base <= start {
-        return count;
-    }
-    blocks.partition_point(|block| block.base <= start)
-}
-
 fn copied_registers(registers: &Registers) -> [(Word, bool); 32]
     ensures { result ≡ registers.now }
 {
@@ -178,19 +175,17 @@ fn copied_tags(alloc: Global, memory: &Memory) -> Result<Vec<u64>, AllocError>
 impl Seen {
     // The block from `start` on waits.
     fn add_waiting(&mut self, start: u64, length: u64) -> Result<(), AllocError>
-        requires { AllPairs IsBefore (spans_of self.old.waiting.items) }
-        ensures waiting { OnOk result (spans_of self.new.waiting.items ≡ blocks_with (start, length) (spans_of self.old.waiting.items)) }
+        ensures waiting { OnOk result (spans_of self.new.waiting.items ≡ spans_of self.old.waiting.items ++ (start, length) ∷ []) }
         ensures painted { self.new.painted ≡ self.old.painted }
         ensures is_open { self.new.is_open ≡ self.old.is_open }
         ensures registers { self.new.registers ≡ self.old.registers }
         ensures tags { self.new.tags ≡ self.old.tags }
     {
-        let at = place_of(&self.waiting, start);
         let block = HeldBlock {
             base: start,
             length,
         };
-        let Ok(()) = self.waiting.insert(at, block) else {
+        let Ok(()) = self.waiting.push(block) else {
             return Err(AllocError);
         };
         Ok(())
@@ -227,7 +222,6 @@ impl Seen {
 
     // The blocks after a command that was answered so, and may have given up a block that starts there.
     fn follow_blocks(&mut self, reply: Reply, start: u64) -> Result<(), AllocError>
-        requires { AllPairs IsBefore (spans_of self.old.waiting.items) }
         ensures waiting { OnOk result (spans_of self.new.waiting.items ≡ waiting_after reply self.old.is_open (spans_of self.old.waiting.items) start) }
         ensures painted { OnOk result (spans_of self.new.painted.items ≡ painted_after reply (spans_of self.old.waiting.items) (spans_of self.old.painted.items)) }
         ensures is_open { OnOk result (self.new.is_open ≡ open_after reply self.old.is_open) }
@@ -382,7 +376,6 @@ impl Seen {
         before: Before,
         reply: Reply,
     ) -> Result<(), AllocError>
-        requires order { AllPairs IsBefore (spans_of self.old.waiting.items) }
         requires count { 64 * length self.old.tags.items ≡ length machine.now.state.cells }
         requires inside { IfSome before.granule (λ at. at.0 < length machine.now.state.cells) }
         requires within { before.register < 32 }
