@@ -4,6 +4,7 @@ ghost use Rattle.std.specs.Prelude.{◌≡◌};
 ghost use Rattle.heap_reply.specs.Shown.{shown_of};
 
 use cap_codec::{Word, bounds, exponent, fields};
+use std::fmt;
 
 /// Why a command changed nothing: the first of its checks that failed.
 #[derive(Debug, Clone, Copy, PartialEq, Eq)]
@@ -31,15 +32,32 @@ pub enum Trap {
 }
 
 /// What `show` shows of a register.
-#[derive(Debug, Clone, Copy, PartialEq, Eq)]
+// From the widest field to the narrowest: padding of odd length is copied by two moves that overlap, in each reply, and the
+// next copy waits for both.
+#[derive(Clone, Copy, PartialEq, Eq)]
 pub struct Shown {
-    pub tag: bool,
+    pub top: u128,
     pub address: u64,
     pub base: u64,
-    pub top: u128,
-    pub perms: u16,
     pub otype: u32,
+    pub perms: u16,
     pub exponent: u8,
+    pub tag: bool,
+}
+
+impl fmt::Debug for Shown {
+    // In the order in which `show` tells them.
+    fn fmt<W: fmt::Write>(&self, f: &mut fmt::Formatter<W>) -> fmt::Result {
+        f.debug_struct("Shown")
+            .field("tag", &self.tag)
+            .field("address", &self.address)
+            .field("base", &self.base)
+            .field("top", &self.top)
+            .field("perms", &self.perms)
+            .field("otype", &self.otype)
+            .field("exponent", &self.exponent)
+            .finish()
+    }
 }
 
 impl Shown {
