@@ -1,15 +1,15 @@
 -- The first word of a line stands from its first byte that is no blank up to the next blank.
 use Rattle.std.proofs.Common.{◌≡◌, ℕ, zero, suc, ◌<◌, ◌≤◌, Bool, true, false, not, cond, List, [], ◌∷◌, Option, Some, None, length, take, drop, get_or, filter, unwrap_or, refl, sym, ap, ◌∙◌, length-drop, add-zero, arith}
-use Rattle.std.specs.List.{slice_split, onto_first, position, position_or_len}
-use Rattle.std.specs.Prelude.{nat_lt}
+use Rattle.std.specs.List.{slice_split, onto_first, position, position_or_len, starts_with}
+use Rattle.std.specs.Prelude.{codes, nat_eq, nat_lt}
 use Rattle.std.proofs.Math.ListN.{drop_of_length-le}
 use Rattle.std.proofs.lemmas.Bool.{not-true}
 use Rattle.std.proofs.lemmas.Bool.Decides.{nat_tests}
 use Rattle.std.proofs.lemmas.List.{get_or-drop}
 use Rattle.std.proofs.lemmas.List.Quantifiers.{position-Some}
 use Rattle.std.proofs.lemmas.List.Sums.{fails_before_first}
-use Rattle.trace_text.specs.Lines.{is_blank, is_nonempty, words_of}
-use Rattle.trace_text.specs.Marked.{Ends}
+use Rattle.trace_text.specs.Lines.{is_blank, is_nonempty, is_passed_over, words_of}
+use Rattle.trace_text.specs.Marked.{Ends, StartsWord}
 
 -- ---- where a test passes first
 
@@ -78,15 +78,28 @@ some_before_blank : (bs : List ℕ) (i : ℕ) → is_blank (get_or bs 0 0) ≡ f
 some_before_blank bs zero e some h = let t = h.here some in absurd cc
 some_before_blank bs (suc i) e some h = omega arith
 
-pub words_of-first : (line : List ℕ) (start end : ℕ) → Ends (λ b. not (is_blank b)) line start → start < length line → Ends is_blank (drop start line) end
-    → words_of line ≡ take end (drop start line) ∷ words_of (drop end (drop start line))
-words_of-first line start end begins lt stops =
-    let rest = drop start line in
-    let blanks : words_of line ≡ words_of rest = words_of-blanks line start begins.within (λ k before. not_false (is_blank (get_or line k 0)) (begins.before k before)) in
-    let same : get_or rest 0 0 ≡ get_or line start 0 = rw add-zero at (get_or-drop start line 0 0) in
-    let word : is_blank (get_or rest 0 0) ≡ false = ap is_blank same ∙ not-true (is_blank (get_or line start 0)) (begins.here lt) in
-    let some : 0 < length rest = omega (arith, lt, length-drop start line) in
-    blanks ∙ words_of-word rest end (some_before_blank rest end word some stops) some stops
+pub words_of-from : (line : List ℕ) (start : ℕ) → Ends (λ b. not (is_blank b)) line start → words_of (drop start line) ≡ words_of line
+words_of-from line start begins =
+    sym (words_of-blanks line start begins.within (λ k before. not_false (is_blank (get_or line k 0)) (begins.before k before)))
+
+pub starts_word : (line : List ℕ) (start : ℕ) → Ends (λ b. not (is_blank b)) line start → start < length line → StartsWord (drop start line)
+starts_word line start begins lt =
+    let same : get_or (drop start line) 0 0 ≡ get_or line start 0 = rw add-zero at (get_or-drop start line 0 0) in
+    (omega (arith, lt, length-drop start line), ap is_blank same ∙ not-true (is_blank (get_or line start 0)) (begins.here lt))
+
+pub words_of-front : (line : List ℕ) (end : ℕ) → StartsWord line → Ends is_blank line end → words_of line ≡ take end line ∷ words_of (drop end line)
+words_of-front line end word stops = words_of-word line end (some_before_blank line end word.1 word.0 stops) word.0 stops
+
+pub passed_over-front : (line : List ℕ) → StartsWord line → is_passed_over (words_of line) ≡ starts_with nat_eq line (codes "#")
+passed_over-front line word =
+    let found = position is_blank line in
+    let end = unwrap_or found (length line) in
+    let stops = ends is_blank line found refl in
+    ap is_passed_over (words_of-front line end word stops) ∙ same_start line end (words_of (drop end line)) word.0 (some_before_blank line end word.1 word.0 stops) where
+      same_start : (line : List ℕ) (end : ℕ) (words : List (List ℕ)) → 0 < length line → 0 < end → is_passed_over (take end line ∷ words) ≡ starts_with nat_eq line (codes "#")
+      same_start [] end words some any = absurd (omega arith)
+      same_start (b ∷ bs) zero words some any = absurd (omega arith)
+      same_start (b ∷ bs) (suc end) words some any = refl
 
 pub words_of-none : (line : List ℕ) (start : ℕ) → Ends (λ b. not (is_blank b)) line start → start ≡ length line → words_of line ≡ []
 words_of-none line start none all =

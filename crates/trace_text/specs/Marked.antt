@@ -14,3 +14,7 @@ pub record Ends (p : ℕ → Bool) (xs : List ℕ) (i : ℕ) : Type 0 where
   pub within : i ≤ length xs
   pub before : (k : ℕ) → k < i → p (slice_index xs k) ≡ false
   pub here : i < length xs → p (slice_index xs i) ≡ true
+
+-- The line begins with a word.
+abbrev pub StartsWord : List ℕ → Type 0
+StartsWord line = (0 < length line) × (is_blank (slice_index line 0) ≡ false)

@@ -2,8 +2,8 @@
 
 ghost use Rattle.std.specs.Prelude.{◌≡◌, ◌<◌, ◌≤◌, ◌==◌, ℕ, [], ◌∷◌, drop, false, length, not, slice_index, take, true, IfNone, IfSome};
 ghost use Rattle.tag_memory.specs.Tags.{is_set};
-ghost use Rattle.trace_text.specs.Lines.{is_blank, words_of};
-ghost use Rattle.trace_text.specs.Marked.{Ends};
+ghost use Rattle.trace_text.specs.Lines.{is_blank, is_passed_over, words_of};
+ghost use Rattle.trace_text.specs.Marked.{Ends, StartsWord};
 
 use std::marker::Model;
 use std::simd::prelude::*;
@@ -160,18 +160,45 @@ impl<'a> Line<'a> {
         }
     }
 
+    /// The line from its first word on.
+    #[inline(always)]
+    pub fn from_word(&self) -> Option<Line<'a>>
+        ensures none { IfNone result (words_of self.now ≡ []) }
+        ensures same { IfSome result (λ rest. words_of rest ≡ words_of self.now) }
+        ensures word { IfSome result StartsWord }
+    {
+        let start = self.before_word();
+        if start == self.bytes.len() {
+            return None;
+        }
+        Some(self.after(start))
+    }
+
+    /// Whether a line that begins with a word is a comment: where the word ends need not be known.
+    #[inline(always)]
+    pub fn is_comment(&self) -> bool
+        requires { StartsWord self.now }
+        ensures { result ≡ is_passed_over (words_of self.now) }
+    {
+        self.bytes.starts_with(b"#")
+    }
+
+    /// The word with which a line begins, and what follows it.
+    #[inline(always)]
+    pub fn split_front(&self) -> (&'a [u8], Line<'a>)
+        requires { StartsWord self.now }
+        ensures { words_of self.now ≡ result.0.now ∷ words_of result.1 }
+    {
+        let end = self.before_blank();
+        (&self.bytes[..end], self.after(end))
+    }
+
     /// The first word, and what follows it.
     #[inline(always)]
     pub fn split_word(&self) -> Option<(&'a [u8], Line<'a>)>
         ensures none { IfNone result (words_of self.now ≡ []) }
         ensures word { IfSome result (λ parts. words_of self.now ≡ parts.0.now ∷ words_of parts.1) }
     {
-        let start = self.before_word();
-        if start == self.bytes.len() {
-            return None;
-        }
-        let rest = self.after(start);
-        let end = rest.before_blank();
-        Some((&rest.bytes[..end], rest.after(end)))
+        Some(self.from_word()?.split_front())
     }
 }

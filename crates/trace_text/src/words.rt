@@ -39,6 +39,10 @@ pub fn split_line(text: &[u8]) -> Option<(Line<'_>, &[u8])>
     if text.is_empty() {
         return None;
     }
+    // An empty line is no work for a look.
+    if text.starts_with(b"\n") {
+        return Some((Line::of_bytes(&text[..0]), &text[1..]));
+    }
     if text.len() >= LANES {
         let feeds = feeds_of(text);
         if feeds != 0 {
@@ -56,11 +60,11 @@ pub fn split_name<'a>(line: &Line<'a>) -> Option<(&'a [u8], Line<'a>)>
     ensures counts { OnSome result (is_passed_over (words_of line.now) ≡ false) }
     ensures name { IfSome result (λ parts. words_of line.now ≡ parts.0.now ∷ words_of parts.1) }
 {
-    let (name, rest) = line.split_word()?;
-    if name.starts_with(b"#") {
+    let rest = line.from_word()?;
+    if rest.is_comment() {
         return None;
     }
-    Some((name, rest))
+    Some(rest.split_front())
 }
 
 /// Whether a line has no word.
