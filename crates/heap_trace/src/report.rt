@@ -74,12 +74,7 @@ impl Report {
     }
 
     /// Adds the line of a command and its answer.
-    pub fn push(
-        &mut self,
-        number: u32,
-        command: Command,
-        reply: &Reply,
-    ) -> Result<(), AllocError>
+    pub fn push(&mut self, number: u32, command: Command, reply: &Reply) -> Result<(), AllocError>
         ensures ok { OnOk result (self.new ≡ self.old ++ line_text number command reply.now) }
         ensures err { OnErr result (self.new ≡ self.old) }
     {

@@ -90,6 +90,7 @@ fn debug_text_has_the_fields_in_the_order_of_show(rt: HostRuntime) {
     let block = block_capability(0x4000_0000, 0x4000_0020);
     let reply = Reply::Shown(Shown::of(block, true));
     let printed = format!(in rt.alloc(); "{reply:?}").expect(&rt, "there is memory");
-    let text = "Shown(Shown { tag: true, address: 1073741824, base: 1073741824, top: 1073741856, perms: 61, otype: 262143, exponent: 0 })";
+    let text =
+        "Shown(Shown { tag: true, address: 1073741824, base: 1073741824, top: 1073741856, perms: 61, otype: 262143, exponent: 0 })";
     assert_eq!(rt; printed.as_str(), text);
 }
