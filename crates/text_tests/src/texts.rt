@@ -44,6 +44,16 @@ fn after_heap(alloc: Global, lines: &[u8]) -> Result<Result<Trace, TraceFault>, 
     Ok(parse(alloc, &text))
 }
 
+// The same where so much follows that one look takes in each of the lines with its end.
+fn before_more_text(alloc: Global, lines: &[u8]) -> Result<Result<Trace, TraceFault>, AllocError> {
+    let mut text = Vec::from_slice(alloc, b"heap 0x40000000 1\n")?;
+    text.extend_from_slice(lines)?;
+    text.extend_from_slice(
+        b"\n# a comment that is longer than the 64 bytes that are looked at together\n",
+    )?;
+    Ok(parse(alloc, &text))
+}
+
 #[test]
 fn command_lines_with_a_fault(rt: HostRuntime) {
     let cases = [
@@ -101,10 +111,12 @@ fn command_lines_with_a_fault(rt: HostRuntime) {
         ),
     ];
     for (line, fault) in cases {
-        let answer = after_heap(rt.alloc(), line.as_bytes())
-            .expect(&rt, "there is memory")
-            .err();
-        assert_eq!(rt; answer, Some(fault), "{line:?}");
+        let at_end = after_heap(rt.alloc(), line.as_bytes());
+        let before = before_more_text(rt.alloc(), line.as_bytes());
+        for read in [at_end, before] {
+            let answer = read.expect(&rt, "there is memory").err();
+            assert_eq!(rt; answer.as_ref(), Some(&fault), "{line:?}");
+        }
     }
 }
 
@@ -129,10 +141,12 @@ fn words_that_are_no_register(rt: HostRuntime) {
         "c", "c01", "c00", "c32", "c99", "c100", "C1", "x1", "1", "c+1", "c1x",
     ] {
         let line = format!(in rt.alloc(); "show {word}").expect(&rt, "there is memory");
-        let answer = after_heap(rt.alloc(), line.as_bytes())
-            .expect(&rt, "there is memory")
-            .err();
-        assert_eq!(rt; answer, Some(TraceFault::BadRegister(2)), "{word:?}");
+        let at_end = after_heap(rt.alloc(), line.as_bytes());
+        let before = before_more_text(rt.alloc(), line.as_bytes());
+        for read in [at_end, before] {
+            let answer = read.expect(&rt, "there is memory").err();
+            assert_eq!(rt; answer, Some(TraceFault::BadRegister(2)), "{word:?}");
+        }
     }
 }
 
@@ -152,10 +166,12 @@ fn words_that_are_no_number(rt: HostRuntime) {
     ];
     for word in cases {
         let line = format!(in rt.alloc(); "malloc c1 {word}").expect(&rt, "there is memory");
-        let answer = after_heap(rt.alloc(), line.as_bytes())
-            .expect(&rt, "there is memory")
-            .err();
-        assert_eq!(rt; answer, Some(TraceFault::BadNumber(2)), "{word:?}");
+        let at_end = after_heap(rt.alloc(), line.as_bytes());
+        let before = before_more_text(rt.alloc(), line.as_bytes());
+        for read in [at_end, before] {
+            let answer = read.expect(&rt, "there is memory").err();
+            assert_eq!(rt; answer, Some(TraceFault::BadNumber(2)), "{word:?}");
+        }
     }
 }
 
@@ -225,14 +241,52 @@ fn words_that_are_fine(rt: HostRuntime) {
         ),
     ];
     for (line, command) in cases {
-        let trace = after_heap(rt.alloc(), line.as_bytes())
-            .expect(&rt, "there is memory")
-            .expect(&rt, "it is a trace");
-        assert_eq!(rt;
-            trace.commands.as_slice(),
-            [(2, command)].as_slice(),
-            "{line:?}"
-        );
+        let at_end = after_heap(rt.alloc(), line.as_bytes());
+        let before = before_more_text(rt.alloc(), line.as_bytes());
+        for read in [at_end, before] {
+            let trace = read
+                .expect(&rt, "there is memory")
+                .expect(&rt, "it is a trace");
+            assert_eq!(rt;
+                trace.commands.as_slice(),
+                [(2, command)].as_slice(),
+                "{line:?}"
+            );
+        }
+    }
+}
+
+// Two lines with so many blanks between the second word and the third, and an empty line between them.
+fn wide_lines(alloc: Global, blanks: usize) -> Result<Vec<u8>, AllocError> {
+    let mut lines = Vec::new(alloc);
+    for _ in 0..2 {
+        lines.extend_from_slice(b"malloc c1")?;
+        for _ in 0..blanks {
+            lines.push(b' ')?;
+        }
+        lines.extend_from_slice(b"16\n\n")?;
+    }
+    Ok(lines)
+}
+
+// Of 60 to 70 bytes, where one look takes in 64.
+#[test]
+fn lines_about_as_long_as_a_look(rt: HostRuntime) {
+    let command = Command::Malloc { rd: 1, size: 16 };
+    for blanks in 49..60 {
+        let lines = wide_lines(rt.alloc(), blanks).expect(&rt, "there is memory");
+        let at_end = after_heap(rt.alloc(), &lines);
+        let before = before_more_text(rt.alloc(), &lines);
+        for read in [at_end, before] {
+            let trace = read
+                .expect(&rt, "there is memory")
+                .expect(&rt, "it is a trace");
+            assert_eq!(rt;
+                trace.commands.as_slice(),
+                [(2, command), (4, command)].as_slice(),
+                "{blanks} blanks"
+            );
+        }
     }
 }
 
