@@ -1,7 +1,8 @@
 //! Blocks, and what became of them.
 
 ghost use Rattle.std.specs.Prelude.{◌≡◌, ◌+◌, ◌-◌, ◌≤◌, [], ◌∷◌, OnOk, codes};
-ghost use Rattle.heap_core.specs.Blocks.{has_address};
+ghost use Rattle.std.specs.List.Sorted.{IsNonDecreasingBy, IsPermutation};
+ghost use Rattle.heap_core.specs.Blocks.{has_address, start_of};
 ghost use Rattle.heap_core.specs.Blocks as blocks_of;
 ghost use Rattle.state_text.specs.Blocks.{block_tokens, told_blocks};
 ghost use Rattle.heap_reply.specs.Display.{hexadecimal_text};
@@ -12,9 +13,10 @@ ghost use Rattle.state_text.specs.Spans.{span_of, spans_of};
 use crate::cells::put_address;
 use crate::data_line::DataLine;
 use std::alloc::AllocError;
+use std::collections::BinaryHeap;
 
-/// A block: where it starts, and its length in bytes.
-#[derive(Clone, Copy, Debug, PartialEq, Eq)]
+/// A block: where it starts, by which blocks are in order, and its length in bytes.
+#[derive(Clone, Copy, Debug, PartialEq, Eq, PartialOrd, Ord)]
 pub struct HeldBlock {
     pub base: u64,
     pub length: u64,
@@ -34,6 +36,18 @@ impl HeldBlock {
     {
         self.base <= address && u128::from(address) < self.top()
     }
+}
+
+/// These blocks in the order of their starts.
+// By a heap, which takes no memory, and makes no call within a call.
+pub fn in_order(blocks: Vec<HeldBlock>) -> Vec<HeldBlock>
+    ensures same { IsPermutation (spans_of result.items) (spans_of blocks.items) }
+    ensures rise { IsNonDecreasingBy start_of (spans_of result.items) }
+{
+    if blocks.is_sorted() {
+        return blocks;
+    }
+    BinaryHeap::from(blocks).into_sorted_vec()
 }
 
 /// Whether an address lies in one of these blocks.

@@ -90,7 +90,7 @@ fn tell_step<R: Threads + Sync>(
     let Ok(reply) = machine.step(rt, alloc, command, &Open) else {
         return None;
     };
-    seen.put_in_order(reply);
+    seen.put_in_order(alloc, reply);
     let Ok(so_far) = told(so_far, seen, before, machine, (number, command, reply)) else {
         return None;
     };

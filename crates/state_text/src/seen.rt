@@ -10,7 +10,7 @@ ghost use Rattle.state_text.specs.Told.{Follows, IsPutInOrder, IsSeen, StayBut, 
 ghost use Rattle.tag_memory.specs.Tags.{is_set_for, is_tagged};
 ghost use Rattle.trace_text.specs.Command.{IsValid};
 
-use crate::blocks::HeldBlock;
+use crate::blocks::{HeldBlock, in_order};
 use crate::replies::{takes_tags, tells_pass, tells_registers};
 use cap_codec::{Word, bounds, fields};
 use heap_machine::Machine;
@@ -54,13 +54,14 @@ impl Seen {
     }
 
     /// The blocks that wait come into the order of their starts, if the reply tells of a pass.
-    pub fn put_in_order(&mut self, reply: Reply)
+    pub fn put_in_order(&mut self, alloc: Global, reply: Reply)
         ensures { IsPutInOrder self.old self.new reply }
     {
         if !tells_pass(reply) {
             return;
         }
-        self.waiting.sort_unstable_by_key(|block| block.base);
+        let waiting = mem::replace(&mut self.waiting, Vec::new(alloc));
+        self.waiting = in_order(waiting);
     }
 }
 
