@@ -1,4 +1,4 @@
-//! A line of a text, and which of its first bytes are blank.
+//! A line of a text, and where its words end.
 
 ghost use Rattle.std.specs.Prelude.{◌≡◌, ◌<◌, ◌≤◌, ◌==◌, ℕ, [], ◌∷◌, drop, false, length, not, slice_index, take, true, IfNone, IfSome};
 ghost use Rattle.tag_memory.specs.Tags.{is_set};

@@ -1,21 +1,13 @@
 //! The lines of a text and the words of a line.
 
-ghost use Rattle.std.specs.Prelude.{◌≡◌, ◌<◌, ◌==◌, [], ◌∷◌, false, length, not, IsTrue, IfNone, IfSome, OnSome};
-ghost use Rattle.std.specs.List.{position};
+ghost use Rattle.std.specs.Prelude.{◌≡◌, ◌<◌, [], ◌∷◌, false, length, IsTrue, IfNone, IfSome, OnSome};
 ghost use Rattle.std.specs.Option.{option_map};
 ghost use Rattle.trace_text.specs.Lines.{is_blank, is_passed_over, lines_of, words_of};
 ghost use Rattle.trace_text.specs.Reading.{no_word_in, one_word_in, three_words_in, two_words_in};
 
 use crate::marked::{LANES, Line, feeds_of};
-use memchr::memchr_iter;
+use memchr::memchr;
 use tag_memory::lowest_bit;
-
-fn first_feed(text: &[u8]) -> Option<usize>
-    ensures { result ≡ position (λ byte. byte == 10) text.now }
-{
-    // The iterator looks at the next 32 bytes first, which most lines don't pass.
-    memchr_iter(b'\n', text).next()
-}
 
 // The first line of a text that isn't empty, near the text's end or longer than one look takes in.
 fn split_any_line(text: &[u8]) -> (Line<'_>, &[u8])
@@ -23,7 +15,7 @@ fn split_any_line(text: &[u8]) -> (Line<'_>, &[u8])
     ensures line { lines_of text.now ≡ result.0 ∷ lines_of result.1.now }
     ensures shorter { length result.1.now < length text.now }
 {
-    match first_feed(text) {
+    match memchr(b'\n', text) {
         Some(length) => (Line::of_bytes(&text[..length]), &text[length + 1..]),
         None => (Line::of_bytes(text), &text[text.len()..]),
     }
