@@ -21,8 +21,8 @@ use sweep_pool::{Cutting, Gate, Open, paint_shadow, sweep_masks, swept_registers
 use tag_memory::{Memory, Registers};
 use trace_text::Command;
 
-// To decode the words of so many granules takes longer than a worker more costs: the start of its thread,
-// and its tries of the tasks that others have claimed.
+// To look where the bases of so many tagged granules lie takes longer than a worker more costs: the start of
+// its thread, and its tries of the tasks that others have claimed.
 const GRANULES_A_WORKER: usize = 16_000;
 
 // How a pass over so many tagged granules is cut: a worker is started only where its work is worth it.
