@@ -5,6 +5,8 @@
 #[cfg(test)]
 mod asked;
 #[cfg(test)]
+mod derived;
+#[cfg(test)]
 mod process;
 #[cfg(test)]
 mod replies;

@@ -1,5 +1,6 @@
 //! Replies with the texts that the report gives them.
 
+use crate::derived;
 use cap_codec::{Word, and_perms, block_capability};
 use heap_reply::{Reply, Shown, Trap};
 
@@ -93,4 +94,27 @@ fn debug_text_has_the_fields_in_the_order_of_show(rt: HostRuntime) {
     let text =
         "Shown(Shown { tag: true, address: 1073741824, base: 1073741824, top: 1073741856, perms: 61, otype: 262143, exponent: 0 })";
     assert_eq!(rt; printed.as_str(), text);
+}
+
+// Numbers of each length in bits.
+#[test]
+fn debug_text_is_as_one_that_is_derived(rt: HostRuntime) {
+    let mut number: u64 = 1;
+    for length in 0u32..64 {
+        number = number.wrapping_mul(0x9e37_79b9_7f4a_7c15).wrapping_add(1);
+        let short = number >> length;
+        let shown = Shown {
+            top: u128::from(short) << 60,
+            address: short,
+            base: number,
+            otype: (short >> 32) as u32,
+            perms: (short >> 48) as u16,
+            exponent: (short >> 56) as u8,
+            tag: short % 2 == 1,
+        };
+        let same = derived::Shown::of(shown);
+        let printed = format!(in rt.alloc(); "{shown:?} {shown:#?}").expect(&rt, "there is memory");
+        let wanted = format!(in rt.alloc(); "{same:?} {same:#?}").expect(&rt, "there is memory");
+        assert_eq!(rt; printed.as_str(), wanted.as_str());
+    }
 }
