@@ -112,7 +112,15 @@ fn debug_text_is_as_one_that_is_derived(rt: HostRuntime) {
             exponent: (short >> 56) as u8,
             tag: short % 2 == 1,
         };
-        let same = derived::Shown::of(shown);
+        let same = derived::Shown {
+            tag: shown.tag,
+            address: shown.address,
+            base: shown.base,
+            top: shown.top,
+            perms: shown.perms,
+            otype: shown.otype,
+            exponent: shown.exponent,
+        };
         let printed = format!(in rt.alloc(); "{shown:?} {shown:#?}").expect(&rt, "there is memory");
         let wanted = format!(in rt.alloc(); "{same:?} {same:#?}").expect(&rt, "there is memory");
         assert_eq!(rt; printed.as_str(), wanted.as_str());
