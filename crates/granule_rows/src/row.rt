@@ -5,7 +5,7 @@ ghost use Rattle.granule_rows.specs.Runs.{IsFirstMultiple, IsFirstRun, IsRun, al
 ghost use Rattle.tag_memory.specs.Tags.{is_set_for};
 
 use crate::find::{first_from, first_in};
-use crate::ranges::{add_words, clear_run, set_run};
+use crate::ranges::{add_words, clear_run, row_bit, set_run};
 use crate::summary::Summary;
 use crate::tree::renew;
 use std::alloc::{AllocError, Global};
@@ -178,6 +178,14 @@ impl FreeRow {
         let _words = &self.words;
         add_words(&mut self.words, other, first, end);
         renew(&mut self.nodes, &self.words, first, end);
+    }
+
+    /// Whether a granule is free.
+    pub fn is_free(&self, k: usize) -> bool
+        requires { k < 64 * length self.now }
+        ensures { result ≡ is_set_for self.now k }
+    {
+        row_bit(&self.words, k)
     }
 
     /// How many granules the row has a bit for.

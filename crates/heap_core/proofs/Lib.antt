@@ -1,9 +1,12 @@
 pub mod BlockLaws
+pub mod ClaimLaws
 pub mod EmptyLaws
+pub mod FoundLaws
 pub mod HeapLaws
 pub mod KeptLaws
 pub mod LateLaws
 pub mod NthLaws
+pub mod OverLaws
 pub mod PaintLaws
 pub mod PlaceLaws
 pub mod QuarantineLaws

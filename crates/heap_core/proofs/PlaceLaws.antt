@@ -5,12 +5,12 @@ use Rattle.std.proofs.lemmas.List.Elements.{All-nil}
 use Rattle.std.specs.Prelude.{All}
 use Rattle.heap_core.specs.Blocks.{IsApart, Span}
 use Rattle.heap_core.specs.Consistent.{AreLate, either_mark, heap_state}
-use Rattle.heap_core.specs.Place.{IsFree, IsPlace, block_length, block_unit, granule_size}
+use Rattle.heap_core.specs.Place.{IsFree, IsFreeBlock, IsPlace, block_unit, granule_size}
 use Rattle.heap_core.specs.Table.{IsFirstGap, IsGap, IsTable, blocks_of, is_held, is_live, is_taken}
 use Rattle.heap_core.proofs.BlockLaws.{All-block, All-blocks_of}
 use Rattle.heap_core.proofs.LateLaws.{get_or-either, length-either, no_held}
 use Rattle.heap_core.proofs.RunLaws.{is_taken_by, run_is_apart}
-use Rattle.heap_core.proofs.SizeLaws.{HasShape, le-block_length}
+use Rattle.heap_core.proofs.SizeLaws.{HasShape, IsFreeBlock-free, le-block_length}
 use Rattle.heap_core.proofs.ExtentLaws.{LiesWithin-table}
 
 -- Each block shares no address with a free run.
@@ -59,59 +59,79 @@ All-either P base lengths marks lates same also due late =
       | inr is ↦ All-block P is_held base 0 lengths lates false k start late also at lt some is
     ])
 
--- A block may start at a free run from a multiple of its unit on.
+-- A block may lie at a free run.
+pub IsFreeBlock-from_run : (base : ℕ) (lengths : List ℕ) (marks lates : List Bool) (is_open : Bool) (p n : ℕ) → IsTable base lengths marks
+    → IsGap lengths p n → IsFreeBlock (heap_state base lengths marks lates is_open) (base + 16 * p) (16 * n)
+IsFreeBlock-from_run base lengths marks lates true p n table run =
+    record {
+      start = omega (arith, base_granule base lengths marks table);
+      whole = omega arith;
+      some = omega (arith, run.some);
+      from = omega arith;
+      end = omega (arith, run.end);
+      live = All-IsApart is_live base lengths (either_mark marks lates) p n run;
+      waiting = All-IsApart is_held base lengths lates p n run;
+      painted = All-IsApart is_held base lengths marks p n run;
+    }
+IsFreeBlock-from_run base lengths marks lates false p n table run =
+    record {
+      start = omega (arith, base_granule base lengths marks table);
+      whole = omega arith;
+      some = omega (arith, run.some);
+      from = omega arith;
+      end = omega (arith, run.end);
+      live = All-IsApart is_live base lengths (either_mark marks lates) p n run;
+      waiting = All-IsApart is_held base lengths marks p n run;
+      painted = All-nil (IsApart (base + 16 * p, 16 * n));
+    }
+
+-- From a multiple of its unit on it is a place for a block of that size.
 IsFree-from_run : (base : ℕ) (lengths : List ℕ) (marks lates : List Bool) (is_open : Bool) (size p n unit : ℕ) → IsTable base lengths marks → HasShape size n unit
     → IsGap lengths p n → (base / 16 + p) % unit ≡ 0 → IsFree (heap_state base lengths marks lates is_open) size (base + 16 * p)
-IsFree-from_run base lengths marks lates true size p n unit table has run multiple =
+IsFree-from_run base lengths marks lates is_open size p n unit table has run multiple =
     let at : 16 * (base / 16 + p) ≡ base + 16 * p = omega (arith, base_granule base lengths marks table) in
+    let free = IsFreeBlock-from_run base lengths marks lates is_open p n table run in
     record {
-      granule = omega arith;
+      granule = free.start;
       unit = subst (λ a. a % block_unit size ≡ 0) at (has.units.from (base / 16 + p) multiple);
-      from = omega arith;
-      end = rw has.length (omega (arith, run.end));
-      live = rw has.length (All-IsApart is_live base lengths (either_mark marks lates) p n run);
-      waiting = rw has.length (All-IsApart is_held base lengths lates p n run);
-      painted = rw has.length (All-IsApart is_held base lengths marks p n run);
-    }
-IsFree-from_run base lengths marks lates false size p n unit table has run multiple =
-    let at : 16 * (base / 16 + p) ≡ base + 16 * p = omega (arith, base_granule base lengths marks table) in
-    record {
-      granule = omega arith;
-      unit = subst (λ a. a % block_unit size ≡ 0) at (has.units.from (base / 16 + p) multiple);
-      from = omega arith;
-      end = rw has.length (omega (arith, run.end));
-      live = rw has.length (All-IsApart is_live base lengths (either_mark marks lates) p n run);
-      waiting = rw has.length (All-IsApart is_held base lengths marks p n run);
-      painted = All-nil (IsApart (base + 16 * p, block_length size));
+      from = free.from;
+      end = rw has.length free.end;
+      live = rw has.length free.live;
+      waiting = rw has.length free.waiting;
+      painted = rw has.length free.painted;
     }
 
--- What a place shares no address with, by the marks.
-apart_from_due : (base : ℕ) (lengths : List ℕ) (marks lates : List Bool) (is_open : Bool) (size a : ℕ) → IsFree (heap_state base lengths marks lates is_open) size a
-    → All (IsApart (a, block_length size)) (blocks_of is_held base 0 lengths marks)
-apart_from_due base lengths marks lates true size a free = free.painted
-apart_from_due base lengths marks lates false size a free = free.waiting
+-- What a free block shares no address with, by the marks.
+apart_from_due : (base : ℕ) (lengths : List ℕ) (marks lates : List Bool) (is_open : Bool) (a n : ℕ) → IsFreeBlock (heap_state base lengths marks lates is_open) a n
+    → All (IsApart (a, n)) (blocks_of is_held base 0 lengths marks)
+apart_from_due base lengths marks lates true a n free = free.painted
+apart_from_due base lengths marks lates false a n free = free.waiting
 
-apart_from_late : (base : ℕ) (lengths : List ℕ) (marks lates : List Bool) (is_open : Bool) (size a : ℕ) → AreLate lengths marks lates is_open → IsFree (heap_state base lengths marks lates is_open) size a
-    → All (IsApart (a, block_length size)) (blocks_of is_held base 0 lengths lates)
-apart_from_late base lengths marks lates true size a are free = free.waiting
-apart_from_late base lengths marks lates false size a are free = rw (no_held base 0 lengths lates (are.closed refl)) (All-nil (IsApart (a, block_length size)))
+apart_from_late : (base : ℕ) (lengths : List ℕ) (marks lates : List Bool) (is_open : Bool) (a n : ℕ) → AreLate lengths marks lates is_open → IsFreeBlock (heap_state base lengths marks lates is_open) a n
+    → All (IsApart (a, n)) (blocks_of is_held base 0 lengths lates)
+apart_from_late base lengths marks lates true a n are free = free.waiting
+apart_from_late base lengths marks lates false a n are free = rw (no_held base 0 lengths lates (are.closed refl)) (All-nil (IsApart (a, n)))
 
--- Where it may start, there is one.
+-- Where a block may lie, there is a free run.
+pub IsGap-from_block : (base : ℕ) (lengths : List ℕ) (marks lates : List Bool) (is_open : Bool) (p n : ℕ) → IsTable base lengths marks → AreLate lengths marks lates is_open
+    → IsFreeBlock (heap_state base lengths marks lates is_open) (base + 16 * p) (16 * n) → IsGap lengths p n
+IsGap-from_block base lengths marks lates is_open p n table are free =
+    let end : p + n ≤ length lengths = omega (arith, free.end) in
+    let due = apart_from_due base lengths marks lates is_open (base + 16 * p) (16 * n) free in
+    let late = apart_from_late base lengths marks lates is_open (base + 16 * p) (16 * n) are free in
+    let held = All-either (IsApart (base + 16 * p, 16 * n)) base lengths marks lates table.same are.same due late in
+    record {
+      some = omega (arith, free.some);
+      end = end;
+      free = λ k le lt. apart_is_free base lengths (either_mark marks lates) p n k (length-either marks lates ∙ table.same) free.live held le lt (omega arith);
+    }
+
 pub IsGap-from_free : (base : ℕ) (lengths : List ℕ) (marks lates : List Bool) (is_open : Bool) (size a n unit : ℕ) → IsTable base lengths marks → AreLate lengths marks lates is_open
     → HasShape size n unit → IsFree (heap_state base lengths marks lates is_open) size a → IsGap lengths ((a - base) / 16) n
 IsGap-from_free base lengths marks lates is_open size a n unit table are has free =
-    let p = (a - base) / 16 in
     let at : a ≡ base + 16 * ((a - base) / 16) = omega (arith, free.granule, free.from, base_granule base lengths marks table) in
-    let end : (a - base) / 16 + n ≤ length lengths = omega (arith, free.end, has.length) in
-    let live = rw (has.length, at) at free.live in
-    let due = apart_from_due base lengths marks lates is_open size a free in
-    let late = apart_from_late base lengths marks lates is_open size a are free in
-    let held = rw (has.length, at) at (All-either (IsApart (a, block_length size)) base lengths marks lates table.same are.same due late) in
-    record {
-      some = has.some;
-      end = end;
-      free = λ k le lt. apart_is_free base lengths (either_mark marks lates) p n k (length-either marks lates ∙ table.same) live held le lt (omega arith);
-    }
+    let block = IsFreeBlock-free (heap_state base lengths marks lates is_open) size a free in
+    IsGap-from_block base lengths marks lates is_open ((a - base) / 16) n table are (rw (has.length, at) at block)
 
 -- And it is from a multiple of its unit on.
 pub multiple-from_free : (base : ℕ) (lengths : List ℕ) (marks lates : List Bool) (is_open : Bool) (size a n unit : ℕ) → IsTable base lengths marks

@@ -28,7 +28,7 @@ has_bounds_other start bytes base top other =
     ]
 
 -- The block at granule k is one of those whose marks pass, where its mark does.
-is_block_at : (keeps : Bool → Bool) (base : ℕ) (lengths : List ℕ) (marks : List Bool) (start top k : ℕ) → length marks ≡ length lengths
+pub is_block_at : (keeps : Bool → Bool) (base : ℕ) (lengths : List ℕ) (marks : List Bool) (start top k : ℕ) → length marks ≡ length lengths
     → IsBlockAt base lengths start top k → keeps (get_or marks k false) ≡ true → is_block (blocks_of keeps base 0 lengths marks) start top ≡ true
 is_block_at keeps base lengths marks start top k same at kept =
     any-block (has_bounds start top) keeps base 0 lengths marks false k start same (omega (arith, at.start_is)) at.within at.some kept

@@ -6,7 +6,8 @@ use Rattle.std.proofs.lemmas.Bool.{cases_Bool, lt-ltb}
 use Rattle.std.proofs.lemmas.Nat.{pow-add, pow_pos}
 use Rattle.cap_codec.specs.Laws.{le-round_up}
 use Rattle.cap_codec.specs.Rounding.{IsExact, exponent_for, is_short, length_for, round_up, unit_for}
-use Rattle.heap_core.specs.Place.{block_length, block_unit, granule_size}
+use Rattle.heap_core.specs.Heap.{HeapState}
+use Rattle.heap_core.specs.Place.{IsFree, IsFreeBlock, block_length, block_unit, granule_size}
 
 -- ---- lengths
 
@@ -168,3 +169,23 @@ HasShape-shape size asked n unit holds some length is =
 -- It isn't shorter than what was asked for.
 pub le-block_length : (size asked : ℕ) → 16 * asked ≡ granule_size size → 16 * asked ≤ block_length size
 le-block_length size asked holds = omega (arith, le-length_for (granule_size size))
+
+-- It is at least as long as its size says.
+pub max-le-block_length : (size : ℕ) → max 1 size ≤ block_length size
+max-le-block_length size = omega (arith, le-length_for (granule_size size))
+
+-- A place for a block of a size is one for a block of its length.
+pub IsFreeBlock-free : (s : HeapState) (size a : ℕ) → IsFree s size a → IsFreeBlock s a (block_length size)
+IsFreeBlock-free s size a free =
+    let whole : granule_size size % 16 ≡ 0 = omega arith in
+    let one : 1 ≤ max 1 size = le-max_left 1 size in
+    record {
+      start = free.granule;
+      whole = length_for_granules (granule_size size) whole;
+      some = omega (arith, max-le-block_length size, one);
+      from = free.from;
+      end = free.end;
+      live = free.live;
+      waiting = free.waiting;
+      painted = free.painted;
+    }

@@ -1,17 +1,15 @@
 -- What keeps a heap sound, seen from its blocks alone.
-use Rattle.std.proofs.Common.{◌≡◌, ◌<◌, ◌≤◌, ◌-◌, ◌%◌, inl, inr, nat_lt, not, ℕ, zero, suc, Bool, true, List, [], ◌∷◌, refl, arith}
-use Rattle.std.proofs.Math.Nat.{le-max_left}
+use Rattle.std.proofs.Common.{◌≡◌, ◌<◌, ◌≤◌, ◌-◌, inl, inr, nat_lt, not, ℕ, zero, suc, Bool, true, List, [], ◌∷◌, refl, arith}
 use Rattle.std.proofs.lemmas.Bool.{cases_Bool, ltb-true, true≢false}
 use Rattle.std.proofs.lemmas.Bool.Decides.{nat_tests}
 use Rattle.std.proofs.lemmas.List.Elements.{All-cons, All-contains, All-filter, All-head, All-nil, All-tail, All-weaker}
 use Rattle.std.proofs.lemmas.List.Kept.{AllPairs-cons, AllPairs-filter}
-use Rattle.std.specs.Prelude.{All, AllPairs, false, if◌then◌else◌, max}
+use Rattle.std.specs.Prelude.{All, AllPairs, false, if◌then◌else◌}
 use Rattle.heap_core.specs.Blocks.{IsApart, IsBefore, Span, blocks_with, blocks_without, has_bounds, is_block, length_of, start_of}
 use Rattle.heap_core.specs.Heap.{HeapState, IsInside, IsSound}
 use Rattle.heap_core.specs.Laws.{Contains-block, has_bounds-is}
-use Rattle.heap_core.specs.Place.{IsFree, block_length, granule_size, with_live}
+use Rattle.heap_core.specs.Place.{IsFreeBlock, with_block}
 use Rattle.heap_core.specs.Quarantine.{with_epoch, with_waiting, without_due, without_epoch, without_waiting}
-use Rattle.heap_core.proofs.SizeLaws.{le-length_for, length_for_granules}
 
 -- ---- lists of blocks
 
@@ -52,29 +50,20 @@ AllPairs-blocks_with block (b ∷ blocks) some apart order =
 
 -- ---- a block more
 
--- A block of a free place lies inside the heap.
-IsInside-free : (s : HeapState) (size a : ℕ) → IsFree s size a → IsInside s (a, block_length size)
-IsInside-free s size a free =
-    let whole : granule_size size % 16 ≡ 0 = omega arith in
-    let one : 1 ≤ max 1 size = le-max_left 1 size in
-    record {
-      start = free.granule;
-      length = length_for_granules (granule_size size) whole;
-      some = omega (arith, le-length_for (granule_size size), one);
-      from = free.from;
-      end = free.end;
-    }
+-- A free block lies inside the heap.
+IsInside-free : (s : HeapState) (a length : ℕ) → IsFreeBlock s a length → IsInside s (a, length)
+IsInside-free s a length free = record { start = free.start; length = free.whole; some = free.some; from = free.from; end = free.end }
 
 -- Where a block lies in a heap doesn't hang on the heap's blocks.
 IsInside-blocks : (s new : HeapState) → new.base ≡ s.base → new.size ≡ s.size → (block : Span) → IsInside s block → IsInside new block
 IsInside-blocks s new base size block inside =
     record { start = inside.start; length = inside.length; some = inside.some; from = omega (arith, inside.from, base); end = omega (arith, inside.end, base, size) }
 
-pub IsSound-live : (s : HeapState) (size a : ℕ) → IsSound s → IsFree s size a → IsSound (with_live s size a)
-IsSound-live s size a sound free =
-    let block : Span = (a, block_length size) in
-    let new = with_live s size a in
-    let inside = IsInside-free s size a free in
+pub IsSound-block : (s : HeapState) (a length : ℕ) → IsSound s → IsFreeBlock s a length → IsSound (with_block s a length)
+IsSound-block s a length sound free =
+    let block : Span = (a, length) in
+    let new = with_block s a length in
+    let inside = IsInside-free s a length free in
     let still = IsInside-blocks s new refl refl in
     record {
       pages = sound.pages;

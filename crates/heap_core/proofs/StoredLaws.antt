@@ -55,10 +55,10 @@ pub get_or-marks_of : (starts held : List ℕ) (n k : ℕ) → k < n → get_or 
 unfolding marks_of
 get_or-marks_of starts held n k lt = get_or-map-range_with_len (λ k. is_set_for starts k && is_set_for held k) 0 n k k false lt (omega arith)
 
-length_in-start : (starts lengths : List ℕ) (k : ℕ) → is_set_for starts k ≡ true → length_in starts lengths k ≡ get_or lengths k 0
+pub length_in-start : (starts lengths : List ℕ) (k : ℕ) → is_set_for starts k ≡ true → length_in starts lengths k ≡ get_or lengths k 0
 length_in-start starts lengths k is = rw is refl
 
-length_in-none : (starts lengths : List ℕ) (k : ℕ) → is_set_for starts k ≡ false → length_in starts lengths k ≡ 0
+pub length_in-none : (starts lengths : List ℕ) (k : ℕ) → is_set_for starts k ≡ false → length_in starts lengths k ≡ 0
 length_in-none starts lengths k is = rw is refl
 
 -- A block starts where there is a length.
@@ -178,7 +178,7 @@ module _ (words lengths : List ℕ) (count : ℕ) (long : length lengths ≡ cou
       let parts = and_parts (nat_lt k count) (not (is_taken k lengths)) (sym (bits k) ∙ set) in
       (ltb-true k count parts.0, not-true (is_taken k lengths) parts.1)
 
-  table_run : (p n : ℕ) → rows.IsRun words p n → IsGap lengths p n
+  pub table_run : (p n : ℕ) → rows.IsRun words p n → IsGap lengths p n
   table_run p n run = record {
     some = run.some;
     end = omega (arith, (free_there (p + n - 1) (run.free.each (p + n - 1) (omega (arith, run.some)) (omega (arith, run.some)))).0, run.some);
@@ -202,7 +202,7 @@ module _ (words lengths : List ℕ) (count : ℕ) (long : length lengths ≡ cou
 -- ---- no block reaches
 
 -- No block reaches past a granule that lies in none.
-not_taken_ends : (lengths : List ℕ) (k j : ℕ) → is_taken k lengths ≡ false → j ≤ k → j + get_or lengths j 0 ≤ k
+pub not_taken_ends : (lengths : List ℕ) (k j : ℕ) → is_taken k lengths ≡ false → j ≤ k → j + get_or lengths j 0 ≤ k
 not_taken_ends lengths k j none le = elim (cases_lt k (j + get_or lengths j 0)) [
   | inl reaches ↦ absurd (both_ways _ none (is_taken_within lengths j k le reaches))
   | inr ends ↦ ends
@@ -236,6 +236,13 @@ module _ (t : Inside) (stored : AreStored t) where
   pub no_place : (origin unit m : ℕ) → ((p : ℕ) → (origin + p) % unit ≡ 0 → ¬ rows.IsRun t.rows.free p m) → (p : ℕ) → IsGap L p m → ¬ ((origin + p) % unit ≡ 0)
   no_place origin unit m none p run multiple =
       none p multiple (row_run t.rows.free L n (length-lengths_of t.rows.starts.items t.lengths.items) stored.free p m room run)
+
+  -- A run of the row from a granule on is a gap of the table, and the other way round.
+  pub gap_there : {p m : ℕ} → rows.IsRun t.rows.free p m → IsGap L p m
+  gap_there {p = p} {m = m} run = table_run t.rows.free L n (length-lengths_of t.rows.starts.items t.lengths.items) stored.free p m run
+
+  pub run_there : {p m : ℕ} → IsGap L p m → rows.IsRun t.rows.free p m
+  run_there {p = p} {m = m} run = row_run t.rows.free L n (length-lengths_of t.rows.starts.items t.lengths.items) stored.free p m room run
 
   pub run_inside : {p m : ℕ} → IsGap L p m → p + m ≤ n
   run_inside run = omega (arith, run.end, length-lengths_of t.rows.starts.items t.lengths.items)

@@ -1,15 +1,19 @@
 -- What the crates above need of blocks: what a test of an address and one of bounds say, of one block and
 -- of a list; which blocks are due, and where they lie.
-use Rattle.std.proofs.Common.{◌≡◌, ◌⊎◌, ◌<◌, ◌≤◌, ◌+◌, ◌-◌, ◌==◌, ℕ, inl, inr, true, false, List, subst, arith}
+use Rattle.std.proofs.Common.{◌≡◌, ◌⊎◌, ◌<◌, ◌≤◌, ◌+◌, ◌-◌, ◌==◌, ◌++◌, ℕ, inl, inr, true, false, List, subst, arith}
 use Rattle.std.specs.List.{Contains}
 use Rattle.std.proofs.lemmas.Bool.{and_parts, eqb-true}
 use Rattle.std.proofs.lemmas.Bool.Decides.{nat_tests}
-use Rattle.std.proofs.lemmas.List.Elements.{All-weaker}
+use Rattle.std.proofs.lemmas.List.Elements.{All-append, All-contains, All-weaker}
 use Rattle.std.proofs.lemmas.List.Folds.{Any-from_list_any, list_any_none}
 use Rattle.std.specs.Prelude.{All, Bool, refl, if◌then◌else◌}
-use Rattle.heap_core.specs.Blocks.{Span, end_of, has_address, has_bounds, is_block, lies_in, start_of}
+use Rattle.heap_core.specs.Blocks.{IsApart, Span, end_of, has_address, has_bounds, is_block, lies_in, start_of}
+use Rattle.heap_core.specs.Claim.{IsClaimable, IsFirstOver, IsReason}
 use Rattle.heap_core.specs.Heap.{HeapState, IsInside, IsSound, due}
 use Rattle.heap_core.specs.Quarantine.{without_due, without_epoch, without_waiting}
+use Rattle.heap_core.specs.declared.block.Block.{Block}
+use Rattle.heap_core.specs.declared.block.Claim.{Claim}
+use Rattle.heap_core.specs.declared.block.Claim.TheVariants.{Claimed, Empty, Inexact, Outside, OverHeld, OverLive, Uneven}
 
 -- An address within a block, before it and after it.
 pub has_address-within : (a : ℕ) (block : Span) → start_of block ≤ a → a < end_of block → has_address a block ≡ true
@@ -75,3 +79,25 @@ pub lies_in-outside : (s : HeapState) (a : ℕ) → IsSound s → (a < s.base) �
 lies_in-outside s a sound outside =
     list_any_none (has_address a) (due s)
     (All-weaker (IsInside s) (λ block. has_address a block ≡ false) (λ block inside. has_address-outside s a block inside outside) (due s) (due-inside s sound))
+
+-- ---- bounds that are claimed
+
+-- A block that shares an address with them isn't apart from them.
+not_apart : (start top : ℕ) (b : Span) → start < top → start_of b < top → start < end_of b → ¬ IsApart (start, top - start) b
+not_apart start top b order before after (inl ends) = omega arith
+not_apart start top b order before after (inr begins) = omega arith
+
+pub not_over : (blocks : List Span) (start top : ℕ) (block : Block) → start < top → IsFirstOver blocks start top block → ¬ All (IsApart (start, top - start)) blocks
+not_over blocks start top block order is apart =
+    not_apart start top (block.base, block.top - block.base) order is.over.0 (omega (arith, is.over.1)) (All-contains (IsApart (start, top - start)) blocks (block.base, block.top - block.base) apart is.there)
+
+-- Where they may be a block's there is no reason against it.
+pub no_reason : (s : HeapState) (start top : ℕ) (why : Claim) → IsClaimable s start top → IsReason s start top why → ⊥
+no_reason s start top Claimed may reason = reason
+no_reason s start top Uneven may reason = reason (may.free.start, omega (arith, may.free.start, may.free.whole, may.order))
+no_reason s start top Empty may reason = absurd (omega (arith, may.order, reason.1))
+no_reason s start top Outside may reason = reason.2 (may.free.from, omega (arith, may.free.end, may.order))
+no_reason s start top Inexact may reason = reason.3 may.exact
+no_reason s start top (OverLive block) may reason = not_over s.live start top block may.order reason.1 may.free.live
+no_reason s start top (OverHeld block) may reason =
+    not_over (s.waiting ++ s.painted) start top block may.order reason.2 (All-append (IsApart (start, top - start)) s.waiting s.painted may.free.waiting may.free.painted)

@@ -1,5 +1,7 @@
 pub mod Blocks
+pub mod Claim
 pub mod Consistent
+pub mod Found
 pub mod Heap
 pub mod Laws
 pub mod Painting

@@ -1,9 +1,25 @@
--- Where a block goes: to the least place that is free. That choice is this project's profile. How
--- long the block is, and what its start is a multiple of, follow from what a capability can hold.
-use Rattle.std.specs.Prelude.{◌≡◌, ◌≤◌, ◌+◌, ◌%◌, ℕ, max, All, Option, Result, IfOk, IfSome}
+-- Where a block may lie, and where one of a size goes: to the least place that is free. That choice is this project's
+-- profile. How long the block is, and what its start is a multiple of, follow from what a capability can hold.
+use Rattle.std.specs.Prelude.{◌≡◌, ◌<◌, ◌≤◌, ◌+◌, ◌%◌, ℕ, max, All, Option, Result, IfOk, IfSome}
 use Rattle.cap_codec.specs.Rounding.{length_for, round_up, unit_for}
 use Rattle.heap_core.specs.Blocks.{IsApart, blocks_with}
 use Rattle.heap_core.specs.Heap.{HeapState}
+
+-- A block of so many bytes may start at a: whole granules of 16 bytes, at least one, inside the heap, where it shares no
+-- address with another block.
+pub record IsFreeBlock (s : HeapState) (a length : ℕ) : Type 0 where
+  pub start : a % 16 ≡ 0
+  pub whole : length % 16 ≡ 0
+  pub some : 0 < length
+  pub from : s.base ≤ a
+  pub end : a + length ≤ s.base + s.size
+  pub live : All (IsApart (a, length)) s.live
+  pub waiting : All (IsApart (a, length)) s.waiting
+  pub painted : All (IsApart (a, length)) s.painted
+
+-- The heap with a live block of so many bytes more, at a.
+abbrev pub with_block : HeapState → ℕ → ℕ → HeapState
+with_block s a length = record s { live = blocks_with (a, length) s.live }
 
 -- A size in bytes, up to whole granules of 16 bytes. A size of 0 counts as 1.
 abbrev pub granule_size : ℕ → ℕ
@@ -35,7 +51,7 @@ pub record IsPlace (s : HeapState) (size a : ℕ) : Type 0 where
 
 -- The heap with a live block of that size more, at a.
 abbrev pub with_live : HeapState → ℕ → ℕ → HeapState
-with_live s size a = record s { live = blocks_with (a, block_length size) s.live }
+with_live s size a = with_block s a (block_length size)
 
 -- P of the value in an `Ok (Some ..)`.
 abbrev pub IfOkSome : {T E : Type 0} → Result (Option T) E → (T → Type 0) → Type 0

@@ -81,3 +81,22 @@ pub record IsHeldStart (lengths : List ℕ) (marks : List Bool) (n p : ℕ) : Ty
   pub before : held_count (take p marks) ≡ n
   pub within : p ≤ length lengths
   pub held : p < length lengths → slice_index_or marks p false ≡ true
+
+-- The test that the marks of held blocks pass, or that of live ones.
+abbrev pub has_mark : Bool → Bool → Bool
+has_mark held mark = if held then mark else not mark
+
+-- The block that starts at granule k passes the test, and reaches past granule `first`.
+pub record ReachesPast (keeps : Bool → Bool) (lengths : List ℕ) (marks : List Bool) (first k : ℕ) : Type 0 where
+  pub some : 0 < slice_index lengths k
+  pub kept : keeps (slice_index_or marks k false) ≡ true
+  pub past : first < k + slice_index lengths k
+
+-- No such block starts before granule `end`.
+abbrev pub NonePast : (Bool → Bool) → List ℕ → List Bool → ℕ → ℕ → Type 0
+NonePast keeps lengths marks first end = (k : ℕ) → k < end → ¬ ReachesPast keeps lengths marks first k
+
+-- The first such block starts at granule p.
+pub record IsFirstPast (keeps : Bool → Bool) (lengths : List ℕ) (marks : List Bool) (first p : ℕ) : Type 0 where
+  pub reaches : ReachesPast keeps lengths marks first p
+  pub least : NonePast keeps lengths marks first p

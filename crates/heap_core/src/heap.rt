@@ -1,6 +1,6 @@
 //! One heap, and where its blocks lie.
 
-ghost use Rattle.std.specs.Prelude.{◌≡◌, ◌↔◌, ◌≤◌, ◌+◌, ℕ, IfOk, IsOk, IsOkUnless, false, true};
+ghost use Rattle.std.specs.Prelude.{◌≡◌, ◌↔◌, ◌+◌, ℕ, IfOk, IsOk, IsOkUnless, false, true};
 ghost use Rattle.cap_codec.specs.Rounding.{IsExact};
 ghost use Rattle.heap_core.specs.Blocks.{bytes_in};
 ghost use Rattle.heap_core.specs.Heap.{IsSound, empty_heap};
@@ -8,6 +8,8 @@ ghost use Rattle.heap_core.specs.Heap as heap;
 ghost use Rattle.heap_core.specs.Place.{IfOkSome, IsFree, IsPlace, block_length, with_live};
 ghost use Rattle.tag_memory.specs.Extent as span;
 
+mod claiming;
+mod finding;
 mod painting;
 mod quarantine;
 
@@ -124,6 +126,13 @@ impl Heap {
         ensures { IsSound self.now }
     {
         let _ = &self.table;
+    }
+
+    /// The first address.
+    pub fn base(&self) -> u64
+        ensures { result ≡ self.now.base }
+    {
+        self.base
     }
 
     /// Whether an epoch of revocation is open.

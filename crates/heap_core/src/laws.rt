@@ -1,18 +1,20 @@
 //! The law of a heap's changes.
 
-ghost use Rattle.std.specs.Prelude.{◌≡◌, ◌+◌, ℕ, true};
+ghost use Rattle.std.specs.Prelude.{◌≡◌, ◌≤◌, ◌+◌, ℕ, max, true};
 ghost use Rattle.cap_codec.specs.Rounding.{IsExact};
 ghost use Rattle.heap_core.specs.Blocks.{is_block};
 ghost use Rattle.heap_core.specs.Heap.{HeapState, IsSound};
-ghost use Rattle.heap_core.specs.Place.{IsFree, block_length, with_live};
+ghost use Rattle.heap_core.specs.Place.{IsFree, IsFreeBlock, block_length, with_block};
 ghost use Rattle.heap_core.specs.Quarantine.{with_epoch, with_waiting, without_epoch, without_waiting};
 
 use cap_codec::derivations;
 
-/// A block at a free place, a live block that waits, blocks that wait or are painted that become free, and an epoch
+/// A free block that becomes live, a live block that waits, blocks that wait or are painted that become free, and an epoch
 /// that begins keep a heap sound; and a word can hold the bounds of a block at a free place.
 pub fn changes()
-    ensures live { (s : HeapState) (size a : ℕ) → IsSound s → IsFree s size a → IsSound (with_live s size a) }
+    ensures live { (s : HeapState) (a length : ℕ) → IsSound s → IsFreeBlock s a length → IsSound (with_block s a length) }
+    ensures place { (s : HeapState) (size a : ℕ) → IsFree s size a → IsFreeBlock s a (block_length size) }
+    ensures enough { (size : ℕ) → max 1 size ≤ block_length size }
     ensures waiting { (s : HeapState) (base top : ℕ) → IsSound s → is_block s.live base top ≡ true
         → IsSound (with_waiting s base top) }
     ensures free { (s : HeapState) → IsSound s → IsSound (without_waiting s) }

@@ -10,7 +10,7 @@ mod rows;
 mod shadow;
 mod table;
 
-pub use crate::block::{Block, Freed};
+pub use crate::block::{Block, Claim, Freed, Kind};
 pub use crate::fault::HeapFault;
 pub use crate::heap::Heap;
 pub use crate::laws::changes;

@@ -1,13 +1,15 @@
 //! The blocks of a heap, by the granules at which they start.
 
-ghost use Rattle.std.specs.Prelude.{◌≡◌, ◌≢◌, ◌<◌, ◌≤◌, ◌+◌, ◌*◌, ◌/◌, ◌%◌, ◌^◌, ◌&&◌, ℕ, IfOk, IfSome, false, length, replicate, slice_index, slice_index_or, slice_set, true};
+ghost use Rattle.std.specs.Prelude.{◌≡◌, ◌≢◌, ◌<◌, ◌≤◌, ◌+◌, ◌*◌, ◌/◌, ◌%◌, ◌^◌, ◌&&◌, ℕ, IfOk, IfSome, MatchOption, false, length, replicate, slice_index, slice_index_or, slice_set, true};
 ghost use Rattle.granule_rows.specs.Runs.{is_within};
 ghost use Rattle.heap_core.specs.Painting.{IsPainted};
-ghost use Rattle.heap_core.specs.Table.{AreBlocks, IsBlockAt, IsFirstGap, IsGap, IsHeldStart, held_count, is_held, is_live, is_taken, kept_lengths};
+ghost use Rattle.heap_core.specs.Consistent.{either_mark};
+ghost use Rattle.heap_core.specs.Shadow.{bits_of};
+ghost use Rattle.heap_core.specs.Table.{AreBlocks, IsBlockAt, IsFirstGap, IsFirstPast, IsGap, IsHeldStart, NonePast, ReachesPast, has_mark, held_count, is_held, is_live, is_taken, kept_lengths};
 ghost use Rattle.mark_board.specs.Board.{IsOf};
 ghost use Rattle.tag_memory.specs.Tags.{is_set, is_set_for};
 
-use crate::block::Shape;
+use crate::block::{Block, Shape};
 use crate::painting::paint_row;
 use crate::rows::Rows;
 use crate::shadow::Shadow;
@@ -74,9 +76,134 @@ impl Table {
     {
         let granules = shape.granules as usize;
         let start = self.rows.free.first_multiple(granules, origin, shape.unit)?;
-        self.lengths[start] = shape.granules as u32;
-        self.rows.put(start, granules);
+        self.put_in_gap(start, granules);
         Some(start)
+    }
+
+    /// Puts a block of so many granules at this one, and answers whether it did: where they lie in no block.
+    pub fn put_at(&mut self, start: usize, granules: usize) -> bool
+        requires some { 0 < granules }
+        ensures taken { result ≡ false → ¬ IsGap self.old.lengths start granules }
+        ensures unchanged { result ≡ false → self.new ≡ self.old }
+        ensures gap { result ≡ true → IsGap self.old.lengths start granules }
+        ensures lengths { result ≡ true → self.new.lengths ≡ slice_set self.old.lengths start granules }
+        ensures marks { result ≡ true → self.new.marks ≡ slice_set self.old.marks start false }
+    {
+        let Some(first) = self.rows.free.next_run(granules, start) else {
+            return false;
+        };
+        if first != start {
+            return false;
+        }
+        self.put_in_gap(start, granules);
+        true
+    }
+
+    /// The granule at which the first block starts that reaches past granule `first` and starts before `end`, of those
+    /// that are held, or of those that are not. Late blocks are held too: these are their starts.
+    pub fn first_past(&self, late: &[u64], is_held: bool, first: usize, end: usize) -> Option<usize>
+        requires order { first < end }
+        requires end { end ≤ length self.now.lengths }
+        requires limit { length self.now.lengths ≤ 2 ^ 18 }
+        requires bits { 64 * length late.now ≡ length self.now.lengths }
+        requires same { length self.now.marks ≡ length self.now.lengths }
+        requires apart { (j k : ℕ) → j < k → 0 < slice_index self.now.lengths k → j + slice_index self.now.lengths j ≤ k }
+        ensures { MatchOption result
+            (NonePast (has_mark is_held) self.now.lengths (either_mark self.now.marks (bits_of late.now)) first end)
+            (λ p. (p < end) × IsFirstPast (has_mark is_held) self.now.lengths (either_mark self.now.marks (bits_of late.now)) first p) }
+    {
+        for start in self.reaching_start(first)..end {
+            if self.is_past(late, is_held, first, start) {
+                return Some(start);
+            }
+        }
+        None
+    }
+
+    // Whether a block that is held, or one that isn't, starts at a granule and reaches past granule `first`.
+    fn is_past(&self, late: &[u64], is_held: bool, first: usize, start: usize) -> bool
+        requires inside { start < length self.now.lengths }
+        requires limit { length self.now.lengths ≤ 2 ^ 18 }
+        requires bits { 64 * length late.now ≡ length self.now.lengths }
+        requires same { length self.now.marks ≡ length self.now.lengths }
+        ensures yes { result ≡ true → ReachesPast (has_mark is_held) self.now.lengths (either_mark self.now.marks (bits_of late.now)) first start }
+        ensures no { result ≡ false → ¬ ReachesPast (has_mark is_held) self.now.lengths (either_mark self.now.marks (bits_of late.now)) first start }
+    {
+        let granules = self.length_at(start) as usize;
+        if granules == 0 || start + granules <= first {
+            return false;
+        }
+        self.is_held_or_late(late, start) == is_held
+    }
+
+    // Whether a block starts at a granule that is held, or late.
+    fn is_held_or_late(&self, late: &[u64], granule: usize) -> bool
+        requires inside { granule < length self.now.lengths }
+        requires bits { 64 * length late.now ≡ length self.now.lengths }
+        requires same { length self.now.marks ≡ length self.now.lengths }
+        ensures { result ≡ slice_index_or (either_mark self.now.marks (bits_of late.now)) granule false }
+    {
+        self.is_held_at(granule) || row_bit(late, granule)
+    }
+
+    /// The granule at which the block starts that has this one, or this one where none has: no block that starts before
+    /// reaches past it.
+    pub fn reaching_start(&self, granule: usize) -> usize
+        requires inside { granule < length self.now.lengths }
+        requires apart { (j k : ℕ) → j < k → 0 < slice_index self.now.lengths k → j + slice_index self.now.lengths j ≤ k }
+        ensures within { result ≤ granule }
+        ensures before { (k : ℕ) → k < result → k + slice_index self.now.lengths k ≤ granule }
+        ensures last { (k : ℕ) → result < k → k ≤ granule → slice_index self.now.lengths k ≡ 0 }
+    {
+        let mut start = granule;
+        while self.may_be_reached(start) {
+            start -= 1;
+        }
+        start
+    }
+
+    // Whether a block that starts before a granule may reach past it.
+    fn may_be_reached(&self, granule: usize) -> bool
+        requires inside { granule < length self.now.lengths }
+        requires apart { (j k : ℕ) → j < k → 0 < slice_index self.now.lengths k → j + slice_index self.now.lengths j ≤ k }
+        ensures some { result ≡ true → 0 < granule }
+        ensures start { result ≡ true → slice_index self.now.lengths granule ≡ 0 }
+        ensures none { result ≡ false → (k : ℕ) → k < granule → k + slice_index self.now.lengths k ≤ granule }
+    {
+        if granule == 0 {
+            return false;
+        }
+        if self.rows.free.is_free(granule) {
+            return false;
+        }
+        !row_bit(&self.rows.starts, granule)
+    }
+
+    /// The block that starts at a granule, in the table of a heap at `base`.
+    pub fn block_from(&self, base: u64, granule: usize) -> Block
+        requires inside { granule < length self.now.lengths }
+        requires end { base + 16 * granule + 16 * slice_index self.now.lengths granule ≤ 2 ^ 64 }
+        requires some { 0 < slice_index self.now.lengths granule }
+        ensures base { result.base ≡ base + 16 * granule }
+        ensures top { result.top ≡ base + 16 * granule + 16 * slice_index self.now.lengths granule }
+    {
+        let start = base + GRANULE * granule as u64;
+        let bytes = GRANULE * u64::from(self.length_at(granule));
+        Block {
+            base: start,
+            top: u128::from(start) + u128::from(bytes),
+        }
+    }
+
+    // Puts a block of so many granules at this one, where they lie in no block.
+    fn put_in_gap(&mut self, start: usize, granules: usize)
+        requires gap { IsGap self.old.lengths start granules }
+        ensures lengths { self.new.lengths ≡ slice_set self.old.lengths start granules }
+        ensures marks { self.new.marks ≡ slice_set self.old.marks start false }
+    {
+        let _lengths = &self.lengths;
+        self.lengths[start] = granules as u32;
+        self.rows.put(start, granules);
     }
 
     /// The granule at which the block from `start` to `top` starts, if it is one, in the table of a heap

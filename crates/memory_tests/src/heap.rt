@@ -1,5 +1,6 @@
 //! Heaps that are refused, and blocks that lie where they should.
 
+mod claims;
 mod epochs;
 
 use heap_core::{Block, Freed, Heap, HeapFault, Shadow};

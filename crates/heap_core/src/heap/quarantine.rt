@@ -1,13 +1,14 @@
 //! Blocks that are given up, and wait until their bytes may be used again.
 
-ghost use Rattle.std.specs.Prelude.{◌≡◌, ◌↔◌, ◌+◌, ℕ, IfErr, IfOk, IfSome, IsOk, None, [], false, true};
+ghost use Rattle.std.specs.Prelude.{◌≡◌, ◌↔◌, ◌+◌, ℕ, IfErr, IfOk, IfSome, IsOk, None, false, true};
 ghost use Rattle.cap_codec.specs.Rounding.{IsExact};
 ghost use Rattle.heap_core.specs.Blocks.{bytes_in, lies_in};
+ghost use Rattle.heap_core.specs.Claim.{IsClaim};
 ghost use Rattle.heap_core.specs.Heap.{IsSound, due};
 ghost use Rattle.heap_core.specs.Place.{IsFree, IsPlace, block_length, with_live};
 ghost use Rattle.heap_core.specs.Quarantine.{IsShadow, freed_of, with_epoch, with_waiting, without_due, without_epoch, without_waiting};
 
-use crate::block::{Block, Freed};
+use crate::block::{Block, Claim, Freed};
 use crate::fault::HeapFault;
 use crate::heap::Heap;
 use crate::shadow::Shadow;
@@ -46,6 +47,22 @@ impl Heap {
         Ok(Freed::Held)
     }
 
+    /// What would become of these bounds if they were released.
+    pub fn freed_of(&self, base: u64, top: u128) -> Freed
+        ensures { result ≡ freed_of self.now base top }
+    {
+        let Some(first) = self.table.block_at(self.base, base, top) else {
+            return Freed::NotBlock;
+        };
+        if self.table.is_held_at(first) {
+            return Freed::AlreadyHeld;
+        }
+        if row_bit(&self.late, first) {
+            return Freed::AlreadyHeld;
+        }
+        Freed::Held
+    }
+
     /// Begins an epoch (Filardo et al. 2020, Cornucopia): all blocks that wait are painted, and blocks that are given
     /// up from then on wait for the next one.
     pub fn begin_epoch(&mut self)
@@ -68,6 +85,13 @@ impl Heap {
             return false;
         }
         self.table.is_in_held(granule)
+    }
+
+    /// The bytes of the blocks that are due now.
+    pub fn due_bytes(&self) -> u64
+        ensures { result ≡ bytes_in (due self.now) }
+    {
+        GRANULE * u64::from(self.held_granules)
     }
 
     /// Which granules lie in blocks that are due now.
@@ -155,5 +179,24 @@ impl Heap {
         self.drop_due();
         let found = self.reserve(size)?;
         Ok((found, waiting))
+    }
+
+    /// Makes the blocks that wait free, and then the bytes from `base` on, before `top`, a live block, where they may
+    /// be one then (`Claimed`). Else nothing changes, and the first reason is answered.
+    pub fn give_back_and_claim(&mut self, base: u64, top: u128) -> Claim
+        requires { self.old.is_open ≡ false }
+        ensures claim { IsClaim self.old (without_waiting self.old) base top result self.new }
+        ensures sound { IsSound self.new }
+    {
+        self.whole();
+        let (first, granules) = match self.granules_of(base, top) {
+            Ok(place) => place,
+            Err(reason) => return reason,
+        };
+        if let Some(block) = self.live_over(first, granules) {
+            return Claim::OverLive(block);
+        }
+        self.drop_due();
+        self.claim(base, top)
     }
 }

@@ -1,12 +1,18 @@
 use Rattle.std.proofs.Common.{◌≤◌, ◌<◌, ◌+◌, ◌^◌, arith}
 use Rattle.heap_core.specs.Place.{block_length, granule_size}
-use Rattle.heap_core.proofs.SizeLaws.{le-length_for}
+use Rattle.heap_core.proofs.SizeLaws.{IsFreeBlock-free, le-length_for, max-le-block_length}
 use Rattle.heap_core.proofs.ExtentLaws.{LiesWithin-span}
-use Rattle.heap_core.proofs.StateLaws.{IsSound-begun, IsSound-ended, IsSound-free, IsSound-live, IsSound-waiting}
+use Rattle.heap_core.proofs.StateLaws.{IsSound-begun, IsSound-block, IsSound-ended, IsSound-free, IsSound-waiting}
 use Rattle.heap_core.proofs.laws.changes.Goals as goal
 
 pub returns-clause-live : goal.returns-clause-live
-returns-clause-live c = λ s size a sound free. IsSound-live s size a sound free
+returns-clause-live c = λ s a length sound free. IsSound-block s a length sound free
+
+pub returns-clause-place : goal.returns-clause-place
+returns-clause-place c = λ s size a free. IsFreeBlock-free s size a free
+
+pub returns-clause-enough : goal.returns-clause-enough
+returns-clause-enough c = λ size. max-le-block_length size
 
 pub returns-clause-waiting : goal.returns-clause-waiting
 returns-clause-waiting c = λ s base top sound there. IsSound-waiting s base top sound there
