@@ -7,6 +7,8 @@ mod asked;
 #[cfg(test)]
 mod derived;
 #[cfg(test)]
+mod logs;
+#[cfg(test)]
 mod process;
 #[cfg(test)]
 mod replies;

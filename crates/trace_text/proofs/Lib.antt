@@ -3,8 +3,10 @@ pub mod Digits
 pub mod FirstLine
 pub mod FirstWord
 pub mod HeapLines
+pub mod LineCuts
 pub mod Lanes
 pub mod MarkLaws
 pub mod Operands
 pub mod Reading
 pub mod WholeText
+pub mod WordCuts

@@ -1,10 +1,10 @@
 -- What the bits of a line's stops tell.
-use Rattle.std.proofs.Common.{◌≡◌, ◌==◌, ℕ, zero, suc, ◌+◌, ◌-◌, ◌/◌, ◌%◌, ◌<◌, ◌≤◌, ◌^◌, max, Bool, true, false, not, List, length, take, drop, get_or, bit_or, w64, refl, sym, ap, ◌∙◌, arith}
+use Rattle.std.proofs.Common.{◌≡◌, ◌==◌, ℕ, zero, suc, ◌+◌, ◌-◌, ◌/◌, ◌%◌, ◌<◌, ◌≤◌, ◌*◌, ◌^◌, ◌≢◌, max, Bool, true, false, not, List, length, take, drop, get_or, bit_or, w64, refl, sym, ap, ◌∙◌, arith}
 use Rattle.std.specs.Int.{bit_at}
 use Rattle.std.proofs.Math.Nat.{mod-eq_of_lt}
 use Rattle.std.proofs.lemmas.List.{get_or-drop, get_or-take, length-drop, length-take-le, take_rest}
 use Rattle.std.proofs.lemmas.Nat.{shr-shr}
-use Rattle.std.proofs.lemmas.Nat.Bits.{bit_at-lt, bit_at_not, bit_at_or}
+use Rattle.std.proofs.lemmas.Nat.Bits.{bit_at-lt, bit_at_not, bit_at_or, bit_at_set_other, bit_at_set_same}
 use Rattle.tag_memory.specs.Laws.{same_test}
 use Rattle.tag_memory.specs.Tags.{is_set}
 use Rattle.trace_text.specs.Lines.{is_blank}
@@ -74,4 +74,19 @@ stops_after bytes stops count are le =
       short = omega (arith, left, are.short);
       blanks = λ j within. moved j ∙ are.blanks (count + j) (omega (arith, within, left)) ∙ ap is_blank (sym (get_or-drop count bytes j 0));
       end = moved (length (drop count bytes)) ∙ ap (is_set stops) (omega (arith, left, le)) ∙ are.end;
+    })
+
+-- those of what stands before a place
+pub stops_before : (bytes : List ℕ) (stops count : ℕ) → AreStops bytes stops → count ≤ length bytes
+    → AreStops (take count bytes) (bit_or stops (1 * 2 ^ (count % 64) % 18446744073709551616))
+stops_before bytes stops count are le =
+    let short : count < 64 = omega (arith, are.short, le) in
+    let size : length (take count bytes) ≡ count = length-take-le count bytes le in
+    rw (mod-eq_of_lt short) (record {
+      short = omega (arith, size, short);
+      blanks = λ j within.
+          let before : j < count = omega (arith, within, size) in
+          let other : j ≢ count = omega (arith, before) in
+          same_test _ _ (bit_at_set_other w64 stops count short j other) ∙ are.blanks j (omega (arith, before, le)) ∙ ap is_blank (sym (get_or-take count bytes j 0 before));
+      end = rw size (same_test _ 1 (bit_at_set_same w64 stops count short));
     })

@@ -1,6 +1,7 @@
 -- The lines of a text and the words of a line, in this project's own trace language.
-use Rattle.std.specs.Prelude.{ℕ, Bool, true, false, List, [], ◌∷◌, filter, nat_eq, codes, ◌==◌, ◌||◌, if◌then◌else◌}
+use Rattle.std.specs.Prelude.{ℕ, Bool, true, false, List, [], ◌∷◌, Option, Some, None, filter, nat_eq, codes, bytes_eq, ◌==◌, ◌||◌, if◌then◌else◌}
 use Rattle.std.specs.List.{slice_split, onto_first, starts_with}
+use Rattle.std.specs.Option.{option_map}
 
 -- The most bytes that the text of a trace has.
 abbrev pub longest_text : ℕ
@@ -28,3 +29,10 @@ words_of line = filter is_nonempty (slice_split is_blank line)
 abbrev pub is_passed_over : List (List ℕ) → Bool
 is_passed_over [] = true
 is_passed_over (word ∷ words) = starts_with nat_eq word (codes "#")
+
+-- the words before the first that is this one, and those after it
+abbrev pub split_at_first : List ℕ → List (List ℕ) → Option (List (List ℕ) × List (List ℕ))
+split_at_first word [] = None
+split_at_first word (first ∷ others) =
+    if bytes_eq first word then Some ([], others)
+    else option_map (λ parts. (first ∷ parts.0, parts.1)) (split_at_first word others)

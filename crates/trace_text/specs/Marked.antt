@@ -1,5 +1,5 @@
 -- A line, and where its words end (this project's own form).
-use Rattle.std.specs.Prelude.{◌≡◌, ◌<◌, ◌≤◌, ℕ, Bool, List, false, true, length, slice_index}
+use Rattle.std.specs.Prelude.{◌≡◌, ◌<◌, ◌≤◌, ◌-◌, ℕ, Bool, List, drop, false, not, true, length, slice_index}
 use Rattle.tag_memory.specs.Tags.{is_set}
 use Rattle.trace_text.specs.Lines.{is_blank}
 
@@ -18,3 +18,11 @@ pub record Ends (p : ℕ → Bool) (xs : List ℕ) (i : ℕ) : Type 0 where
 -- The line begins with a word.
 abbrev pub StartsWord : List ℕ → Type 0
 StartsWord line = (0 < length line) × (is_blank (slice_index line 0) ≡ false)
+
+-- The first word from a place on begins at `start` and ends before `end`.
+pub record IsNextWord (line : List ℕ) (place start end : ℕ) : Type 0 where
+  pub after : place ≤ start
+  pub begins : Ends (λ byte. not (is_blank byte)) (drop place line) (start - place)
+  pub within : start < length line
+  pub forward : start ≤ end
+  pub stops : Ends is_blank (drop start line) (end - start)

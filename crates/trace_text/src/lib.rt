@@ -10,7 +10,11 @@ mod text;
 mod trace;
 mod words;
 
-pub use crate::fault::TraceFault;
-pub use crate::laws::{command_lines, texts};
-pub use crate::text::{LONGEST_TEXT, parse};
+pub use crate::fault::{LineFault, TraceFault};
+pub use crate::laws::{command_lines, cuts, texts};
+pub use crate::line::command;
+pub use crate::marked::Line;
+pub use crate::operand::{data, hexadecimal_digit, number, operand_number, register};
+pub use crate::text::{LONGEST_TEXT, Opening, parse, read_heap};
 pub use crate::trace::{Command, Trace};
+pub use crate::words::{no_word, one_word, split_line, split_name, three_words, two_words};

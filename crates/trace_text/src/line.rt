@@ -1,6 +1,6 @@
 //! A line as a command, and as the heap line.
 
-ghost use Rattle.std.specs.Prelude.{◌≡◌, ◌≤◌, ◌<◌, ◌∷◌, ◌↔◌, IfOk, IfSome, IsTrue};
+ghost use Rattle.std.specs.Prelude.{◌≡◌, ◌<◌, ◌∷◌, IfOk, IfSome, IsTrue};
 ghost use Rattle.trace_text.specs.Command.{IsValid};
 ghost use Rattle.trace_text.specs.Heap.{IsHeap};
 ghost use Rattle.trace_text.specs.Lines.{words_of};
@@ -110,9 +110,9 @@ fn one_register(operands: &Line<'_>) -> Result<u8, LineFault>
     register(word)
 }
 
-// The command with this name, whose operands follow it.
+/// The command with this name, whose operands follow it.
 #[tactic(auto, unfolding(crate::specs::Reading::command_of))]
-fn command(name: &[u8], operands: &Line<'_>) -> Result<Command, LineFault>
+pub fn command(name: &[u8], operands: &Line<'_>) -> Result<Command, LineFault>
     ensures value { result ≡ command_of (name.now ∷ words_of operands.now) }
     ensures valid { IfOk result IsValid }
 {

@@ -1,9 +1,10 @@
 //! A line of a text, and where its words end.
 
 ghost use Rattle.std.specs.Prelude.{◌≡◌, ◌<◌, ◌≤◌, ◌==◌, ℕ, [], ◌∷◌, drop, false, length, not, slice_index, take, true, IfNone, IfSome};
+ghost use Rattle.std.specs.Option.{option_map};
 ghost use Rattle.tag_memory.specs.Tags.{is_set};
-ghost use Rattle.trace_text.specs.Lines.{is_blank, is_passed_over, words_of};
-ghost use Rattle.trace_text.specs.Marked.{Ends, StartsWord};
+ghost use Rattle.trace_text.specs.Lines.{is_blank, is_passed_over, split_at_first, words_of};
+ghost use Rattle.trace_text.specs.Marked.{Ends, IsNextWord, StartsWord};
 
 use std::marker::Model;
 use std::simd::prelude::*;
@@ -200,5 +201,48 @@ impl<'a> Line<'a> {
         ensures word { IfSome result (λ parts. words_of self.now ≡ parts.0.now ∷ words_of parts.1) }
     {
         Some(self.from_word()?.split_front())
+    }
+
+    // The first `count` bytes. Where the line is seen, its last word now ends there too.
+    #[inline(always)]
+    fn before(&self, count: usize) -> Line<'a>
+        requires { count ≤ length self.now }
+        ensures { result ≡ take count self.now }
+    {
+        Line {
+            bytes: &self.bytes[..count],
+            is_seen: self.is_seen,
+            stops: self.stops | (1 << (count % LANES)),
+        }
+    }
+
+    // Where the first word from this place on begins, and where it ends.
+    #[inline(always)]
+    fn next_word(&self, place: usize) -> Option<(usize, usize)>
+        requires { place ≤ length self.now }
+        ensures none { IfNone result (words_of (drop place self.now) ≡ []) }
+        ensures word { IfSome result (λ word. IsNextWord self.now place word.0 word.1) }
+    {
+        let blanks = self.after(place).before_word();
+        if blanks == self.bytes.len() - place {
+            return None;
+        }
+        let start = place + blanks;
+        let end = start + self.after(start).before_blank();
+        Some((start, end))
+    }
+
+    /// The parts of the line before and after the first word that is this one. None where no word is.
+    pub fn split_at_word(&self, word: &[u8]) -> Option<(Line<'a>, Line<'a>)>
+        ensures { option_map (λ parts. (words_of parts.0, words_of parts.1)) result ≡ split_at_first word.now (words_of self.now) }
+    {
+        let mut place = 0;
+        while let Some((start, end)) = self.next_word(place) {
+            if &self.bytes[start..end] == word {
+                return Some((self.before(start), self.after(end)));
+            }
+            place = end;
+        }
+        None
     }
 }

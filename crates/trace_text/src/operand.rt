@@ -1,6 +1,6 @@
 //! Registers, numbers, masks and data.
 
-ghost use Rattle.std.specs.Prelude.{◌≡◌, ◌<◌, ◌≤◌, None, Some, IfOk, IfSome, if◌then◌else◌};
+ghost use Rattle.std.specs.Prelude.{◌≡◌, ◌<◌, None, Some, IfOk, IfSome, if◌then◌else◌};
 ghost use Rattle.std.specs.Char.{digit_value, is_digit};
 ghost use Rattle.trace_text.specs.Reading.{data_in, mask_in, number_in, number_of, numeral_of, register_in, register_of};
 ghost use Rattle.tag_memory.specs.Cells.{register_count};
@@ -44,8 +44,9 @@ static HEXADECIMAL_VALUES: [u8; 256] = [
     255, 255, 255,
 ];
 
+/// The value of a hexadecimal digit of either case, and 255 for any other byte.
 #[inline(always)]
-fn hexadecimal_digit(byte: u8) -> u8
+pub fn hexadecimal_digit(byte: u8) -> u8
     ensures { result ≡ (if is_digit byte 16 then digit_value byte else 255) }
 {
     HEXADECIMAL_VALUES[byte as usize]

@@ -4,7 +4,7 @@ ghost use Rattle.std.specs.Prelude.{◌≢◌, ◌≤◌, ◌<◌, ◌+◌, ◌^
 ghost use Rattle.trace_text.specs.Command.{IsListed};
 ghost use Rattle.trace_text.specs.Grammar.{IsFaulty, IsTrace};
 ghost use Rattle.trace_text.specs.Heap.{IsHeap};
-ghost use Rattle.trace_text.specs.Lines.{lines_of, longest_text};
+ghost use Rattle.trace_text.specs.Lines.{lines_of};
 ghost use Rattle.trace_text.specs.Reading.{Gives, commands_from, opening_from, script_of, trace_of};
 
 use crate::fault::TraceFault;
@@ -16,17 +16,18 @@ use std::alloc::Global;
 /// The most bytes that the text of a trace has.
 pub const LONGEST_TEXT: usize = 4_194_304;
 
-// A heap, the number of the line after the heap line, and the text from there on.
+/// A heap, the number of the line after the heap line, and the text from there on.
 #[derive(Clone, Copy)]
-struct Opening<'a> {
-    base: u64,
-    pages: u32,
-    next: u32,
-    rest: &'a [u8],
+pub struct Opening<'a> {
+    pub base: u64,
+    pub pages: u32,
+    pub next: u32,
+    pub rest: &'a [u8],
 }
 
-fn read_heap(text: &[u8]) -> Result<Opening<'_>, TraceFault>
-    requires { length text.now ≤ longest_text }
+/// A text up to its heap line, which is the first that isn't passed over.
+pub fn read_heap(text: &[u8]) -> Result<Opening<'_>, TraceFault>
+    requires { length text.now + 1 < 2 ^ 32 }
     ensures value { Gives (λ o. record { base = o.base; pages = o.pages; next = o.next; rest = lines_of o.rest.now })
         result (opening_from 1 (lines_of text.now)) }
     ensures heap { IfOk result (λ o. IsHeap o.base o.pages) }

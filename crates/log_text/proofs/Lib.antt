@@ -1,0 +1,3 @@
+pub mod AnswerWords
+pub mod Numerals
+pub mod Texts

@@ -1,0 +1,124 @@
+//! The lines that say what happened.
+
+ghost use Rattle.std.specs.Prelude.{◌≡◌, ℕ, List, IfOk, IfSome};
+ghost use Rattle.trace_text.specs.Lines.{words_of};
+ghost use Rattle.trace_text.specs.Reading.{number_in, one_of};
+ghost use Rattle.log_text.specs.Log.{IsValidAsked, IsValidEvent, asked_of, content_in, event_at, event_of, told_of};
+
+use crate::fault::LogFault;
+use crate::given::tag;
+use crate::log::Event;
+use crate::told::answer;
+use trace_text::{
+    Command, Line, LineFault, command, data, one_word, operand_number, split_name, two_words,
+};
+
+/// What stands before a line's arrow: a command, or the address of a granule that was looked at.
+#[derive(Clone, Copy)]
+pub enum Asked {
+    Command(Command),
+    Granule(u64),
+}
+
+// The address of a granule.
+#[tactic(auto, unfolding(trace_text::specs::Reading::one_of))]
+fn address(operands: &Line<'_>) -> Result<u64, LineFault>
+    ensures { result ≡ one_of number_in (words_of operands.now) }
+{
+    let Some(word) = one_word(operands) else {
+        return Err(LineFault::BadCount);
+    };
+    operand_number(word)
+}
+
+// What a name and its operands ask.
+#[tactic(auto, unfolding(crate::specs::Log::asked_of))]
+fn question(name: &[u8], operands: &Line<'_>) -> Result<Asked, LineFault>
+    ensures value { result ≡ asked_of name.now (words_of operands.now) }
+    ensures valid { IfOk result IsValidAsked }
+{
+    if name == b"granule".as_slice() {
+        let address = address(operands)?;
+        return Ok(Asked::Granule(address));
+    }
+    let command = command(name, operands)?;
+    Ok(Asked::Command(command))
+}
+
+// The tag and the bytes of a granule.
+#[tactic(auto, unfolding(crate::specs::Log::content_in, trace_text::specs::Reading::two_of))]
+fn content(line: &Line<'_>) -> Option<(bool, [u8; 16])>
+    ensures { result ≡ content_in (words_of line.now) }
+{
+    let (first, second) = two_words(line)?;
+    let Ok(tag) = tag(first) else { return None };
+    let Ok(bytes) = data(second) else { return None };
+    Some((tag, bytes))
+}
+
+// What was asked, with what was answered.
+#[tactic(auto, unfolding(crate::specs::Log::told_of))]
+fn told(asked: Asked, line: &Line<'_>) -> Option<Event>
+    ensures value { result ≡ told_of asked (words_of line.now) }
+    ensures valid { IsValidAsked asked → IfSome result IsValidEvent }
+{
+    match asked {
+        Asked::Granule(address) => {
+            let (tag, bytes) = content(line)?;
+            Some(Event::Seen {
+                address,
+                tag,
+                bytes,
+            })
+        }
+        Asked::Command(command) => {
+            let answer = answer(line)?;
+            Some(Event::Done { command, answer })
+        }
+    }
+}
+
+// A line with an arrow.
+#[tactic(auto, unfolding(crate::specs::Log::event_of))]
+fn answered(
+    number: u32,
+    name: &[u8],
+    operands: &Line<'_>,
+    line: &Line<'_>,
+) -> Result<Event, LogFault>
+    ensures value { (words : List (List ℕ)) → result ≡ event_of number name.now words (Some (words_of operands.now, words_of line.now)) }
+    ensures valid { IfOk result IsValidEvent }
+{
+    let asked = match question(name, operands) {
+        Ok(asked) => asked,
+        Err(fault) => return Err(LogFault::Trace(fault.at_line(number))),
+    };
+    told(asked, line).ok_or(LogFault::BadAnswer(number))
+}
+
+// What is wrong with a line without an arrow: its words, or that the answer lacks.
+#[tactic(auto, unfolding(crate::specs::Log::event_of))]
+fn unanswered(number: u32, name: &[u8], words: &Line<'_>) -> LogFault
+    ensures { event_of number name.now (words_of words.now) None ≡ Err result }
+{
+    match question(name, words) {
+        Ok(_) => LogFault::BadAnswer(number),
+        Err(fault) => LogFault::Trace(fault.at_line(number)),
+    }
+}
+
+/// What a line after the given lines is: nothing, where it is passed over, or what happened.
+#[tactic(auto, unfolding(crate::specs::Log::event_at))]
+pub fn event_line(number: u32, line: &Line<'_>) -> Result<Option<Event>, LogFault>
+    ensures value { result ≡ event_at number (words_of line.now) }
+    ensures valid { IfOk result (λ read. IfSome read IsValidEvent) }
+{
+    let Some((name, words)) = split_name(line) else {
+        return Ok(None);
+    };
+    let Some((operands, told)) = words.split_at_word(b"->") else {
+        return Err(unanswered(number, name, &words));
+    };
+    let event = answered(number, name, &operands, &told)?;
+    Ok(Some(event))
+}
