@@ -13,6 +13,7 @@ use Rattle.heap_reply.specs.declared.reply.Reply.TheVariants.{Block, BlockAfter,
 use Rattle.heap_reply.specs.declared.reply.Trap.{Trap as TheTrap}
 use Rattle.heap_machine.specs.Dirty.{HasPages, IsDirtied, dirty_after, dirty_by}
 use Rattle.heap_machine.specs.State.{State, register}
+use Rattle.heap_machine.specs.Follow.{Allows, Follows, FollowsAfter, MallocAllows}
 use Rattle.heap_machine.specs.Step.{Effect, Step, StepAfter, checks, first_failed, index_in}
 
 -- ---- lists of granules
@@ -98,11 +99,11 @@ InDirtyPages-put held cells dirty i (bits, true) pages stand k taken =
 
 -- ---- steps
 
-Malloc-dirtied : (old : State) (rd size : ℕ) (r : Reply) (new : State) (dirty : List Bool) → IsDirtied old dirty → Effect old (Malloc rd size) r new → IsDirtied new dirty
+Malloc-dirtied : (old : State) (rd size : ℕ) (r : Reply) (new : State) (dirty : List Bool) → IsDirtied old dirty → MallocAllows old rd size r new → IsDirtied new dirty
 Malloc-dirtied old rd size (Block base top) new dirty stand effect = subst (λ (s : State). IsDirtied s dirty) (sym effect.state) stand
 Malloc-dirtied old rd size (BlockAfter base top cleared) new dirty stand effect =
     subst (λ (s : State). IsDirtied s dirty) (sym effect.1.state) (InDirtyPages-fewer old.heap.painted old.heap.waiting old.cells dirty stand)
-Malloc-dirtied old rd size NoSpace new dirty stand effect = subst (λ (s : State). IsDirtied s dirty) (sym effect.1.state) stand
+Malloc-dirtied old rd size NoSpace new dirty stand effect = subst (λ (s : State). IsDirtied s dirty) (sym effect.state) stand
 Malloc-dirtied old rd size (NoSpaceAfter cleared) new dirty stand effect =
     subst (λ (s : State). IsDirtied s dirty) (sym effect.1.state) (InDirtyPages-fewer old.heap.painted old.heap.waiting old.cells dirty stand)
 Malloc-dirtied old rd size (Held bytes) new dirty stand effect = absurd effect
@@ -113,32 +114,68 @@ Malloc-dirtied old rd size (Begun cleared) new dirty stand effect = absurd effec
 Malloc-dirtied old rd size (Shown shown) new dirty stand effect = absurd effect
 Malloc-dirtied old rd size (Trap trap) new dirty stand effect = absurd effect
 
-Effect-dirtied : (old : State) (c : Command) (r : Reply) (new : State) (dirty : List Bool) → HasPages old dirty → IsDirtied old dirty → Effect old c r new → IsDirtied new (dirty_by None old c dirty)
-Effect-dirtied old (Malloc rd size) r new dirty pages stand effect = Malloc-dirtied old rd size r new dirty stand effect
-Effect-dirtied old (Free rs) r new dirty pages stand effect = subst (λ (s : State). IsDirtied s dirty) (sym effect.1) stand
-Effect-dirtied old (Copy rd rs) r new dirty pages stand effect = subst (λ (s : State). IsDirtied s dirty) (sym effect.1) stand
-Effect-dirtied old (SetAddr rd rs a) r new dirty pages stand effect = subst (λ (s : State). IsDirtied s dirty) (sym effect.1) stand
-Effect-dirtied old (Narrow rd rs n) r new dirty pages stand effect = subst (λ (s : State). IsDirtied s dirty) (sym effect.1) stand
-Effect-dirtied old (AndPerm rd rs mask) r new dirty pages stand effect = subst (λ (s : State). IsDirtied s dirty) (sym effect.1) stand
-Effect-dirtied old (StoreCap ra rs) r new dirty pages stand effect =
+Allows-dirtied : (old : State) (c : Command) (r : Reply) (new : State) (dirty : List Bool) → HasPages old dirty → IsDirtied old dirty → Allows old c r new → IsDirtied new (dirty_by None old c dirty)
+Allows-dirtied old (Malloc rd size) r new dirty pages stand effect = Malloc-dirtied old rd size r new dirty stand effect
+Allows-dirtied old (Free rs) r new dirty pages stand effect = subst (λ (s : State). IsDirtied s dirty) (sym effect.1) stand
+Allows-dirtied old (Copy rd rs) r new dirty pages stand effect = subst (λ (s : State). IsDirtied s dirty) (sym effect.1) stand
+Allows-dirtied old (SetAddr rd rs a) r new dirty pages stand effect = subst (λ (s : State). IsDirtied s dirty) (sym effect.1) stand
+Allows-dirtied old (Narrow rd rs n) r new dirty pages stand effect = subst (λ (s : State). IsDirtied s dirty) (sym effect.1) stand
+Allows-dirtied old (AndPerm rd rs mask) r new dirty pages stand effect = subst (λ (s : State). IsDirtied s dirty) (sym effect.1) stand
+Allows-dirtied old (StoreCap ra rs) r new dirty pages stand effect =
     let c = register old rs in
     subst (λ (s : State). IsDirtied s (dirty_by None old (StoreCap ra rs) dirty)) (sym effect.1)
     (InDirtyPages-put old.heap.painted old.cells dirty (index_in old (register old ra).0) (c.0.bits, c.1) pages stand)
-Effect-dirtied old (LoadCap rd ra) r new dirty pages stand effect = subst (λ (s : State). IsDirtied s dirty) (sym effect.1) stand
-Effect-dirtied old (Write ra bytes) r new dirty pages stand effect =
+Allows-dirtied old (LoadCap rd ra) r new dirty pages stand effect = subst (λ (s : State). IsDirtied s dirty) (sym effect.1) stand
+Allows-dirtied old (Write ra bytes) r new dirty pages stand effect =
     subst (λ (s : State). IsDirtied s dirty) (sym effect.1) (InDirtyPages-put old.heap.painted old.cells dirty (index_in old (register old ra).0) (_, false) pages stand)
-Effect-dirtied old (Show rs) r new dirty pages stand effect = subst (λ (s : State). IsDirtied s dirty) (sym effect.1) stand
-Effect-dirtied old Sweep r new dirty pages stand effect =
+Allows-dirtied old (Show rs) r new dirty pages stand effect = subst (λ (s : State). IsDirtied s dirty) (sym effect.1) stand
+Allows-dirtied old Sweep r new dirty pages stand effect =
     subst (λ (s : State). IsDirtied s dirty) (sym effect.1) (InDirtyPages-fewer old.heap.painted old.heap.waiting old.cells dirty stand)
-Effect-dirtied old Begin r new dirty pages stand effect =
+Allows-dirtied old Begin r new dirty pages stand effect =
     subst (λ (s : State). IsDirtied s (dirty_by None old Begin dirty)) (sym effect.1) (InDirtyPages-swept old.heap.waiting old.cells _)
-Effect-dirtied old End r new dirty pages stand effect =
+Allows-dirtied old End r new dirty pages stand effect =
     subst (λ (s : State). IsDirtied s dirty) (sym effect.1) (InDirtyPages-none (swept_granules old.heap.painted old.cells) dirty)
+
+FollowsAfter-dirtied : (t : Option TheTrap) (old : State) (c : Command) (r : Reply) (new : State) (dirty : List Bool) → HasPages old dirty → IsDirtied old dirty → FollowsAfter t old c r new
+    → IsDirtied new (dirty_by t old c dirty)
+FollowsAfter-dirtied None old c r new dirty pages stand step = Allows-dirtied old c r new dirty pages stand step
+FollowsAfter-dirtied (Some t) old c r new dirty pages stand step = subst (λ (s : State). IsDirtied s dirty) (sym step.1) stand
+
+pub Follows-dirtied : (old : State) (c : Command) (r : Reply) (new : State) (dirty : List Bool) → HasPages old dirty → IsDirtied old dirty → Follows old c r new → IsDirtied new (dirty_after old c dirty)
+Follows-dirtied old c r new dirty pages stand step = FollowsAfter-dirtied (first_failed (checks old c)) old c r new dirty pages stand step
+
+-- A step does so too, whether or not it is a state in which blocks may be claimed.
+Malloc-step_dirtied : (old : State) (rd size : ℕ) (r : Reply) (new : State) (dirty : List Bool) → IsDirtied old dirty → Effect old (Malloc rd size) r new → IsDirtied new dirty
+Malloc-step_dirtied old rd size (Block base top) new dirty stand effect = subst (λ (s : State). IsDirtied s dirty) (sym effect.state) stand
+Malloc-step_dirtied old rd size (BlockAfter base top cleared) new dirty stand effect =
+    subst (λ (s : State). IsDirtied s dirty) (sym effect.1.state) (InDirtyPages-fewer old.heap.painted old.heap.waiting old.cells dirty stand)
+Malloc-step_dirtied old rd size NoSpace new dirty stand effect = subst (λ (s : State). IsDirtied s dirty) (sym effect.1.state) stand
+Malloc-step_dirtied old rd size (NoSpaceAfter cleared) new dirty stand effect =
+    subst (λ (s : State). IsDirtied s dirty) (sym effect.1.state) (InDirtyPages-fewer old.heap.painted old.heap.waiting old.cells dirty stand)
+Malloc-step_dirtied old rd size (Held bytes) new dirty stand effect = absurd effect
+Malloc-step_dirtied old rd size Done new dirty stand effect = absurd effect
+Malloc-step_dirtied old rd size Cleared new dirty stand effect = absurd effect
+Malloc-step_dirtied old rd size (Swept cleared released) new dirty stand effect = absurd effect
+Malloc-step_dirtied old rd size (Begun cleared) new dirty stand effect = absurd effect
+Malloc-step_dirtied old rd size (Shown shown) new dirty stand effect = absurd effect
+Malloc-step_dirtied old rd size (Trap trap) new dirty stand effect = absurd effect
 
 StepAfter-dirtied : (t : Option TheTrap) (old : State) (c : Command) (r : Reply) (new : State) (dirty : List Bool) → HasPages old dirty → IsDirtied old dirty → StepAfter t old c r new
     → IsDirtied new (dirty_by t old c dirty)
-StepAfter-dirtied None old c r new dirty pages stand step = Effect-dirtied old c r new dirty pages stand step
 StepAfter-dirtied (Some t) old c r new dirty pages stand step = subst (λ (s : State). IsDirtied s dirty) (sym step.1) stand
+StepAfter-dirtied None old (Malloc rd size) r new dirty pages stand step = Malloc-step_dirtied old rd size r new dirty stand step
+StepAfter-dirtied None old (Free rs) r new dirty pages stand step = Allows-dirtied old (Free rs) r new dirty pages stand step
+StepAfter-dirtied None old (Copy rd rs) r new dirty pages stand step = Allows-dirtied old (Copy rd rs) r new dirty pages stand step
+StepAfter-dirtied None old (SetAddr rd rs a) r new dirty pages stand step = Allows-dirtied old (SetAddr rd rs a) r new dirty pages stand step
+StepAfter-dirtied None old (Narrow rd rs n) r new dirty pages stand step = Allows-dirtied old (Narrow rd rs n) r new dirty pages stand step
+StepAfter-dirtied None old (AndPerm rd rs mask) r new dirty pages stand step = Allows-dirtied old (AndPerm rd rs mask) r new dirty pages stand step
+StepAfter-dirtied None old (StoreCap ra rs) r new dirty pages stand step = Allows-dirtied old (StoreCap ra rs) r new dirty pages stand step
+StepAfter-dirtied None old (LoadCap rd ra) r new dirty pages stand step = Allows-dirtied old (LoadCap rd ra) r new dirty pages stand step
+StepAfter-dirtied None old (Write ra bytes) r new dirty pages stand step = Allows-dirtied old (Write ra bytes) r new dirty pages stand step
+StepAfter-dirtied None old (Show rs) r new dirty pages stand step = Allows-dirtied old (Show rs) r new dirty pages stand step
+StepAfter-dirtied None old Sweep r new dirty pages stand step = Allows-dirtied old Sweep r new dirty pages stand step
+StepAfter-dirtied None old Begin r new dirty pages stand step = Allows-dirtied old Begin r new dirty pages stand step
+StepAfter-dirtied None old End r new dirty pages stand step = Allows-dirtied old End r new dirty pages stand step
 
 pub Step-dirtied : (old : State) (c : Command) (r : Reply) (new : State) (dirty : List Bool) → HasPages old dirty → IsDirtied old dirty → Step old c r new → IsDirtied new (dirty_after old c dirty)
 Step-dirtied old c r new dirty pages stand step = StepAfter-dirtied (first_failed (checks old c)) old c r new dirty pages stand step

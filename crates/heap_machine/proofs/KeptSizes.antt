@@ -1,25 +1,29 @@
 -- The sizes of a state's parts, which no step changes.
-use Rattle.std.proofs.Common.{◌≡◌, ◌∙◌, ◌*◌, ℕ, Bool, true, false, Option, Some, None, length, set, get_or, cond, eqb, refl, sym, ap, subst, arith}
-use Rattle.std.specs.Prelude.{List, Result, Ok, Err, IfOk, OnErr, OnOk}
+use Rattle.std.proofs.Common.{◌≡◌, ◌∙◌, ◌*◌, ◌-◌, ℕ, Bool, true, false, Option, Some, None, length, set, get_or, cond, eqb, refl, sym, ap, subst, arith}
+use Rattle.std.specs.Prelude.{◌≢◌, List, Result, Ok, Err, IfOk, OnErr, OnOk}
 use Rattle.std.proofs.lemmas.Bool.{eq-eqb, true≢false}
 use Rattle.std.proofs.lemmas.List.{get_or-map, get_or-set_other, length-map, length-set}
 use Rattle.cap_codec.specs.declared.word.Word.{Word}
-use Rattle.heap_core.specs.Place.{with_live}
+use Rattle.heap_core.specs.Place.{with_block}
 use Rattle.sweep_pool.specs.Sweep.{swept_cell, swept_granule}
 use Rattle.tag_memory.specs.Cells.{Cell, Granule, null_cell}
 use Rattle.trace_text.specs.declared.trace.Command.{Command}
 use Rattle.trace_text.specs.declared.trace.Command.TheVariants.{Malloc, Free, Copy, SetAddr, Narrow, AndPerm, StoreCap, LoadCap, Write, Show, Sweep, Begin, End}
+use Rattle.heap_machine.specs.declared.followed.Followed.{Followed}
+use Rattle.heap_machine.specs.declared.followed.Followed.TheVariants.{Agrees, Differs}
 use Rattle.heap_machine.specs.declared.parts.Parts.{Parts}
 use Rattle.heap_machine.specs.declared.fault.MachineFault.{MachineFault}
 use Rattle.heap_reply.specs.declared.reply.Reply.{Reply}
 use Rattle.heap_reply.specs.declared.reply.Reply.TheVariants.{Block, BlockAfter, NoSpace, NoSpaceAfter, Held, Done, Cleared, Swept, Begun, Shown, Trap}
 use Rattle.heap_reply.specs.declared.reply.Trap.{Trap as TheTrap}
 use Rattle.heap_machine.specs.Dirty.{HasPages, IsDirtied, dirty_after}
+use Rattle.heap_machine.specs.Followed.{CanAnswer, IsFollowed}
 use Rattle.heap_machine.specs.Parts.{AreParts, state_of}
 use Rattle.heap_machine.specs.Safety.{FitsTypes, IsSafe}
 use Rattle.heap_machine.specs.Sound.{IsMachine}
 use Rattle.heap_machine.specs.State.{State, with_cell}
-use Rattle.heap_machine.specs.Step.{Effect, HandsOut, HandsOutNone, Step, StepAfter, checks, first_failed, begun, ended, index_in, swept, with_granule}
+use Rattle.heap_machine.specs.Follow.{Allows, Follows, FollowsAfter, MallocAllows, Places, PlacesNone}
+use Rattle.heap_machine.specs.Step.{Step, checks, first_failed, begun, ended, index_in, swept, with_granule}
 
 record HasSizes (s : State) : Type 0 where
   pub granules : 16 * length s.cells ≡ s.heap.size
@@ -64,21 +68,21 @@ HasSizes-ended s sizes = record {
   zero = get_or-map (swept_cell s.heap.painted) s.registers 0 null_cell null_cell (omega (arith, sizes.count)) ∙ ap (swept_cell s.heap.painted) sizes.zero;
 }
 
-HasSizes-live : (s : State) (size a : ℕ) → HasSizes s → HasSizes (record s { heap = with_live s.heap size a })
-HasSizes-live s size a sizes = record { granules = sizes.granules; count = sizes.count; zero = sizes.zero }
+HasSizes-live : (s : State) (a n : ℕ) → HasSizes s → HasSizes (record s { heap = with_block s.heap a n })
+HasSizes-live s a n sizes = record { granules = sizes.granules; count = sizes.count; zero = sizes.zero }
 
-HandsOut-sizes : (old : State) (rd size base top : ℕ) (new : State) → HasSizes old → HandsOut old rd size base top new → HasSizes new
-HandsOut-sizes old rd size base top new sizes out =
-    subst HasSizes (sym out.state) (HasSizes-with (record old { heap = with_live old.heap size base }) rd _ (HasSizes-live old size base sizes))
+Places-sizes : (old : State) (rd size base top : ℕ) (new : State) → HasSizes old → Places old rd size base top new → HasSizes new
+Places-sizes old rd size base top new sizes out =
+    subst HasSizes (sym out.state) (HasSizes-with (record old { heap = with_block old.heap base (top - base) }) rd _ (HasSizes-live old base (top - base) sizes))
 
-HandsOutNone-sizes : (old : State) (rd size : ℕ) (new : State) → HasSizes old → HandsOutNone old rd size new → HasSizes new
-HandsOutNone-sizes old rd size new sizes out = subst HasSizes (sym out.state) (HasSizes-with old rd null_cell sizes)
+PlacesNone-sizes : (old : State) (rd : ℕ) (new : State) → HasSizes old → PlacesNone old rd new → HasSizes new
+PlacesNone-sizes old rd new sizes out = subst HasSizes (sym out.state) (HasSizes-with old rd null_cell sizes)
 
-Malloc-sizes : (old : State) (rd size : ℕ) (r : Reply) (new : State) → HasSizes old → Effect old (Malloc rd size) r new → HasSizes new
-Malloc-sizes old rd size (Block base top) new sizes effect = HandsOut-sizes old rd size base top new sizes effect
-Malloc-sizes old rd size (BlockAfter base top cleared) new sizes effect = HandsOut-sizes (swept old) rd size base top new (HasSizes-swept old sizes) effect.1
-Malloc-sizes old rd size NoSpace new sizes effect = HandsOutNone-sizes old rd size new sizes effect.1
-Malloc-sizes old rd size (NoSpaceAfter cleared) new sizes effect = HandsOutNone-sizes (swept old) rd size new (HasSizes-swept old sizes) effect.1
+Malloc-sizes : (old : State) (rd size : ℕ) (r : Reply) (new : State) → HasSizes old → MallocAllows old rd size r new → HasSizes new
+Malloc-sizes old rd size (Block base top) new sizes effect = Places-sizes old rd size base top new sizes effect
+Malloc-sizes old rd size (BlockAfter base top cleared) new sizes effect = Places-sizes (swept old) rd size base top new (HasSizes-swept old sizes) effect.1
+Malloc-sizes old rd size NoSpace new sizes effect = PlacesNone-sizes old rd new sizes effect
+Malloc-sizes old rd size (NoSpaceAfter cleared) new sizes effect = PlacesNone-sizes (swept old) rd new (HasSizes-swept old sizes) effect.1
 Malloc-sizes old rd size (Held bytes) new sizes effect = absurd effect
 Malloc-sizes old rd size Done new sizes effect = absurd effect
 Malloc-sizes old rd size Cleared new sizes effect = absurd effect
@@ -87,43 +91,76 @@ Malloc-sizes old rd size (Begun cleared) new sizes effect = absurd effect
 Malloc-sizes old rd size (Shown shown) new sizes effect = absurd effect
 Malloc-sizes old rd size (Trap trap) new sizes effect = absurd effect
 
-Effect-sizes : (old : State) (c : Command) (r : Reply) (new : State) → HasSizes old → Effect old c r new → HasSizes new
-Effect-sizes old (Malloc rd size) r new sizes effect = Malloc-sizes old rd size r new sizes effect
-Effect-sizes old (Free rs) r new sizes effect = subst HasSizes (sym effect.1) (record { granules = sizes.granules; count = sizes.count; zero = sizes.zero })
-Effect-sizes old (Copy rd rs) r new sizes effect = subst HasSizes (sym effect.1) (HasSizes-with old rd _ sizes)
-Effect-sizes old (SetAddr rd rs a) r new sizes effect = subst HasSizes (sym effect.1) (HasSizes-with old rd _ sizes)
-Effect-sizes old (Narrow rd rs n) r new sizes effect = subst HasSizes (sym effect.1) (HasSizes-with old rd _ sizes)
-Effect-sizes old (AndPerm rd rs mask) r new sizes effect = subst HasSizes (sym effect.1) (HasSizes-with old rd _ sizes)
-Effect-sizes old (StoreCap ra rs) r new sizes effect = subst HasSizes (sym effect.1) (HasSizes-put old _ _ sizes)
-Effect-sizes old (LoadCap rd ra) r new sizes effect = subst HasSizes (sym effect.1) (HasSizes-with old rd _ sizes)
-Effect-sizes old (Write ra bytes) r new sizes effect = subst HasSizes (sym effect.1) (HasSizes-put old _ _ sizes)
-Effect-sizes old (Show rs) r new sizes effect = subst HasSizes (sym effect.1) sizes
-Effect-sizes old Sweep r new sizes effect = subst HasSizes (sym effect.1) (HasSizes-swept old sizes)
-Effect-sizes old Begin r new sizes effect = subst HasSizes (sym effect.1) (HasSizes-begun old sizes)
-Effect-sizes old End r new sizes effect = subst HasSizes (sym effect.1) (HasSizes-ended old sizes)
+Allows-sizes : (old : State) (c : Command) (r : Reply) (new : State) → HasSizes old → Allows old c r new → HasSizes new
+Allows-sizes old (Malloc rd size) r new sizes effect = Malloc-sizes old rd size r new sizes effect
+Allows-sizes old (Free rs) r new sizes effect = subst HasSizes (sym effect.1) (record { granules = sizes.granules; count = sizes.count; zero = sizes.zero })
+Allows-sizes old (Copy rd rs) r new sizes effect = subst HasSizes (sym effect.1) (HasSizes-with old rd _ sizes)
+Allows-sizes old (SetAddr rd rs a) r new sizes effect = subst HasSizes (sym effect.1) (HasSizes-with old rd _ sizes)
+Allows-sizes old (Narrow rd rs n) r new sizes effect = subst HasSizes (sym effect.1) (HasSizes-with old rd _ sizes)
+Allows-sizes old (AndPerm rd rs mask) r new sizes effect = subst HasSizes (sym effect.1) (HasSizes-with old rd _ sizes)
+Allows-sizes old (StoreCap ra rs) r new sizes effect = subst HasSizes (sym effect.1) (HasSizes-put old _ _ sizes)
+Allows-sizes old (LoadCap rd ra) r new sizes effect = subst HasSizes (sym effect.1) (HasSizes-with old rd _ sizes)
+Allows-sizes old (Write ra bytes) r new sizes effect = subst HasSizes (sym effect.1) (HasSizes-put old _ _ sizes)
+Allows-sizes old (Show rs) r new sizes effect = subst HasSizes (sym effect.1) sizes
+Allows-sizes old Sweep r new sizes effect = subst HasSizes (sym effect.1) (HasSizes-swept old sizes)
+Allows-sizes old Begin r new sizes effect = subst HasSizes (sym effect.1) (HasSizes-begun old sizes)
+Allows-sizes old End r new sizes effect = subst HasSizes (sym effect.1) (HasSizes-ended old sizes)
 
-StepAfter-sizes : (t : Option TheTrap) (old : State) (c : Command) (r : Reply) (new : State) → HasSizes old → StepAfter t old c r new → HasSizes new
-StepAfter-sizes None old c r new sizes step = Effect-sizes old c r new sizes step
-StepAfter-sizes (Some t) old c r new sizes step = subst HasSizes (sym step.1) sizes
+FollowsAfter-sizes : (t : Option TheTrap) (old : State) (c : Command) (r : Reply) (new : State) → HasSizes old → FollowsAfter t old c r new → HasSizes new
+FollowsAfter-sizes None old c r new sizes step = Allows-sizes old c r new sizes step
+FollowsAfter-sizes (Some t) old c r new sizes step = subst HasSizes (sym step.1) sizes
 
--- A step to a safe state is one to a sound state.
-Step-sound : (old : State) (c : Command) (r : Reply) (new : State) → IsMachine old → IsSafe new → Step old c r new → IsMachine new
-Step-sound old c r new sound safe step =
+-- What is allowed and leads to a safe state leads to a sound state.
+Follows-sound : (old : State) (c : Command) (r : Reply) (new : State) → IsMachine old → IsSafe new → Follows old c r new → IsMachine new
+Follows-sound old c r new sound safe step =
     let before : HasSizes old = record { granules = sound.granules; count = sound.count; zero = sound.zero } in
-    let sizes = StepAfter-sizes (first_failed (checks old c)) old c r new before step in
+    let sizes = FollowsAfter-sizes (first_failed (checks old c)) old c r new before step in
     record { granules = sizes.granules; count = sizes.count; zero = sizes.zero; safe = safe }
 
 -- The parts of a machine after a command, or after want of memory.
-pub AreParts-after : ((s : State) (c : Command) (r : Reply) (t : State) → IsSafe s → FitsTypes c → Step s c r t → IsSafe t)
-    → ((s : State) (c : Command) (r : Reply) (t : State) (dirty : List Bool) → HasPages s dirty → IsDirtied s dirty → Step s c r t → IsDirtied t (dirty_after s c dirty))
+pub AreParts-after : ((s : State) (c : Command) (r : Reply) (t : State) → IsSafe s → FitsTypes c → Follows s c r t → IsSafe t)
+    → ((s : State) (c : Command) (r : Reply) (t : State) (dirty : List Bool) → HasPages s dirty → IsDirtied s dirty → Follows s c r t → IsDirtied t (dirty_after s c dirty))
     → (old new : Parts) (c : Command) (result : Result Reply MachineFault) → AreParts old → HasPages (state_of old) old.memory.dirty → FitsTypes c
-    → IfOk result (λ r. Step (state_of old) c r (state_of new)) → OnOk result (new.memory.dirty ≡ dirty_after (state_of old) c old.memory.dirty)
+    → IfOk result (λ r. Follows (state_of old) c r (state_of new)) → OnOk result (new.memory.dirty ≡ dirty_after (state_of old) c old.memory.dirty)
     → OnErr result (new ≡ old) → new.memory.base ≡ new.heap.base → AreParts new
-AreParts-after safely dirtied old new c (Ok r) parts pages fits step marks err base =
-    let safe = safely (state_of old) c r (state_of new) parts.sound.safe fits step in
+AreParts-after safely dirtied old new c (Ok r) parts pages fits follows marks err base =
+    let safe = safely (state_of old) c r (state_of new) parts.sound.safe fits follows in
     record {
       base = base;
-      sound = Step-sound (state_of old) c r (state_of new) parts.sound safe step;
-      dirtied = subst (IsDirtied (state_of new)) (sym marks) (dirtied (state_of old) c r (state_of new) old.memory.dirty pages parts.dirtied step);
+      sound = Follows-sound (state_of old) c r (state_of new) parts.sound safe follows;
+      dirtied = subst (IsDirtied (state_of new)) (sym marks) (dirtied (state_of old) c r (state_of new) old.memory.dirty pages parts.dirtied follows);
     }
-AreParts-after safely dirtied old new c (Err fault) parts pages fits step marks err base = subst AreParts (sym err) parts
+AreParts-after safely dirtied old new c (Err fault) parts pages fits follows marks err base = subst AreParts (sym err) parts
+
+-- The parts after a command that was answered: the answer agrees, or nothing has changed.
+pub AreParts-followed : ((s : State) (c : Command) (r : Reply) (t : State) → IsSafe s → FitsTypes c → Follows s c r t → IsSafe t)
+    → ((s : State) (c : Command) (r : Reply) (t : State) (dirty : List Bool) → HasPages s dirty → IsDirtied s dirty → Follows s c r t → IsDirtied t (dirty_after s c dirty))
+    → (old new : Parts) (c : Command) (answer : Reply) (result : Result Followed MachineFault) → AreParts old → HasPages (state_of old) old.memory.dirty → FitsTypes c
+    → IfOk result (λ followed. IsFollowed (state_of old) c answer followed (state_of new))
+    → (result ≡ Ok Agrees → new.memory.dirty ≡ dirty_after (state_of old) c old.memory.dirty) → (result ≢ Ok Agrees → new ≡ old) → new.memory.base ≡ new.heap.base → AreParts new
+AreParts-followed safely dirtied old new c answer (Ok Agrees) parts pages fits followed marks still base =
+    AreParts-after safely dirtied old new c (Ok answer) parts pages fits followed (marks refl) tt base
+AreParts-followed safely dirtied old new c answer (Ok (Differs why)) parts pages fits followed marks still base = subst AreParts (sym (still (λ is. absurd cc))) parts
+AreParts-followed safely dirtied old new c answer (Err fault) parts pages fits followed marks still base = subst AreParts (sym (still (λ is. absurd cc))) parts
+
+-- What holds of an answer that agrees.
+pub Agrees-holds : (P : Type 0) (old new : State) (c : Command) (answer : Reply) (result : Result Followed MachineFault)
+    → IfOk result (λ followed. IsFollowed old c answer followed new) → (Follows old c answer new → P) → result ≡ Ok Agrees → P
+Agrees-holds P old new c answer (Ok Agrees) followed holds is = holds followed
+Agrees-holds P old new c answer (Ok (Differs why)) followed holds is = absurd cc
+Agrees-holds P old new c answer (Err fault) followed holds is = absurd cc
+
+-- What holds of a command that was done where its one reply is the one that was expected.
+pub record IsServedAs (old new : Parts) (c : Command) (answer : Reply) (result : Result Reply MachineFault) : Type 0 where
+  pub step : IfOk result (λ r. answer ≡ r → Step (state_of old) c r (state_of new))
+  pub other : IfOk result (λ r. answer ≢ r → CanAnswer (state_of old) c r)
+  pub still : IfOk result (λ r. answer ≢ r → new ≡ old)
+  pub dirty : IfOk result (λ r. answer ≡ r → new.memory.dirty ≡ dirty_after (state_of old) c old.memory.dirty)
+
+pub IsServedAs-done : (old new : Parts) (c : Command) (answer due : Reply) (result : Result Reply MachineFault) → answer ≡ due
+    → ((r : Reply) (t : State) → Step (state_of old) c r t → r ≡ due) → IfOk result (λ r. Step (state_of old) c r (state_of new))
+    → OnOk result (new.memory.dirty ≡ dirty_after (state_of old) c old.memory.dirty) → IsServedAs old new c answer result
+IsServedAs-done old new c answer due (Ok r) same only step dirty =
+    let is : answer ≡ r = same ∙ sym (only r (state_of new) step) in
+    record { step = λ _. step; other = λ no. absurd (no is); still = λ no. absurd (no is); dirty = λ _. dirty }
+IsServedAs-done old new c answer due (Err fault) same only step dirty = record { step = tt; other = tt; still = tt; dirty = tt }

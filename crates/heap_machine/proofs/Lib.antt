@@ -2,9 +2,11 @@ mod BlockLists
 mod ClearedRegisters
 mod CountLaws
 mod DirtyLaws
+mod FollowLaws
 mod FreedBlock
 mod GuardLaws
 mod KeptSizes
+mod MakingLaws
 mod NewBlock
 mod PassedChecks
 mod OnePlace

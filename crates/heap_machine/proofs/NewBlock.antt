@@ -1,15 +1,14 @@
 -- One more live block, and its capability, keep a state safe.
-use Rattle.std.proofs.Common.{◌≡◌, ◌<◌, ◌+◌, ℕ, true, inl, inr, subst, sym, arith}
+use Rattle.std.proofs.Common.{◌≡◌, ◌<◌, ◌+◌, ◌-◌, ℕ, true, inl, inr, subst, sym, arith}
 use Rattle.cap_codec.specs.declared.word.Bounds.{Bounds}
 use Rattle.cap_codec.specs.declared.word.Word.{Word}
 use Rattle.heap_core.specs.Blocks.{Span, end_of, start_of}
 use Rattle.heap_core.specs.Heap.{HeapState, IsSound as IsSoundHeap}
-use Rattle.heap_core.specs.Place.{block_length, with_live}
+use Rattle.heap_core.specs.Place.{with_block}
 use Rattle.heap_machine.specs.Safety.{IsGuarded, IsLiveOrHeld, IsSafe, LieIn}
 use Rattle.heap_machine.specs.State.{State, with_cell}
 use Rattle.cap_codec.specs.Words.{bounds_in}
 use Rattle.heap_machine.proofs.BlockLists.{Contains-new, Contains-still}
-use Rattle.heap_machine.proofs.GuardLaws.{IsInside-block}
 use Rattle.heap_machine.proofs.SoundLaws.{IsSafe-in, IsSafe-with}
 
 -- ---- cells
@@ -23,17 +22,17 @@ IsGuarded-block heap w block there some is =
 
 -- ---- states
 
-still_there : (heap : HeapState) (size a : ℕ) (block : Span) → IsLiveOrHeld heap block → IsLiveOrHeld (with_live heap size a) block
-still_there heap size a block (inl live) = inl (Contains-still (a, block_length size) heap.live block live)
-still_there heap size a block (inr held) = inr held
+still_there : (heap : HeapState) (a length : ℕ) (block : Span) → IsLiveOrHeld heap block → IsLiveOrHeld (with_block heap a length) block
+still_there heap a length block (inl live) = inl (Contains-still (a, length) heap.live block live)
+still_there heap a length block (inr held) = inr held
 
 -- The block may be handed out by the word that has its bounds.
-pub IsSafe-new : (s : State) (rd size a : ℕ) (w : Word) → IsSafe s → IsSoundHeap (with_live s.heap size a)
-    → bounds_in w ≡ record { base = a; top = a + block_length size } → IsSafe (record (with_cell s rd (w, true)) { heap = with_live s.heap size a })
-IsSafe-new s rd size a w safe sound is =
-    let block : Span = (a, block_length size) in
-    let new = with_live s.heap size a in
+pub IsSafe-new : (s : State) (rd base top : ℕ) (w : Word) → IsSafe s → base < top → IsSoundHeap (with_block s.heap base (top - base))
+    → bounds_in w ≡ record { base = base; top = top } → IsSafe (record (with_cell s rd (w, true)) { heap = with_block s.heap base (top - base) })
+IsSafe-new s rd base top w safe order sound is =
+    let block : Span = (base, top - base) in
+    let new = with_block s.heap base (top - base) in
     let there : IsLiveOrHeld new block = inl (Contains-new block s.heap.live) in
-    let inside = IsInside-block new block sound there in
-    let some : a < a + block_length size = omega (arith, inside.some) in
-    IsSafe-with (record s { heap = new }) rd (w, true) (IsSafe-in s new sound (still_there s.heap size a) safe) (IsGuarded-block new w block there some is)
+    let end : top ≡ base + (top - base) = omega (arith, order) in
+    let bounds : bounds_in w ≡ record { base = base; top = base + (top - base) } = subst (λ (t : ℕ). bounds_in w ≡ record { base = base; top = t }) end is in
+    IsSafe-with (record s { heap = new }) rd (w, true) (IsSafe-in s new sound (still_there s.heap base (top - base)) safe) (IsGuarded-block new w block there (omega (arith, order)) bounds)

@@ -13,7 +13,8 @@ use Rattle.heap_reply.specs.declared.reply.Trap.{Trap as TheTrap}
 use Rattle.heap_reply.specs.declared.reply.Trap.TheVariants.{NotOpen, Open}
 use Rattle.heap_machine.specs.Safety.{AreInUse, AreInUseOrWaiting, HoldsGuarded, IsGuarded, IsInUse, IsInUseOrWaiting, IsSafe, LeavesBlocksInUse, LeavesInUse, LeavesSwept, TellsNoSweep}
 use Rattle.heap_machine.specs.State.{State}
-use Rattle.heap_machine.specs.Step.{Effect, Step, StepAfter, checks, first_failed}
+use Rattle.heap_machine.specs.Follow.{Allows, Follows, FollowsAfter, MallocAllows}
+use Rattle.heap_machine.specs.Step.{checks, first_failed}
 
 nowhere : (blocks : List Span) (block : Span) → blocks ≡ [] → Contains blocks block → ⊥
 nowhere blocks block none there = (let here : Contains [] block = subst (λ (bs : List Span). Contains bs block) none there in absurd (omega (arith, here.1)))
@@ -59,7 +60,7 @@ either_way true = tt
 either_way false = tt
 
 -- What a malloc leaves: after a sweep no block is held.
-Malloc-leaves : (old : State) (rd size : ℕ) (r : Reply) (new : State) → IsSafe new → Effect old (Malloc rd size) r new → LeavesBlocksInUse r new
+Malloc-leaves : (old : State) (rd size : ℕ) (r : Reply) (new : State) → IsSafe new → MallocAllows old rd size r new → LeavesBlocksInUse r new
 Malloc-leaves old rd size (Block base top) new safe effect = tt
 Malloc-leaves old rd size (BlockAfter base top cleared) new safe effect = AreInUse-swept new safe (ap (λ (s : State). s.heap.is_open) effect.1.state ∙ effect.0.may.closed) (ap (λ (s : State). s.heap.waiting) effect.1.state)
 Malloc-leaves old rd size NoSpace new safe effect = tt
@@ -74,7 +75,7 @@ Malloc-leaves old rd size (Trap trap) new safe effect = effect
 
 -- Where the command's checks pass, and where one fails.
 After-silent : (t : Option TheTrap) (old : State) (c : Command) (r : Reply) (new : State)
-    → (Effect old c r new → TellsNoSweep r) → StepAfter t old c r new → TellsNoSweep r
+    → (Allows old c r new → TellsNoSweep r) → FollowsAfter t old c r new → TellsNoSweep r
 After-silent None old c r new effect step = effect step
 After-silent (Some t) old c r new effect step = silent r (Trap t) tt step.0
 
@@ -87,27 +88,27 @@ trapped P r new t same = subst (λ (reply : Reply). LeavesSwept P reply new) (sy
 
 -- A sweep is done where no epoch is open, and none is after it.
 Sweep-leaves : (is_open : Bool) (old : State) (r : Reply) (new : State) → old.heap.is_open ≡ is_open → IsSafe new
-    → StepAfter (first_failed ((not is_open, Open) ∷ [])) old Sweep r new → LeavesSwept AreInUse r new
+    → FollowsAfter (first_failed ((not is_open, Open) ∷ [])) old Sweep r new → LeavesSwept AreInUse r new
 Sweep-leaves true old r new opened safe step = trapped AreInUse r new Open step.0
 Sweep-leaves false old r new closed safe step =
     swept_reply AreInUse r new _ _ (AreInUse-swept new safe (ap (λ (s : State). s.heap.is_open) step.1 ∙ closed) (ap (λ (s : State). s.heap.waiting) step.1)) step.0
 
 End-leaves : (is_open : Bool) (old : State) (r : Reply) (new : State) → IsSafe new
-    → StepAfter (first_failed ((is_open, NotOpen) ∷ [])) old End r new → LeavesSwept AreInUseOrWaiting r new
+    → FollowsAfter (first_failed ((is_open, NotOpen) ∷ [])) old End r new → LeavesSwept AreInUseOrWaiting r new
 End-leaves true old r new safe step = swept_reply AreInUseOrWaiting r new _ _ (AreInUseOrWaiting-ended new safe (ap (λ (s : State). s.heap.painted) step.1)) step.0
 End-leaves false old r new safe step = trapped AreInUseOrWaiting r new NotOpen step.0
 
-pub Step-revoked : (old : State) (c : Command) (r : Reply) (new : State) → IsSafe new → Step old c r new → LeavesInUse c r new
-Step-revoked old (Malloc rd size) r new safe step = Malloc-leaves old rd size r new safe step
-Step-revoked old (Free rs) r new safe step = After-silent (first_failed (checks old (Free rs))) old (Free rs) r new (λ e. silent r _ tt e.0) step
-Step-revoked old (Copy rd rs) r new safe step = silent r Done tt step.0
-Step-revoked old (SetAddr rd rs a) r new safe step = silent r _ (either_way _) step.0
-Step-revoked old (Narrow rd rs n) r new safe step = After-silent (first_failed (checks old (Narrow rd rs n))) old (Narrow rd rs n) r new (λ e. silent r Done tt e.0) step
-Step-revoked old (AndPerm rd rs mask) r new safe step = silent r Done tt step.0
-Step-revoked old (StoreCap ra rs) r new safe step = After-silent (first_failed (checks old (StoreCap ra rs))) old (StoreCap ra rs) r new (λ e. silent r Done tt e.0) step
-Step-revoked old (LoadCap rd ra) r new safe step = After-silent (first_failed (checks old (LoadCap rd ra))) old (LoadCap rd ra) r new (λ e. silent r Done tt e.0) step
-Step-revoked old (Write ra bytes) r new safe step = After-silent (first_failed (checks old (Write ra bytes))) old (Write ra bytes) r new (λ e. silent r Done tt e.0) step
-Step-revoked old (Show rs) r new safe step = silent r _ tt step.0
-Step-revoked old Sweep r new safe step = Sweep-leaves old.heap.is_open old r new refl safe step
-Step-revoked old Begin r new safe step = After-silent (first_failed (checks old Begin)) old Begin r new (λ e. silent r _ tt e.0) step
-Step-revoked old End r new safe step = End-leaves old.heap.is_open old r new safe step
+pub Follows-revoked : (old : State) (c : Command) (r : Reply) (new : State) → IsSafe new → Follows old c r new → LeavesInUse c r new
+Follows-revoked old (Malloc rd size) r new safe step = Malloc-leaves old rd size r new safe step
+Follows-revoked old (Free rs) r new safe step = After-silent (first_failed (checks old (Free rs))) old (Free rs) r new (λ e. silent r _ tt e.0) step
+Follows-revoked old (Copy rd rs) r new safe step = silent r Done tt step.0
+Follows-revoked old (SetAddr rd rs a) r new safe step = silent r _ (either_way _) step.0
+Follows-revoked old (Narrow rd rs n) r new safe step = After-silent (first_failed (checks old (Narrow rd rs n))) old (Narrow rd rs n) r new (λ e. silent r Done tt e.0) step
+Follows-revoked old (AndPerm rd rs mask) r new safe step = silent r Done tt step.0
+Follows-revoked old (StoreCap ra rs) r new safe step = After-silent (first_failed (checks old (StoreCap ra rs))) old (StoreCap ra rs) r new (λ e. silent r Done tt e.0) step
+Follows-revoked old (LoadCap rd ra) r new safe step = After-silent (first_failed (checks old (LoadCap rd ra))) old (LoadCap rd ra) r new (λ e. silent r Done tt e.0) step
+Follows-revoked old (Write ra bytes) r new safe step = After-silent (first_failed (checks old (Write ra bytes))) old (Write ra bytes) r new (λ e. silent r Done tt e.0) step
+Follows-revoked old (Show rs) r new safe step = silent r _ tt step.0
+Follows-revoked old Sweep r new safe step = Sweep-leaves old.heap.is_open old r new refl safe step
+Follows-revoked old Begin r new safe step = After-silent (first_failed (checks old Begin)) old Begin r new (λ e. silent r _ tt e.0) step
+Follows-revoked old End r new safe step = End-leaves old.heap.is_open old r new safe step

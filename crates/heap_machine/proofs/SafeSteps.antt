@@ -1,12 +1,12 @@
--- From a safe state each step leads to a safe one.
-use Rattle.std.proofs.Common.{◌≡◌, ◌∙◌, ◌<◌, ◌≤◌, ◌+◌, ◌&&◌, ◌^◌, ℕ, Bool, true, false, Option, Some, None, [], inl, cond, refl, sym, subst, arith}
+-- From a safe state each answer that is allowed leads to a safe one.
+use Rattle.std.proofs.Common.{◌≡◌, ◌∙◌, ◌<◌, ◌≤◌, ◌+◌, ◌-◌, ◌&&◌, ◌^◌, ℕ, Bool, true, false, Option, Some, None, [], cond, refl, sym, subst, arith}
 use Rattle.std.specs.Prelude.{◌↔◌, IsTrue, nat_le, not}
 use Rattle.std.proofs.lemmas.Bool.{and_parts, leb-true}
 use Rattle.cap_codec.specs.declared.word.Word.{Word}
 use Rattle.cap_codec.specs.Rounding.{IsExact, outward}
 use Rattle.heap_core.specs.Blocks.{is_block}
 use Rattle.heap_core.specs.Heap.{HeapState, IsSound as IsSoundHeap}
-use Rattle.heap_core.specs.Place.{IsFree, block_length, with_live}
+use Rattle.heap_core.specs.Place.{IsFreeBlock, with_block}
 use Rattle.heap_core.specs.Quarantine.{is_held_block, with_epoch, with_waiting, without_epoch, without_waiting}
 use Rattle.tag_memory.specs.Cells.{null_cell}
 use Rattle.trace_text.specs.declared.trace.Command.{Command}
@@ -18,22 +18,21 @@ use Rattle.heap_reply.specs.declared.reply.Trap.TheVariants.{Open}
 use Rattle.heap_machine.specs.Safety.{FitsTypes, IsSafe}
 use Rattle.heap_machine.specs.State.{State, register}
 use Rattle.cap_codec.specs.Words.{address_in, allows, bounds_in, capability_of, is_exact, keeps_bounds, lie_within, load_capability, narrowed, with_address, with_perms}
-use Rattle.heap_machine.specs.Step.{Effect, HandsOut, HandsOutNone, Step, StepAfter, checks, first_failed, granule_at, swept}
-use Rattle.heap_machine.proofs.BlockLists.{Contains-new}
+use Rattle.heap_machine.specs.Follow.{Allows, Follows, FollowsAfter, MallocAllows, Places, PlacesNone}
+use Rattle.heap_machine.specs.Step.{Effect, checks, first_failed, granule_at, swept}
 use Rattle.heap_machine.proofs.FreedBlock.{IsSafe-waiting}
-use Rattle.heap_machine.proofs.GuardLaws.{IsGuarded-kept, IsGuarded-narrowed, IsGuarded-untagged, IsInside-block}
+use Rattle.heap_machine.proofs.GuardLaws.{IsGuarded-kept, IsGuarded-narrowed, IsGuarded-untagged}
 use Rattle.heap_machine.proofs.NewBlock.{IsSafe-new}
 use Rattle.heap_machine.proofs.SoundLaws.{FitsAddresses-state, HoldsGuarded-at, IsGuarded-register, IsSafe-put, IsSafe-with, LiesInside-register}
 use Rattle.heap_machine.proofs.SweptState.{IsSafe-begun, IsSafe-ended, IsSafe-swept}
 
 -- What the crates below say of words and of heaps.
 pub record Laws : Type 0 where
-  pub live : (s : HeapState) (size a : ℕ) → IsSoundHeap s → IsFree s size a → IsSoundHeap (with_live s size a)
+  pub live : (s : HeapState) (a length : ℕ) → IsSoundHeap s → IsFreeBlock s a length → IsSoundHeap (with_block s a length)
   pub waiting : (s : HeapState) (base top : ℕ) → IsSoundHeap s → is_block s.live base top ≡ true → IsSoundHeap (with_waiting s base top)
   pub free : (s : HeapState) → IsSoundHeap s → IsSoundHeap (without_waiting s)
   pub begun : (s : HeapState) → IsSoundHeap s → IsSoundHeap (with_epoch s)
   pub ended : (s : HeapState) → IsSoundHeap s → IsSoundHeap (without_epoch s)
-  pub exact : (s : HeapState) (size a : ℕ) → IsSoundHeap s → IsFree s size a → IsExact a (a + block_length size)
   pub narrowed : (w : Word) (base top : ℕ) → base < 2 ^ 64 → base ≤ top → top ≤ 2 ^ 64 → bounds_in (narrowed w base top) ≡ outward base top
   pub capability : (base top : ℕ) → base < 2 ^ 64 → base ≤ top → top ≤ 2 ^ 64 → bounds_in (capability_of base top) ≡ outward base top
   pub tested : (base top : ℕ) → IsTrue (is_exact base top) ↔ IsExact base top
@@ -58,33 +57,26 @@ all_four false b c d x y z t e = absurd cc
 
 -- ---- commands
 
--- A new block is not empty.
-some_bytes : (heap : HeapState) (size a : ℕ) → IsSoundHeap (with_live heap size a) → 0 < block_length size
-some_bytes heap size a sound = (IsInside-block (with_live heap size a) (a, block_length size) sound (inl (Contains-new (a, block_length size) heap.live))).some
-
-HandsOut-safe : Laws → (old : State) (rd size base top : ℕ) (new : State) → IsSafe old → HandsOut old rd size base top new → IsSafe new
-HandsOut-safe laws old rd size base top new safe out =
-    let free = out.place.free in
-    let heap = laws.live old.heap size base safe.heap free in
+Places-safe : Laws → (old : State) (rd size base top : ℕ) (new : State) → IsSafe old → Places old rd size base top new → IsSafe new
+Places-safe laws old rd size base top new safe out =
+    let free = out.may.free in
+    let heap = laws.live old.heap base (top - base) safe.heap free in
     let fits = FitsAddresses-state old safe in
-    let room : base + block_length size ≤ 2 ^ 64 = omega (arith, free.end, fits.end) in
-    let some = some_bytes old.heap size base heap in
-    let is = laws.capability base (base + block_length size) (omega (arith, room, some)) (omega arith) room ∙ laws.exact old.heap size base safe.heap free in
-    let word : bounds_in (capability_of base top) ≡ record { base = base; top = base + block_length size } =
-    subst (λ (t : ℕ). bounds_in (capability_of base t) ≡ record { base = base; top = base + block_length size }) (sym out.end) is in
-    subst IsSafe (sym out.state) (IsSafe-new old rd size base (capability_of base top) safe heap word)
+    let room : top ≤ 2 ^ 64 = omega (arith, free.end, fits.end, out.may.order) in
+    let is = laws.capability base top (omega (arith, room, out.may.order)) (omega (arith, out.may.order)) room ∙ out.may.exact in
+    subst IsSafe (sym out.state) (IsSafe-new old rd base top (capability_of base top) safe out.may.order heap is)
 
-HandsOutNone-safe : (old : State) (rd size : ℕ) (new : State) → IsSafe old → HandsOutNone old rd size new → IsSafe new
-HandsOutNone-safe old rd size new safe out = subst IsSafe (sym out.state) (IsSafe-with old rd null_cell safe (IsGuarded-untagged old.heap _))
+PlacesNone-safe : (old : State) (rd : ℕ) (new : State) → IsSafe old → PlacesNone old rd new → IsSafe new
+PlacesNone-safe old rd new safe out = subst IsSafe (sym out.state) (IsSafe-with old rd null_cell safe (IsGuarded-untagged old.heap _))
 
 swept-safe : Laws → (s : State) → IsSafe s → IsSafe (swept s)
 swept-safe laws s safe = IsSafe-swept s safe (laws.free s.heap safe.heap)
 
-Malloc-safe : Laws → (old : State) (rd size : ℕ) (r : Reply) (new : State) → IsSafe old → Effect old (Malloc rd size) r new → IsSafe new
-Malloc-safe laws old rd size (Block base top) new safe effect = HandsOut-safe laws old rd size base top new safe effect
-Malloc-safe laws old rd size (BlockAfter base top cleared) new safe effect = HandsOut-safe laws (swept old) rd size base top new (swept-safe laws old safe) effect.1
-Malloc-safe laws old rd size NoSpace new safe effect = HandsOutNone-safe old rd size new safe effect.1
-Malloc-safe laws old rd size (NoSpaceAfter cleared) new safe effect = HandsOutNone-safe (swept old) rd size new (swept-safe laws old safe) effect.1
+Malloc-safe : Laws → (old : State) (rd size : ℕ) (r : Reply) (new : State) → IsSafe old → MallocAllows old rd size r new → IsSafe new
+Malloc-safe laws old rd size (Block base top) new safe effect = Places-safe laws old rd size base top new safe effect
+Malloc-safe laws old rd size (BlockAfter base top cleared) new safe effect = Places-safe laws (swept old) rd size base top new (swept-safe laws old safe) effect.1
+Malloc-safe laws old rd size NoSpace new safe effect = PlacesNone-safe old rd new safe effect
+Malloc-safe laws old rd size (NoSpaceAfter cleared) new safe effect = PlacesNone-safe (swept old) rd new (swept-safe laws old safe) effect.1
 Malloc-safe laws old rd size (Held bytes) new safe effect = absurd effect
 Malloc-safe laws old rd size Done new safe effect = absurd effect
 Malloc-safe laws old rd size Cleared new safe effect = absurd effect
@@ -118,45 +110,45 @@ Narrow-safe laws old rd rs n r new safe passed effect =
     let guarded = IsGuarded-narrowed old.heap (narrowed c.0 a (a + n)) true c a (a + n) (IsGuarded-register old rs safe) all.0 is from (omega (arith, some)) end in
     subst IsSafe (sym effect.1) (IsSafe-with old rd (narrowed c.0 a (a + n), true) safe guarded)
 
-Effect-safe : Laws → (old : State) (c : Command) (r : Reply) (new : State) → IsSafe old → FitsTypes c → first_failed (checks old c) ≡ None → Effect old c r new → IsSafe new
-Effect-safe laws old (Malloc rd size) r new safe fits passed effect = Malloc-safe laws old rd size r new safe effect
-Effect-safe laws old (Free rs) r new safe fits passed effect =
+Allows-safe : Laws → (old : State) (c : Command) (r : Reply) (new : State) → IsSafe old → FitsTypes c → first_failed (checks old c) ≡ None → Allows old c r new → IsSafe new
+Allows-safe laws old (Malloc rd size) r new safe fits passed effect = Malloc-safe laws old rd size r new safe effect
+Allows-safe laws old (Free rs) r new safe fits passed effect =
     let c = register old rs in
     let b = bounds_in c.0 in
     let all = all_three c.1 (not (is_held_block old.heap b.base b.top)) (is_block old.heap.live b.base b.top) _ _ _ passed in
     subst IsSafe (sym effect.1) (IsSafe-waiting old b.base b.top safe (laws.waiting old.heap b.base b.top safe.heap all.2))
-Effect-safe laws old (Copy rd rs) r new safe fits passed effect = subst IsSafe (sym effect.1) (IsSafe-with old rd (register old rs) safe (IsGuarded-register old rs safe))
-Effect-safe laws old (SetAddr rd rs a) r new safe fits passed effect =
+Allows-safe laws old (Copy rd rs) r new safe fits passed effect = subst IsSafe (sym effect.1) (IsSafe-with old rd (register old rs) safe (IsGuarded-register old rs safe))
+Allows-safe laws old (SetAddr rd rs a) r new safe fits passed effect =
     let c = register old rs in
     let keeps = keeps_bounds c.0 a in
     let guarded = IsGuarded-kept old.heap (with_address c.0 a) (c.1 && keeps) c (IsGuarded-register old rs safe)
     (λ e. (and_parts c.1 keeps e).0) (λ e. laws.moved c.0 a fits (and_parts c.1 keeps e).1) in
     subst IsSafe (sym effect.1) (IsSafe-with old rd (with_address c.0 a, c.1 && keeps) safe guarded)
-Effect-safe laws old (Narrow rd rs n) r new safe fits passed effect = Narrow-safe laws old rd rs n r new safe passed effect
-Effect-safe laws old (AndPerm rd rs mask) r new safe fits passed effect =
+Allows-safe laws old (Narrow rd rs n) r new safe fits passed effect = Narrow-safe laws old rd rs n r new safe passed effect
+Allows-safe laws old (AndPerm rd rs mask) r new safe fits passed effect =
     let c = register old rs in
     let guarded = IsGuarded-kept old.heap (with_perms c.0 mask) c.1 c (IsGuarded-register old rs safe) (λ e. e) (λ _. laws.masked c.0 mask) in
     subst IsSafe (sym effect.1) (IsSafe-with old rd (with_perms c.0 mask, c.1) safe guarded)
-Effect-safe laws old (StoreCap ra rs) r new safe fits passed effect =
+Allows-safe laws old (StoreCap ra rs) r new safe fits passed effect =
     let c = register old rs in
     subst IsSafe (sym effect.1) (IsSafe-put old (register old ra).0 (c.0.bits, c.1) safe (IsGuarded-register old rs safe))
-Effect-safe laws old (LoadCap rd ra) r new safe fits passed effect =
+Allows-safe laws old (LoadCap rd ra) r new safe fits passed effect =
     let w = (register old ra).0 in
     let granule = granule_at old w in
     let keeps = allows load_capability w in
     let guarded = IsGuarded-kept old.heap (record { bits = granule.0 }) (granule.1 && keeps) (record { bits = granule.0 }, granule.1) (HoldsGuarded-at old w safe)
     (λ e. (and_parts granule.1 keeps e).0) (λ _. refl) in
     subst IsSafe (sym effect.1) (IsSafe-with old rd (record { bits = granule.0 }, granule.1 && keeps) safe guarded)
-Effect-safe laws old (Write ra bytes) r new safe fits passed effect = subst IsSafe (sym effect.1) (IsSafe-put old (register old ra).0 _ safe (IsGuarded-untagged old.heap _))
-Effect-safe laws old (Show rs) r new safe fits passed effect = subst IsSafe (sym effect.1) safe
-Effect-safe laws old Sweep r new safe fits passed effect = subst IsSafe (sym effect.1) (swept-safe laws old safe)
-Effect-safe laws old Begin r new safe fits passed effect = subst IsSafe (sym effect.1) (IsSafe-begun old safe (laws.begun old.heap safe.heap) (painted_none old safe passed))
-Effect-safe laws old End r new safe fits passed effect = subst IsSafe (sym effect.1) (IsSafe-ended old safe (laws.ended old.heap safe.heap))
+Allows-safe laws old (Write ra bytes) r new safe fits passed effect = subst IsSafe (sym effect.1) (IsSafe-put old (register old ra).0 _ safe (IsGuarded-untagged old.heap _))
+Allows-safe laws old (Show rs) r new safe fits passed effect = subst IsSafe (sym effect.1) safe
+Allows-safe laws old Sweep r new safe fits passed effect = subst IsSafe (sym effect.1) (swept-safe laws old safe)
+Allows-safe laws old Begin r new safe fits passed effect = subst IsSafe (sym effect.1) (IsSafe-begun old safe (laws.begun old.heap safe.heap) (painted_none old safe passed))
+Allows-safe laws old End r new safe fits passed effect = subst IsSafe (sym effect.1) (IsSafe-ended old safe (laws.ended old.heap safe.heap))
 
-StepAfter-safe : Laws → (t : Option TheTrap) (old : State) (c : Command) (r : Reply) (new : State) → IsSafe old → FitsTypes c → first_failed (checks old c) ≡ t
-    → StepAfter t old c r new → IsSafe new
-StepAfter-safe laws None old c r new safe fits passed step = Effect-safe laws old c r new safe fits passed step
-StepAfter-safe laws (Some t) old c r new safe fits failed step = subst IsSafe (sym step.1) safe
+FollowsAfter-safe : Laws → (t : Option TheTrap) (old : State) (c : Command) (r : Reply) (new : State) → IsSafe old → FitsTypes c → first_failed (checks old c) ≡ t
+    → FollowsAfter t old c r new → IsSafe new
+FollowsAfter-safe laws None old c r new safe fits passed step = Allows-safe laws old c r new safe fits passed step
+FollowsAfter-safe laws (Some t) old c r new safe fits failed step = subst IsSafe (sym step.1) safe
 
-pub Step-safe : Laws → (old : State) (c : Command) (r : Reply) (new : State) → IsSafe old → FitsTypes c → Step old c r new → IsSafe new
-Step-safe laws old c r new safe fits step = StepAfter-safe laws (first_failed (checks old c)) old c r new safe fits refl step
+pub Follows-safe : Laws → (old : State) (c : Command) (r : Reply) (new : State) → IsSafe old → FitsTypes c → Follows old c r new → IsSafe new
+Follows-safe laws old c r new safe fits step = FollowsAfter-safe laws (first_failed (checks old c)) old c r new safe fits refl step

@@ -3,7 +3,7 @@ use Rattle.std.proofs.Common.{◌≡◌, ◌∙◌, ◌<◌, ◌≤◌, ◌+◌,
 use Rattle.std.specs.Prelude.{count_ones, nat_le, sum_by}
 use Rattle.std.proofs.lemmas.Bool.{and_parts, cases_Bool, leb-true, true≢false}
 use Rattle.heap_core.specs.Blocks.{Span}
-use Rattle.sweep_pool.specs.Sweep.{AreInDirtyPages, takes_tag}
+use Rattle.sweep_pool.specs.Sweep.{AreInDirtyPages, tags_taken, takes_tag}
 use Rattle.tag_memory.specs.Cells.{Cell, Granule, MemoryState, cell_of, is_dirty_at, null_cell, register_at, without_tag_if}
 use Rattle.tag_memory.specs.Tags.{is_set, without_tags}
 use Rattle.heap_machine.specs.Revoked.{AreRevoked, AreTaken}
@@ -32,6 +32,15 @@ AreTaken-masks held old new registers left tags cleared revoked same still cells
       cleared_is = told ∙ (λ k. of_memory k + of_registers k);
     }
 
+-- How many tags the masks take.
+pub count-revoked : (held : List Span) (memory : MemoryState) (registers : List Cell) (tags : RevokedTags) (count : ℕ) → AreRevoked held memory registers tags
+    → ((w : ℕ) → get_or tags.masks.items w 0 < 2 ^ 64) → tags.registers < 2 ^ 32 → count ≡ sum_by count_ones tags.masks.items + count_ones tags.registers
+    → count ≡ tags_taken held memory.cells registers
+count-revoked held memory registers tags count revoked fits below told =
+    let of_memory = ones-masks (λ (g : Granule). takes_tag held (cell_of g)) tags.masks.items memory.cells (0, false) revoked.granules.count fits revoked.granules.bits in
+    let of_registers = ones-registers held registers tags.registers revoked.count revoked.zero below revoked.bits in
+    told ∙ (λ k. of_memory k + of_registers k)
+
 -- With no dirty page, and the words that lose their tags in dirty pages alone, only registers lose theirs.
 pub AreTaken-clean : (held : List Span) (memory : MemoryState) (registers left : List Cell) (mask : ℕ)
     → AreInDirtyPages memory.cells memory.dirty held → ((page : ℕ) → is_dirty_at memory.dirty page ≡ false)
@@ -55,6 +64,19 @@ AreTaken-clean held memory registers left mask stand clean count null bits long 
       registers_are = registers-swept held registers left mask count null bits long (zero ∙ sym null) (λ r some lt. each r lt);
       cleared_is = omega (arith, of_memory, of_registers);
     }
+
+-- How many tags that takes.
+pub count-clean : (held : List Span) (memory : MemoryState) (registers : List Cell) (mask : ℕ)
+    → AreInDirtyPages memory.cells memory.dirty held → ((page : ℕ) → is_dirty_at memory.dirty page ≡ false)
+    → length registers ≡ 32 → get_or registers 0 null_cell ≡ null_cell → ((r : ℕ) → r < 32 → is_set mask r ≡ takes_tag held (register_at registers r)) → mask < 2 ^ 32
+    → count_ones mask ≡ tags_taken held memory.cells registers
+count-clean held memory registers mask stand clean count null bits below =
+    let untouched : (i : ℕ) → takes_tag held (cell_of (get_or memory.cells i (0, false))) ≡ false =
+    λ i. elim (cases_Bool (takes_tag held (cell_of (get_or memory.cells i (0, false))))) [
+      | inl is ↦ absurd (true≢false (sym (stand i is) ∙ clean (i / 256)))
+      | inr none ↦ none
+    ] in
+    omega (arith, granules_taken-untouched held memory.cells untouched, ones-registers held registers mask count null below bits)
 
 -- There are few granules.
 pub few_cells : (s : State) → IsMachine s → length s.cells ≤ 262144

@@ -1,11 +1,13 @@
 -- What a malloc leaves that sweeps first: the state after the sweep, with a block more or without.
-use Rattle.std.proofs.Common.{◌≡◌, ◌∙◌, ◌+◌, ℕ, List, true, ap}
+use Rattle.std.proofs.Common.{◌≡◌, ◌∙◌, ◌≤◌, ◌+◌, ◌-◌, ℕ, List, max, true, ap}
 use Rattle.cap_codec.specs.Words.{capability_of}
+use Rattle.heap_core.specs.Claim.{IsClaimable}
 use Rattle.heap_core.specs.Heap.{HeapState}
-use Rattle.heap_core.specs.Place.{IsPlace, block_length, with_live}
+use Rattle.heap_core.specs.Place.{IsPlace, block_length, with_block, with_live}
 use Rattle.heap_core.specs.Quarantine.{without_waiting}
 use Rattle.tag_memory.specs.Cells.{Cell, MemoryState, null_cell, with_register}
 use Rattle.heap_machine.specs.Revoked.{AreTaken}
+use Rattle.heap_machine.specs.Follow.{Places, PlacesNone}
 use Rattle.heap_machine.specs.State.{State}
 use Rattle.heap_machine.specs.Step.{HandsOut, HandsOutNone, HasNoPlace, MaySweep, SweepsFirst, swept}
 
@@ -31,3 +33,22 @@ pub SweepsFirst-taken : (s : State) (size : ℕ) (old new : MemoryState) (regist
     → old.cells ≡ s.cells → HasNoPlace s size → MaySweep s → AreTaken s.heap.waiting old s.registers new registers cleared → SweepsFirst s size cleared
 SweepsFirst-taken s size old new registers cleared same none may taken =
     record { none = none; may = may; cleared_is = rw same at taken.cleared_is }
+
+-- And what an allocator leaves that answers so.
+pub Places-swept : (s : State) (rd size base top : ℕ) (heap : HeapState) (old new : MemoryState) (registers left : List Cell) (cleared : ℕ)
+    → old.cells ≡ s.cells → IsClaimable (without_waiting s.heap) base top → base + max 1 size ≤ top → heap ≡ with_block (without_waiting s.heap) base (top - base)
+    → AreTaken s.heap.waiting old s.registers new registers cleared → left ≡ with_register registers rd (capability_of base top, true)
+    → Places (swept s) rd size base top (record { heap = heap; cells = new.cells; registers = left })
+Places-swept s rd size base top heap old new registers left cleared same may enough live taken written =
+    let cells = rw same at taken.cells in
+    let set = written ∙ ap (λ (cells : List Cell). with_register cells rd (capability_of base top, true)) taken.registers_are in
+    record { may = may; enough = enough; state = λ i. record { heap = live i; cells = cells i; registers = set i } }
+
+pub PlacesNone-swept : (s : State) (rd : ℕ) (heap : HeapState) (old new : MemoryState) (registers left : List Cell) (cleared : ℕ)
+    → old.cells ≡ s.cells → heap ≡ without_waiting s.heap
+    → AreTaken s.heap.waiting old s.registers new registers cleared → left ≡ with_register registers rd null_cell
+    → PlacesNone (swept s) rd (record { heap = heap; cells = new.cells; registers = left })
+PlacesNone-swept s rd heap old new registers left cleared same free taken written =
+    let cells = rw same at taken.cells in
+    let set = written ∙ ap (λ (cells : List Cell). with_register cells rd null_cell) taken.registers_are in
+    record { state = λ i. record { heap = free i; cells = cells i; registers = set i } }

@@ -1,4 +1,7 @@
 pub mod Dirty
+pub mod Follow
+pub mod Followed
+pub mod Making
 pub mod Parts
 pub mod Revoked
 pub mod Safety

@@ -5,6 +5,7 @@ ghost use Rattle.tag_memory.specs.Extent.{is_base, is_size};
 ghost use Rattle.trace_text.specs.declared.trace.Command.{Command as TheCommand};
 ghost use Rattle.heap_reply.specs.declared.reply.Reply.{Reply as TheReply};
 ghost use Rattle.heap_machine.specs.Dirty.{HasPages, IsDirtied, dirty_after};
+ghost use Rattle.heap_machine.specs.Follow.{Follows};
 ghost use Rattle.heap_machine.specs.Safety.{FitsTypes, IsSafe, IsUnused, LeavesInUse};
 ghost use Rattle.heap_machine.specs.State.{State, first_state};
 ghost use Rattle.heap_machine.specs.Step.{Step};
@@ -31,6 +32,26 @@ pub fn steps()
         IsSafe old → FitsTypes command → Step old command reply new → LeavesInUse command reply new }
     ensures dirtied { (old : State) (command : TheCommand) (reply : TheReply) (new : State) (dirty : List Bool) →
         HasPages old dirty → IsDirtied old dirty → Step old command reply new → IsDirtied new (dirty_after old command dirty) }
+{
+    answers();
+}
+
+/// What a command may be answered by an allocator that places blocks as it likes: each step is such an answer, and each
+/// leaves one state. From a safe state such an answer leaves a safe state, hands out only what is unused, and leaves
+/// after a sweep only words in use, and dirty pages as a step does.
+pub fn answers()
+    ensures steps { (old : State) (command : TheCommand) (reply : TheReply) (new : State) →
+        IsSafe old → Step old command reply new → Follows old command reply new }
+    ensures one { (old : State) (command : TheCommand) (reply : TheReply) (new left : State) →
+        Follows old command reply new → Follows old command reply left → new ≡ left }
+    ensures safe { (old : State) (command : TheCommand) (reply : TheReply) (new : State) →
+        IsSafe old → FitsTypes command → Follows old command reply new → IsSafe new }
+    ensures unused { (old : State) (command : TheCommand) (reply : TheReply) (new : State) →
+        IsSafe old → Follows old command reply new → IsUnused old command reply }
+    ensures revoked { (old : State) (command : TheCommand) (reply : TheReply) (new : State) →
+        IsSafe old → FitsTypes command → Follows old command reply new → LeavesInUse command reply new }
+    ensures dirtied { (old : State) (command : TheCommand) (reply : TheReply) (new : State) (dirty : List Bool) →
+        HasPages old dirty → IsDirtied old dirty → Follows old command reply new → IsDirtied new (dirty_after old command dirty) }
 {
     derivations();
     changes();

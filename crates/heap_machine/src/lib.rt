@@ -2,11 +2,14 @@
 #![tactic(auto)]
 
 mod fault;
+mod followed;
 mod laws;
 mod machine;
 mod parts;
 
 pub use crate::fault::MachineFault;
-pub use crate::laws::steps;
-pub use crate::machine::Machine;
+pub use crate::followed::{Followed, Why};
+pub use crate::laws::{answers, steps};
+pub use crate::machine::{Flaw, Machine};
+pub use heap_core::{Block, Claim, Kind};
 pub use heap_reply::{Hexadecimal, Place, Reply, Shown, Trap, flag_number};

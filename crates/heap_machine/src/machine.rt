@@ -1,17 +1,23 @@
 //! The machine that runs the commands of a trace.
 
-ghost use Rattle.std.specs.Prelude.{◌≡◌, ◌↔◌, ◌+◌, IfErr, IfOk, IsOk, OnErr, OnOk, false, replicate, true};
+ghost use Rattle.std.specs.Prelude.{◌≡◌, ◌≢◌, ◌↔◌, ◌+◌, IfErr, IfOk, IsOk, OnErr, OnOk, false, replicate, true};
 ghost use Rattle.heap_core.specs.Blocks.{bytes_in};
 ghost use Rattle.heap_core.specs.Heap as heap;
 ghost use Rattle.tag_memory.specs.Extent as span;
 ghost use Rattle.trace_text.specs.Command.{IsValid};
 ghost use Rattle.heap_machine.specs.Dirty.{IsDirtied, dirty_after};
+ghost use Rattle.heap_machine.specs.Followed.{FollowsFreely, IsFollowed};
 ghost use Rattle.heap_machine.specs.Safety.{IsSafe, IsUnused, LeavesInUse};
+ghost use Rattle.heap_machine.specs.Sound.{IsMachine};
 ghost use Rattle.heap_machine.specs.State.{first_state};
 ghost use Rattle.heap_machine.specs.Step.{Step, TakesNoMemory};
 
+mod making;
+
 use crate::fault::MachineFault;
-use crate::laws::steps;
+use crate::followed::Followed;
+use crate::laws::answers;
+pub use crate::machine::making::Flaw;
 use crate::parts::Parts;
 use heap_core::Heap;
 use heap_reply::Reply;
@@ -98,9 +104,37 @@ impl Machine {
         ensures dirtied { IsDirtied self.new.state self.new.dirty }
     {
         // From a sound state each step leads to one.
-        steps();
+        answers();
         self.parts.memory.whole();
         self.parts.serve(rt, alloc, self.cutting, command, gate)
+    }
+
+    /// Does one command as it was answered by an allocator that places blocks as it likes, where it may be answered so;
+    /// else nothing is changed. `gate` is told as by `step`.
+    pub fn follow<R: Threads + Sync, G: Gate + Sync>(
+        &mut self,
+        rt: &R,
+        alloc: Global,
+        command: Command,
+        answer: Reply,
+        gate: &G,
+    ) -> Result<Followed, MachineFault>
+        requires { IsValid command }
+        ensures followed { IfOk result (λ followed. IsFollowed self.old.state command answer followed self.new.state) }
+        ensures still { result ≢ Ok Followed.Agrees → self.new ≡ self.old }
+        ensures memory { IfErr result (λ fault. fault ≡ MachineFault.Memory) }
+        ensures ok { FollowsFreely self.old.state command answer → IsOk result }
+        ensures cutting { self.new.cutting ≡ self.old.cutting }
+        ensures safe { IsSafe self.new.state }
+        ensures unused { result ≡ Ok Followed.Agrees → IsUnused self.old.state command answer }
+        ensures revoked { result ≡ Ok Followed.Agrees → LeavesInUse command answer self.new.state }
+        ensures dirty { result ≡ Ok Followed.Agrees → self.new.dirty ≡ dirty_after self.old.state command self.old.dirty }
+        ensures dirtied { IsDirtied self.new.state self.new.dirty }
+    {
+        answers();
+        self.parts.memory.whole();
+        self.parts
+            .follow(rt, alloc, self.cutting, command, answer, gate)
     }
 
     /// The registers now.
@@ -108,6 +142,21 @@ impl Machine {
         ensures { result.now ≡ self.now.state.registers }
     {
         &self.parts.registers
+    }
+
+    /// The heap now.
+    pub fn heap(&self) -> &Heap
+        ensures { result.now ≡ self.now.state.heap }
+    {
+        &self.parts.heap
+    }
+
+    /// Tells what holds of every machine. Nothing is done.
+    pub fn whole(&self)
+        ensures sound { IsMachine self.now.state }
+        ensures dirtied { IsDirtied self.now.state self.now.dirty }
+    {
+        let _ = &self.parts.heap;
     }
 
     /// The memory now.

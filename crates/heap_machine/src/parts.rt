@@ -9,7 +9,9 @@ ghost use Rattle.heap_machine.specs.Safety.{FitsTypes};
 ghost use Rattle.heap_machine.specs.Step.{Step, TakesNoMemory, access, first_failed, index_in};
 
 mod allocation;
+mod answering;
 mod epochs;
+mod following;
 mod retry;
 mod revocation;
 
@@ -67,9 +69,9 @@ impl Parts {
             Command::LoadCap { rd, ra } => Ok(self.load_cap(rd, ra)),
             Command::Write { ra, bytes } => Ok(self.write(ra, bytes)),
             Command::Show { rs } => Ok(self.show(rs)),
-            Command::Sweep => self.sweep(rt, alloc, cutting, gate),
-            Command::Begin => self.begin(rt, alloc, cutting, gate),
-            Command::End => self.end(rt, alloc, cutting, gate),
+            Command::Sweep => self.sweep(rt, alloc, cutting, None, gate),
+            Command::Begin => self.begin(rt, alloc, cutting, None, gate),
+            Command::End => self.end(rt, alloc, cutting, None, gate),
         }
     }
 

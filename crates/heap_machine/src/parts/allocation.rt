@@ -51,7 +51,7 @@ impl Parts {
     }
 
     // Whether a malloc may sweep: no epoch is open, and some block waits.
-    fn may_sweep(&self) -> bool
+    pub(super) fn may_sweep(&self) -> bool
         ensures may { result ≡ true → MaySweep (state_of self.now) }
         ensures not { result ≡ false → ¬ MaySweep (state_of self.now) }
     {

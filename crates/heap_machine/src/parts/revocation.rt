@@ -4,14 +4,17 @@ ghost use Rattle.std.specs.Prelude.{◌≡◌, ◌<◌, ◌≤◌, ◌*◌, ◌^
 ghost use Rattle.heap_core.specs.Blocks.{Span};
 ghost use Rattle.heap_core.specs.Heap.{due};
 ghost use Rattle.heap_core.specs.Quarantine.{IsShadow};
-ghost use Rattle.sweep_pool.specs.Sweep.{TakeTags};
+ghost use Rattle.sweep_pool.specs.Sweep.{TakeTags, tags_taken};
+ghost use Rattle.tag_memory.specs.Cells.{Cell, MemoryState};
 ghost use Rattle.trace_text.specs.Command.{IsValid};
+ghost use Rattle.heap_machine.specs.Followed.{CanAnswer, IsExpected};
 ghost use Rattle.heap_machine.specs.Parts.{AreParts, state_of};
 ghost use Rattle.heap_machine.specs.Revoked.{AreRevoked, AreTaken};
 ghost use Rattle.heap_machine.specs.Step.{Step, TakesNoMemory};
 
 use crate::fault::MachineFault;
 use crate::parts::Parts;
+use crate::parts::following::differs;
 use cap_codec::{Bounds, bounds};
 use heap_core::{Freed, Shadow};
 use heap_reply::{Reply, Trap};
@@ -59,6 +62,16 @@ pub struct RevokedTags {
 }
 
 impl RevokedTags {
+    /// How many they are.
+    pub fn count(&self) -> u32
+        requires { 64 * length self.now.masks.items < 2 ^ 31 }
+        ensures { (held : List Span) (memory : MemoryState) (registers : List Cell) → AreRevoked held memory registers self.now
+            → result ≡ tags_taken held memory.cells registers }
+    {
+        let granules = ones_in(&self.masks);
+        granules + self.registers.count_ones()
+    }
+
     /// Takes them, and tells how many they are.
     pub fn take(&self, memory: &mut Memory, registers: &mut Registers) -> u32
         requires masks { 64 * length self.now.masks.items ≡ length memory.old.cells }
@@ -102,16 +115,20 @@ impl Parts {
     }
 
     // Every tagged word whose base lies in a block that waits loses its tag; then these blocks are free. Where none waits
-    // there is nothing to look for. Whatever takes memory comes first.
+    // there is nothing to look for. Whatever takes memory comes first. Where another reply is expected than the one that
+    // is answered, nothing is changed.
     pub(super) fn sweep<R: Threads + Sync, G: Gate + Sync>(
         &mut self,
         rt: &R,
         alloc: Global,
         cutting: Cutting,
+        expected: Option<Reply>,
         gate: &G,
     ) -> Result<Reply, MachineFault>
         requires { AreParts self.old }
-        ensures step { IfOk result (λ reply. Step (state_of self.old) Command.Sweep reply (state_of self.new)) }
+        ensures step { IfOk result (λ reply. IsExpected expected reply → Step (state_of self.old) Command.Sweep reply (state_of self.new)) }
+        ensures other { IfOk result (λ reply. ¬ IsExpected expected reply → CanAnswer (state_of self.old) Command.Sweep reply) }
+        ensures still { IfOk result (λ reply. ¬ IsExpected expected reply → self.new ≡ self.old) }
         ensures base { self.new.memory.base ≡ self.new.heap.base }
         ensures dirty { OnOk result (self.new.memory.dirty ≡ self.old.memory.dirty) }
         ensures err { OnErr result (self.new ≡ self.old) }
@@ -127,13 +144,20 @@ impl Parts {
                 released: 0,
             });
         }
+        let revoked = self.revoked_tags(rt, alloc, cutting, gate)?;
+        let reply = Reply::Swept {
+            cleared: revoked.count(),
+            released: self.heap.due_bytes(),
+        };
+        if differs(expected, reply) {
+            return Ok(reply);
+        }
         let Ok(()) = self.heap.prepare() else {
             return Err(MachineFault::Memory);
         };
-        let revoked = self.revoked_tags(rt, alloc, cutting, gate)?;
-        let cleared = revoked.take(&mut self.memory, &mut self.registers);
-        let released = self.heap.give_back();
-        Ok(Reply::Swept { cleared, released })
+        revoked.take(&mut self.memory, &mut self.registers);
+        self.heap.give_back();
+        Ok(reply)
     }
 
     // The tags of memory and registers that a sweep takes now, of words whose base lies in a block that is due.

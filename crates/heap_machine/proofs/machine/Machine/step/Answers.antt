@@ -1,5 +1,7 @@
 use Rattle.std.proofs.Common.{◌≡◌, ◌*◌, length, subst, arith}
 use Rattle.std.proofs.lemmas.Result.{IfOk-weaker}
+use Rattle.std.specs.Prelude.{IfOk}
+use Rattle.heap_machine.specs.Follow.{Follows}
 use Rattle.heap_machine.specs.Parts.{MachineState, state_of}
 use Rattle.heap_machine.specs.Safety.{IsUnused, LeavesInUse}
 use Rattle.heap_machine.specs.Step.{Step}
@@ -10,8 +12,14 @@ pub invariant_of-self : goal.invariant_of-self
 invariant_of-self g c =
     let memory = c.whole.ensures in
     let pages : length c.self.inside.parts.memory.cells ≡ 256 * length c.self.inside.parts.memory.dirty = omega (arith, memory.count, memory.dirty_marks) in
-    AreParts-after c.steps.ensures.safe c.steps.ensures.dirtied c.self.inside.parts c.serve.new.self c.args.command c.serve.result c.self.invariant pages
-    c.serve.ensures.fits c.serve.ensures.step c.serve.ensures.dirty c.serve.ensures.err c.serve.ensures.base
+    let old = state_of c.self.inside.parts in
+    let new = state_of c.serve.new.self in
+    let command = c.args.command in
+    let follows : IfOk c.serve.result (λ r. Follows old command r new) =
+    IfOk-weaker c.serve.result (λ r. Step old command r new) (λ r. Follows old command r new)
+    (λ r step. c.answers.ensures.steps old command r new c.self.invariant.sound.safe step) c.serve.ensures.step in
+    AreParts-after c.answers.ensures.safe c.answers.ensures.dirtied c.self.inside.parts c.serve.new.self c.args.command c.serve.result c.self.invariant pages
+    c.serve.ensures.fits follows c.serve.ensures.dirty c.serve.ensures.err c.serve.ensures.base
 
 pub returns-clause-safe : goal.returns-clause-safe
 returns-clause-safe g c = (invariant_of-self g c).sound.safe
@@ -24,13 +32,15 @@ returns-clause-unused g c =
     let old = state_of c.self.inside.parts in
     let new = state_of c.serve.new.self in
     let command = c.args.command in
+    let safe = c.self.invariant.sound.safe in
     IfOk-weaker c.serve.result (λ r. Step old command r new) (λ r. IsUnused c.args.self.now.state command r)
-    (λ r step. subst (λ (m : MachineState). IsUnused m.state command r) c.self.view_is (c.steps.ensures.unused old command r new c.self.invariant.sound.safe step)) c.serve.ensures.step
+    (λ r step. subst (λ (m : MachineState). IsUnused m.state command r) c.self.view_is (c.answers.ensures.unused old command r new safe (c.answers.ensures.steps old command r new safe step))) c.serve.ensures.step
 
 pub returns-clause-revoked : goal.returns-clause-revoked
 returns-clause-revoked g c =
     let old = state_of c.self.inside.parts in
     let new = state_of c.serve.new.self in
     let command = c.args.command in
+    let safe = c.self.invariant.sound.safe in
     IfOk-weaker c.serve.result (λ r. Step old command r new) (λ r. LeavesInUse command r new)
-    (λ r step. c.steps.ensures.revoked old command r new c.self.invariant.sound.safe c.serve.ensures.fits step) c.serve.ensures.step
+    (λ r step. c.answers.ensures.revoked old command r new safe c.serve.ensures.fits (c.answers.ensures.steps old command r new safe step)) c.serve.ensures.step

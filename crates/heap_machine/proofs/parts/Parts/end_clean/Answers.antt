@@ -4,13 +4,26 @@ use Rattle.heap_core.specs.Heap.{HeapState, due}
 use Rattle.heap_core.specs.Laws.{due-open, without_due-open}
 use Rattle.heap_core.specs.Quarantine.{without_epoch}
 use Rattle.std.specs.Prelude.{count_ones}
-use Rattle.sweep_pool.specs.Sweep.{swept_cells}
+use Rattle.sweep_pool.specs.Sweep.{swept_cells, tags_taken}
+use Rattle.heap_machine.specs.Parts.{state_of}
 use Rattle.heap_machine.specs.Revoked.{AreTaken}
-use Rattle.heap_machine.proofs.SweepStep.{AreTaken-clean}
+use Rattle.heap_machine.specs.Step.{ended}
+use Rattle.heap_machine.proofs.SweepStep.{AreTaken-clean, count-clean}
 use Rattle.heap_machine.proofs.parts.Parts.end_clean.Goals as goal
 
+pub returns-then-differs-clause-other : goal.returns-then-differs-clause-other
+returns-then-differs-clause-other c = λ _.
+    let m = c.args.self.now in
+    let blocks : due c.args.self.now.heap ≡ c.args.self.now.heap.painted = due-open m.heap c.requires.opened in
+    let bits = c.due_registers-revoked.ensures in
+    let count : count_ones c.due_registers-revoked.result ≡ tags_taken m.heap.painted m.memory.cells m.registers =
+    count-clean m.heap.painted m.memory m.registers c.due_registers-revoked.result c.requires.parts.dirtied c.requires.clean
+    c.requires.parts.sound.count c.requires.parts.sound.zero (rw blocks at bits) (omega arith) in
+    let bytes : c.due_bytes.result ≡ bytes_in m.heap.painted = c.due_bytes.ensures ∙ ap bytes_in blocks in
+    (ended (state_of m), rw (c.requires.opened, count, bytes) (refl, refl))
+
 pub returns-clause-step : goal.returns-clause-step
-returns-clause-step c =
+returns-clause-step c = λ _.
     let m = c.args.self.now in
     let blocks : due c.args.self.now.heap ≡ c.args.self.now.heap.painted = due-open m.heap c.requires.opened in
     let bits = c.due_registers-revoked.ensures in
@@ -19,13 +32,13 @@ returns-clause-step c =
     AreTaken-clean m.heap.painted m.memory m.registers c.clear_tags.new.self mask c.requires.parts.dirtied c.requires.clean
     c.requires.parts.sound.count c.requires.parts.sound.zero (rw blocks at bits)
     c.clear_tags.ensures.count c.clear_tags.ensures.zero c.clear_tags.ensures.cells (omega arith) in
-    let free : c.give_back-released.new.self ≡ without_epoch m.heap = c.give_back-released.ensures.free ∙ without_due-open m.heap c.requires.opened in
-    let bytes : c.give_back-released.result ≡ bytes_in m.heap.painted = c.give_back-released.ensures.bytes ∙ ap bytes_in blocks in
+    let free : c.give_back.new.self ≡ without_epoch m.heap = c.give_back.ensures.free ∙ without_due-open m.heap c.requires.opened in
+    let bytes : c.due_bytes.result ≡ bytes_in m.heap.painted = c.due_bytes.ensures ∙ ap bytes_in blocks in
     rw (c.requires.opened, taken.cleared_is, bytes, free, taken.registers_are)
     (refl, λ i. record { heap = without_epoch m.heap; cells = taken.cells i; registers = swept_cells m.heap.painted m.registers })
 
 pub returns-clause-base : goal.returns-clause-base
 returns-clause-base c =
     let m = c.args.self.now in
-    let free : c.give_back-released.new.self ≡ without_epoch m.heap = c.give_back-released.ensures.free ∙ without_due-open m.heap c.requires.opened in
+    let free : c.give_back.new.self ≡ without_epoch m.heap = c.give_back.ensures.free ∙ without_due-open m.heap c.requires.opened in
     c.requires.parts.base ∙ sym (ap (λ (h : HeapState). h.base) free)

@@ -1,0 +1,30 @@
+//! What became of an answer that an allocator gave.
+
+use heap_core::Claim;
+use heap_reply::Reply;
+
+/// What became of a command that was answered by an allocator.
+#[derive(Debug, Clone, Copy, PartialEq, Eq)]
+pub enum Followed {
+    /// The answer is allowed, and the command is done as it says.
+    Agrees,
+    /// The answer isn't allowed, for this reason, and nothing was changed.
+    Differs(Why),
+}
+
+/// Why an answer isn't allowed.
+#[derive(Debug, Clone, Copy, PartialEq, Eq)]
+pub enum Why {
+    /// The command has one answer, which is this.
+    MustBe(Reply),
+    /// A malloc is answered by a block or by `nospace`.
+    NotOfMalloc,
+    /// The block has fewer bytes than were asked for.
+    TooShort,
+    /// A sweep was told, and none may be: an epoch is open, or no block waits.
+    MayNotSweep,
+    /// A sweep was told, and it takes so many tags.
+    Takes(u32),
+    /// The block may not lie there, for this reason.
+    Refused(Claim),
+}

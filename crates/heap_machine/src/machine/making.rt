@@ -1,0 +1,139 @@
+//! A machine of given parts.
+
+ghost use Rattle.std.specs.Prelude.{◌≡◌, ◌<◌, All, IfErr, IfOk, MatchOption, false, length, true};
+ghost use Rattle.cap_codec.specs.Words.{base_of};
+ghost use Rattle.heap_core.specs.Blocks.{lies_in};
+ghost use Rattle.sweep_pool.specs.Sweep.{AreInDirtyPages};
+ghost use Rattle.tag_memory.specs.Cells.{register_count};
+ghost use Rattle.heap_machine.specs.Making.{FirstLacks, HasGuarded, HasGuardedAt, IsFlaw, IsMakeable, LieTogether, StandsDirty, made};
+ghost use Rattle.heap_machine.specs.Safety.{HoldsGuarded, IsGuarded};
+
+use crate::machine::Machine;
+use crate::parts::Parts;
+use cap_codec::{Word, bounds};
+use heap_core::Heap;
+use sweep_pool::Cutting;
+use tag_memory::{Memory, PAGE_GRANULES, REGISTERS, Registers};
+
+/// Why parts are no machine: the first of these that is true, of registers and granules the first by its number.
+#[derive(Debug, Clone, Copy, PartialEq, Eq)]
+pub enum Flaw {
+    /// The memory doesn't lie where the heap does.
+    Elsewhere,
+    /// This register is tagged, and no block has all of its bounds.
+    Register(u8),
+    /// This granule, counted from the base, is tagged, and no block has all bounds of its word.
+    Granule(usize),
+    /// This granule is tagged, the base of its word lies in a painted block, and its page is clean.
+    Clean(usize),
+}
+
+impl Machine {
+    /// The machine of these parts, where its state is safe, and what the painted blocks have in memory stands in dirty
+    /// pages; else the first flaw.
+    pub fn of(
+        store: Heap,
+        memory: Memory,
+        registers: Registers,
+        cutting: Cutting,
+    ) -> Result<Machine, Flaw>
+        ensures made { IfOk result (λ machine. machine ≡ made store memory registers cutting) }
+        ensures may { IfOk result (λ machine. IsMakeable store memory registers cutting) }
+        ensures flaw { IfErr result (IsFlaw store memory registers) }
+    {
+        store.whole();
+        memory.whole();
+        registers.whole();
+        if !lie_together(&store, &memory) {
+            return Err(Flaw::Elsewhere);
+        }
+        if let Some(register) = first_unguarded_register(&store, &registers) {
+            return Err(Flaw::Register(register));
+        }
+        if let Some(granule) = first_unguarded_granule(&store, &memory) {
+            return Err(Flaw::Granule(granule));
+        }
+        if let Some(granule) = first_in_clean_page(&store, &memory) {
+            return Err(Flaw::Clean(granule));
+        }
+        let parts = Parts {
+            heap: store,
+            memory,
+            registers,
+        };
+        Ok(Machine { parts, cutting })
+    }
+}
+
+// Whether a memory lies where a heap does.
+fn lie_together(heap: &Heap, memory: &Memory) -> bool
+    ensures yes { result ≡ true → LieTogether heap.now memory.now }
+    ensures no { result ≡ false → ¬ LieTogether heap.now memory.now }
+{
+    memory.base() == heap.base() && memory.granules() == heap.granules()
+}
+
+// Whether a word with this tag is guarded.
+fn is_guarded(heap: &Heap, word: Word, tag: bool) -> bool
+    ensures yes { result ≡ true → IsGuarded heap.now (word, tag) }
+    ensures no { result ≡ false → ¬ IsGuarded heap.now (word, tag) }
+{
+    if !tag {
+        return true;
+    }
+    let range = bounds(word);
+    let Some((block, _)) = heap.block_of(range.base) else {
+        return false;
+    };
+    u128::from(range.base) < range.top && range.top <= block.top
+}
+
+// The first register that isn't guarded.
+fn first_unguarded_register(heap: &Heap, registers: &Registers) -> Option<u8>
+    ensures { MatchOption result (All (IsGuarded heap.now) registers.now) (λ r. (r < register_count) × FirstLacks (HasGuarded heap.now registers.now) r) }
+{
+    registers.whole();
+    for r in 0..REGISTERS {
+        let (word, tag) = registers.get(r);
+        if !is_guarded(heap, word, tag) {
+            return Some(r);
+        }
+    }
+    None
+}
+
+// The first granule that isn't.
+fn first_unguarded_granule(heap: &Heap, memory: &Memory) -> Option<usize>
+    ensures { MatchOption result (All (HoldsGuarded heap.now) memory.now.cells) (λ i. (i < length memory.now.cells) × FirstLacks (HasGuardedAt heap.now memory.now) i) }
+{
+    for i in 0..memory.granules() {
+        let (bits, tag) = memory.cell(i);
+        if !is_guarded(heap, Word { bits }, tag) {
+            return Some(i);
+        }
+    }
+    None
+}
+
+// Whether the base of a word lies in a painted block.
+fn is_painted(heap: &Heap, word: Word) -> bool
+    ensures { result ≡ lies_in heap.now.painted (base_of word) }
+{
+    heap.whole();
+    heap.is_open() && heap.is_due(bounds(word).base)
+}
+
+// The first granule that is tagged, with a base in a painted block, in a clean page.
+fn first_in_clean_page(heap: &Heap, memory: &Memory) -> Option<usize>
+    ensures { MatchOption result (AreInDirtyPages memory.now.cells memory.now.dirty heap.now.painted) (λ i. (i < length memory.now.cells) × FirstLacks (StandsDirty heap.now memory.now) i) }
+{
+    memory.whole();
+    for i in 0..memory.granules() {
+        let (bits, tag) = memory.cell(i);
+        let is_dirty = memory.dirty(i as u32 / PAGE_GRANULES);
+        if tag && !is_dirty && is_painted(heap, Word { bits }) {
+            return Some(i);
+        }
+    }
+    None
+}
