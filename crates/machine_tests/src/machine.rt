@@ -1,7 +1,9 @@
 //! A machine, command by command.
 
+mod answers;
 mod cuttings;
 mod epochs;
+mod parts;
 mod sweeps;
 mod workers;
 

@@ -1,0 +1,3 @@
+mod FollowLaws
+mod SeenLaws
+mod TallyLaws

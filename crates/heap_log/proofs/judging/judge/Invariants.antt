@@ -1,0 +1,13 @@
+-- The events so far follow, and the machine is as they leave it.
+use Rattle.std.proofs.Common.{take}
+use Rattle.std.specs.Prelude.{All}
+use Rattle.heap_machine.specs.Safety.{IsSafe}
+use Rattle.heap_log.specs.Judged.{AllFollow, FitsListed}
+use Rattle.heap_log.proofs.judging.judge.Given as goal
+
+abbrev pub invariant-loop-line : goal.invariant-loop-line
+invariant-loop-line g l = record {
+  follow : AllFollow l.fn.machine.state (take l.line-index l.events) l.machine.state;
+  safe : IsSafe l.fn.machine.state → IsSafe l.machine.state;
+  fits : All FitsListed (take l.line-index l.events);
+}

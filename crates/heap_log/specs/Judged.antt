@@ -1,0 +1,146 @@
+-- Which logs an allocator may leave: what it was asked and what it answered, one event after another. The definition knows
+-- the answers that may be given (heap_machine's Follow), and not how a log is judged.
+use Rattle.std.specs.Prelude.{◌≡◌, ◌<◌, ◌+◌, ◌*◌, ℕ, Bool, List, [], ◌∷◌, ◌++◌, Option, None, Some, length, slice_get, sum_by}
+use Rattle.cap_codec.specs.Bytes.{bits_of_bytes}
+use Rattle.trace_text.specs.declared.trace.Command.{Command}
+use Rattle.heap_reply.specs.declared.reply.Reply.{Reply}
+use Rattle.heap_reply.specs.declared.reply.Reply.TheVariants as reply
+use Rattle.log_text.specs.declared.log.Event.{Event}
+use Rattle.log_text.specs.declared.log.Event.TheVariants.{Done, Seen}
+use Rattle.heap_machine.specs.Follow.{Follows}
+use Rattle.heap_machine.specs.Followed.{IsWhy}
+use Rattle.heap_machine.specs.Safety.{FitsTypes, IsSafe, IsUnused}
+use Rattle.heap_machine.specs.State.{State}
+use Rattle.heap_log.specs.declared.verdict.Difference.{Difference}
+use Rattle.heap_log.specs.declared.verdict.Difference.TheVariants.{Answer, Granule, NoGranule}
+use Rattle.heap_log.specs.declared.verdict.Tally.{Tally}
+use Rattle.heap_log.specs.declared.verdict.Verdict.{Verdict}
+use Rattle.heap_log.specs.declared.verdict.Verdict.TheVariants.{Agrees, Differs}
+
+-- ---- events that follow
+
+-- The granule with this number lies at the address. They are counted from the heap's base, a multiple of 16.
+pub record LiesAt (s : State) (address i : ℕ) : Type 0 where
+  pub at : address ≡ s.heap.base + 16 * i
+  pub before_end : i < length s.cells
+
+-- A granule of the heap lies at the address.
+abbrev pub HasGranule : State → ℕ → Type 0
+HasGranule s address = (i : ℕ) × LiesAt s address i
+
+-- A granule of the heap lies at the address, and has this tag and these 16 bytes.
+pub record IsSeen (s : State) (address : ℕ) (tag : Bool) (bytes : List ℕ) : Type 0 where
+  pub i : ℕ
+  pub at : address ≡ s.heap.base + 16 * i
+  pub content : slice_get s.cells i ≡ Some (bits_of_bytes bytes, tag)
+
+-- From the state old the event may happen, and then leaves the state new.
+abbrev pub EventFollows : State → Event → State → Type 0
+EventFollows old (Done command answer) new = Follows old command answer new
+EventFollows old (Seen address tag bytes) new = IsSeen old address tag bytes × (new ≡ old)
+
+-- From the state old the events may happen, one after another, and then leave the state new.
+abbrev pub AllFollow : State → List (ℕ × Event) → State → Type 0
+AllFollow old [] new = new ≡ old
+AllFollow old (event ∷ events) new = (mid : State) × EventFollows old event.1 mid × AllFollow mid events new
+
+-- The numbers of an event's command fit their types.
+abbrev pub FitsEvent : Event → Type 0
+FitsEvent (Done command answer) = FitsTypes command
+FitsEvent (Seen address tag bytes) = Unit {0}
+
+abbrev pub FitsListed : ℕ × Event → Type 0
+FitsListed listed = FitsEvent listed.1
+
+-- Wherever a command stands in these events, the state before it is safe, and what it hands out is unused there.
+abbrev pub HandOutUnused : State → List (ℕ × Event) → Type 0
+HandOutUnused first events = (before after : List (ℕ × Event)) (line : ℕ) (command : Command) (answer : Reply)
+    → events ≡ before ++ (line, Done command answer) ∷ after
+    → (mid : State) × AllFollow first before mid × IsSafe mid × IsUnused mid command answer
+
+-- ---- events that don't
+
+-- From this state the event may not happen.
+abbrev pub IsRefusedEvent : State → Event → Type 0
+IsRefusedEvent old event = (left : State) → EventFollows old event left → ⊥
+
+-- What the state says instead: why the answer may not be given, or what the granule holds that lies there.
+abbrev pub SaysInstead : State → Event → Difference → Type 0
+SaysInstead s (Done command answer) (Answer why) = IsWhy s command answer why
+SaysInstead s (Seen address tag bytes) NoGranule = ¬ HasGranule s address
+SaysInstead s (Seen address tag bytes) (Granule held there) = IsSeen s address held there
+SaysInstead s event difference = ⊥
+
+-- What is found when an event is judged: nothing, and the state is as it leaves it, or what the state says instead.
+abbrev pub IsFound : State → Event → Option Difference → State → Type 0
+IsFound old event None new = EventFollows old event new
+IsFound old event (Some difference) new = IsRefusedEvent old event × SaysInstead old event difference × (new ≡ old)
+
+-- The events follow up to the one of this line, which may not happen then, as is told.
+pub record DiffersAt (old : State) (events : List (ℕ × Event)) (line : ℕ) (difference : Difference) (new : State) : Type 0 where
+  pub before : List (ℕ × Event)
+  pub event : Event
+  pub after : List (ℕ × Event)
+  pub parts : events ≡ before ++ (line, event) ∷ after
+  pub follow : AllFollow old before new
+  pub refused : IsRefusedEvent new event
+  pub instead : SaysInstead new event difference
+
+-- ---- what events come to
+
+-- How many blocks an answer hands out.
+abbrev pub blocks_told : Reply → ℕ
+blocks_told (reply.Block base top) = 1
+blocks_told (reply.BlockAfter base top cleared) = 1
+blocks_told answer = 0
+
+-- Of how many passes it tells.
+abbrev pub passes_told : Reply → ℕ
+passes_told (reply.BlockAfter base top cleared) = 1
+passes_told (reply.NoSpaceAfter cleared) = 1
+passes_told (reply.Swept cleared released) = 1
+passes_told (reply.Begun cleared) = 1
+passes_told answer = 0
+
+-- How many tags these took.
+abbrev pub tags_told : Reply → ℕ
+tags_told (reply.BlockAfter base top cleared) = cleared
+tags_told (reply.NoSpaceAfter cleared) = cleared
+tags_told (reply.Swept cleared released) = cleared
+tags_told (reply.Begun cleared) = cleared
+tags_told answer = 0
+
+-- What an event adds to a sum over the commands' answers.
+abbrev pub of_event : (Reply → ℕ) → Event → ℕ
+of_event told (Done command answer) = told answer
+of_event told (Seen address tag bytes) = 0
+
+-- Such a sum.
+abbrev pub sum_told : (Reply → ℕ) → List (ℕ × Event) → ℕ
+sum_told told events = sum_by (λ event. of_event told event.1) events
+
+-- Each command is one.
+abbrev pub one_told : Reply → ℕ
+one_told answer = 1
+
+-- Commands, blocks handed out, passes, and tags that these took.
+abbrev pub tally_of : List (ℕ × Event) → Tally
+tally_of events = record {
+  tags = sum_told tags_told events;
+  commands = sum_told one_told events;
+  blocks = sum_told blocks_told events;
+  passes = sum_told passes_told events;
+}
+
+-- ---- verdicts
+
+-- What is said of the events from the state old, and that they leave the state new, or the first that may not happen
+-- finds it.
+abbrev pub IsVerdict : State → List (ℕ × Event) → Verdict → State → Type 0
+IsVerdict old events (Agrees tally) new = AllFollow old events new × (tally ≡ tally_of events)
+IsVerdict old events (Differs line difference) new = DiffersAt old events line difference new
+
+-- Events that agree hand out only what is unused.
+abbrev pub AgreesUnused : State → List (ℕ × Event) → Verdict → Type 0
+AgreesUnused old events (Agrees tally) = HandOutUnused old events
+AgreesUnused old events (Differs line difference) = Unit {0}

@@ -1,0 +1,89 @@
+//! Events of a log, judged one after another.
+
+ghost use Rattle.std.specs.Prelude.{◌≡◌, ◌<◌, ◌^◌, IfErr, IfOk, length};
+ghost use Rattle.std.specs.List.{All};
+ghost use Rattle.log_text.specs.Log.{IsListedEvent, IsValidEvent};
+ghost use Rattle.heap_machine.specs.Safety.{FitsTypes, IsSafe};
+ghost use Rattle.heap_log.specs.Judged.{AgreesUnused, FitsEvent, IsFound, IsVerdict};
+
+use crate::laws::logs;
+use crate::seeing::see;
+use crate::tallying::tally;
+use crate::verdict::{Difference, Verdict};
+use heap_machine::{Followed, Machine, MachineFault};
+use log_text::Event;
+use std::alloc::Global;
+use std::thread::Threads;
+use sweep_pool::Open;
+use trace_text::Command;
+
+// Tells what the type of a command says of its numbers, for the law `logs`. Nothing is done.
+fn fit_command(command: Command)
+    ensures { FitsTypes command }
+{
+    let _ = command;
+}
+
+// The same of an event.
+fn fit(event: Event)
+    ensures { FitsEvent event }
+{
+    if let Event::Done { command, .. } = event {
+        fit_command(command);
+    }
+}
+
+// Judges one event on a machine that has done all before it.
+fn follow_event<R: Threads + Sync>(
+    rt: &R,
+    alloc: Global,
+    machine: &mut Machine,
+    event: Event,
+) -> Result<Option<Difference>, MachineFault>
+    requires valid { IsValidEvent event }
+    ensures found { IfOk result (λ found. IsFound machine.old.state event found machine.new.state) }
+    ensures memory { IfErr result (λ fault. fault ≡ MachineFault.Memory) }
+    ensures safe { IsSafe machine.old.state → IsSafe machine.new.state }
+{
+    match event {
+        Event::Done { command, answer } => {
+            match machine.follow(rt, alloc, command, answer, &Open)? {
+                Followed::Agrees => Ok(None),
+                Followed::Differs(why) => Ok(Some(Difference::Answer(why))),
+            }
+        }
+        Event::Seen {
+            address,
+            tag,
+            bytes,
+        } => Ok(see(machine, address, tag, bytes)),
+    }
+}
+
+/// Judges the events of a log on a machine in any state. The machine does each command as it was answered, up to the
+/// first event that may not happen. Where memory runs out, it has done the commands before.
+pub fn judge<R: Threads + Sync>(
+    rt: &R,
+    alloc: Global,
+    machine: &mut Machine,
+    events: &[(u32, Event)],
+) -> Result<Verdict, MachineFault>
+    requires valid { All IsListedEvent events.now }
+    requires count { length events.now < 2 ^ 32 }
+    ensures verdict { IfOk result (λ verdict. IsVerdict machine.old.state events.now verdict machine.new.state) }
+    ensures memory { IfErr result (λ fault. fault ≡ MachineFault.Memory) }
+    ensures safe { IsSafe machine.old.state → IsSafe machine.new.state }
+    ensures unused { IfOk result (λ verdict. IsSafe machine.old.state → AgreesUnused machine.old.state events.now verdict) }
+{
+    logs();
+    for (line, event) in events {
+        fit(*event);
+        if let Some(difference) = follow_event(rt, alloc, machine, *event)? {
+            return Ok(Verdict::Differs {
+                line: *line,
+                difference,
+            });
+        }
+    }
+    Ok(Verdict::Agrees(tally(events)))
+}

@@ -1,0 +1,107 @@
+//! Machines of given parts, and what is wrong with other parts.
+
+use cap_codec::{Word, block_capability};
+use heap_core::{Claim, Heap};
+use heap_machine::{Flaw, Kind, Machine, Reply};
+use std::alloc::Global;
+use std::process::Abort;
+use sweep_pool::{Cutting, Open};
+use tag_memory::{Memory, Registers};
+use trace_text::Command;
+
+const BASE: u64 = 0x4000_0000;
+
+// A heap of a page with a live block of 32 bytes in it, and one that is painted.
+fn heap_of_two(rt: &impl Abort, alloc: Global) -> Heap {
+    let mut heap = Heap::new(alloc, BASE, 1).expect(rt, "a heap");
+    assert_eq!(rt; heap.claim(0x4000_0200, 0x4000_0220), Claim::Claimed);
+    assert!(rt; heap.release(0x4000_0200, 0x4000_0220).is_ok());
+    assert!(rt; !heap.is_open());
+    heap.begin_epoch();
+    assert_eq!(rt; heap.claim(0x4000_0100, 0x4000_0120), Claim::Claimed);
+    heap
+}
+
+fn memory_at(rt: &impl Abort, alloc: Global, base: u64, pages: u32) -> Memory {
+    Memory::new(alloc, base, pages).expect(rt, "memory")
+}
+
+// Stores a word with its tag.
+fn put(memory: &mut Memory, granule: usize, word: Word) {
+    if granule < memory.granules() {
+        memory.put(granule, word.bits, true);
+    }
+}
+
+// The flaw of the heap above with these.
+fn flaw(rt: &impl Abort, alloc: Global, memory: Memory, registers: Registers) -> Option<Flaw> {
+    let cutting = Cutting::new(1, 16).expect(rt, "it is a cutting");
+    Machine::of(heap_of_two(rt, alloc), memory, registers, cutting).err()
+}
+
+#[test]
+fn parts_make_a_machine(rt: HostRuntime) {
+    let alloc = rt.alloc();
+    let mut memory = memory_at(&rt, alloc, BASE, 1);
+    let mut registers = Registers::new();
+    let painted = block_capability(0x4000_0200, 0x4000_0220);
+    put(&mut memory, 16, painted);
+    registers.set(1, block_capability(0x4000_0100, 0x4000_0120), true);
+    // Without its tag a word may have any bounds.
+    registers.set(2, block_capability(0x4000_0800, 0x4000_0820), false);
+    let cutting = Cutting::new(1, 16).expect(&rt, "it is a cutting");
+    let made = Machine::of(heap_of_two(&rt, alloc), memory, registers, cutting);
+    let Ok(mut machine) = made else {
+        assert!(rt; false);
+        return;
+    };
+    let kind = machine.heap().block_of(0x4000_0210).map(|found| found.1);
+    assert_eq!(rt; kind, Some(Kind::Painted));
+    let freed = machine.step(&rt, alloc, Command::Free { rs: 1 }, &Open);
+    assert_eq!(rt; freed, Ok(Reply::Held(32)));
+    let ended = machine.step(&rt, alloc, Command::End, &Open);
+    let taken = Reply::Swept {
+        cleared: 1,
+        released: 32,
+    };
+    assert_eq!(rt; ended, Ok(taken));
+}
+
+#[test]
+fn the_first_flaw_is_told(rt: HostRuntime) {
+    let alloc = rt.alloc();
+    let elsewhere = memory_at(&rt, alloc, 0x5000_0000, 1);
+    assert_eq!(rt;
+        flaw(&rt, alloc, elsewhere, Registers::new()),
+        Some(Flaw::Elsewhere)
+    );
+    let longer = memory_at(&rt, alloc, BASE, 2);
+    assert_eq!(rt;
+        flaw(&rt, alloc, longer, Registers::new()),
+        Some(Flaw::Elsewhere)
+    );
+
+    // One byte past the live block, and none of it.
+    let mut registers = Registers::new();
+    registers.set(7, block_capability(0x4000_0110, 0x4000_0121), true);
+    let memory = memory_at(&rt, alloc, BASE, 1);
+    assert_eq!(rt;
+        flaw(&rt, alloc, memory, registers),
+        Some(Flaw::Register(7))
+    );
+
+    let mut memory = memory_at(&rt, alloc, BASE, 1);
+    put(&mut memory, 5, block_capability(0x4000_0400, 0x4000_0410));
+    assert_eq!(rt;
+        flaw(&rt, alloc, memory, Registers::new()),
+        Some(Flaw::Granule(5))
+    );
+
+    let mut memory = memory_at(&rt, alloc, BASE, 1);
+    put(&mut memory, 9, block_capability(0x4000_0200, 0x4000_0220));
+    memory.mark_clean();
+    assert_eq!(rt;
+        flaw(&rt, alloc, memory, Registers::new()),
+        Some(Flaw::Clean(9))
+    );
+}
