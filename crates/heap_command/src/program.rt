@@ -21,6 +21,7 @@ use std::alloc::{AllocError, Global};
 use std::thread::Threads;
 use sweep_pool::Cutting;
 use trace_program::{Answer, ReadFault, Sink, Source, fault_answer, read_text, tell};
+use trace_text::LONGEST_TEXT;
 
 const USAGE: &[u8] =
     b"usage: heap_tool run [--workers N] [--cut N] [--image] or heap_tool word HEX\n";
@@ -50,7 +51,7 @@ pub fn tool<'a, R: Threads + Sync, I: Source, O: Sink>(
 {
     match asked_by(alloc, words) {
         Ok(Asked::Word(hex)) => tell(writer, word_answer(alloc, hex), USAGE),
-        Ok(Asked::Run(options)) => match read_text(alloc, reader) {
+        Ok(Asked::Run(options)) => match read_text(alloc, reader, LONGEST_TEXT) {
             Ok(text) => tell(writer, run_answer(rt, alloc, &text, options), USAGE),
             Err(ReadFault::Memory) => refuse(writer, Refusal::Memory),
             Err(ReadFault::Failed) => 4,

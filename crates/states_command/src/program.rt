@@ -15,6 +15,7 @@ use std::alloc::Global;
 use std::thread::Threads;
 use sweep_pool::Cutting;
 use trace_program::{Answer, ReadFault, Sink, Source, fault_answer, read_text, tell};
+use trace_text::LONGEST_TEXT;
 
 const USAGE: &[u8] = b"usage: heap_states [--workers N] [--cut N]\n";
 
@@ -42,7 +43,7 @@ pub fn states_tool<'a, R: Threads + Sync, I: Source, O: Sink>(
     ensures unwritten { I.failed reader.new ≡ true → writer.new ≡ writer.old }
 {
     match states_options_by(alloc, words) {
-        Ok(options) => match read_text(alloc, reader) {
+        Ok(options) => match read_text(alloc, reader, LONGEST_TEXT) {
             Ok(text) => tell(writer, states_answer(rt, alloc, &text, options), USAGE),
             Err(ReadFault::Memory) => refuse(writer, Refusal::Memory),
             Err(ReadFault::Failed) => 4,

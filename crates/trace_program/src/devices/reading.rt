@@ -1,18 +1,13 @@
 //! What the program reads from.
 
-ghost use Rattle.std.specs.Prelude.{◌≡◌, ◌↔◌, ◌<◌, ℕ, Bool, IfOk, List, None, Option, false, length, true};
+ghost use Rattle.std.specs.Prelude.{◌≡◌, ◌↔◌, ◌<◌, ◌+◌, ◌^◌, ℕ, Bool, IfOk, List, None, Option, false, length, true};
 ghost use Rattle.std.specs.Io.{ReadsAtMost};
 ghost use Rattle.std.specs.Io.KnownBytes.{ReadConsumes};
-ghost use Rattle.trace_program.specs.Device.{most_read};
 ghost use Rattle.trace_program.specs.Device.{FailsByError, ReadsFew, ReadsMore, ReadsUpTo};
 
 use crate::devices::Failed;
 use std::alloc::{AllocError, Global};
 use std::io::Read;
-use trace_text::LONGEST_TEXT;
-
-// The most bytes that are read: one more than a trace has, so that a longer one is told.
-const MOST_READ: usize = LONGEST_TEXT + 1;
 
 // The most bytes that are read at once.
 const CHUNK: usize = 65_536;
@@ -45,12 +40,17 @@ pub enum ReadFault {
     Failed,
 }
 
-/// Reads to the end, but at most 4,194,305 bytes, also where it errs.
-pub fn read_text<I: Source>(alloc: Global, reader: &mut I) -> Result<Vec<u8>, ReadFault>
-    requires { I.failed reader.old ≡ false }
+/// Reads to the end, but at most one byte more than the longest text has, so that a longer one is told; also where it errs.
+pub fn read_text<I: Source>(
+    alloc: Global,
+    reader: &mut I,
+    longest: usize,
+) -> Result<Vec<u8>, ReadFault>
+    requires whole { I.failed reader.old ≡ false }
+    requires longest { longest + 1 < 2 ^ 64 }
     ensures ok { IfOk result (λ text.
-        ReadsUpTo most_read (I.remaining reader.old) (I.remaining reader.new) text.items) }
-    ensures few { ReadsFew most_read 0 (I.remaining reader.old) (I.remaining reader.new) }
+        ReadsUpTo (longest + 1) (I.remaining reader.old) (I.remaining reader.new) text.items) }
+    ensures few { ReadsFew (longest + 1) 0 (I.remaining reader.old) (I.remaining reader.new) }
     ensures failed { (result ≡ Err ReadFault.Failed) ↔ (I.failed reader.new ≡ true) }
 {
     let Ok(mut chunk) = new_chunk(alloc) else {
@@ -58,8 +58,8 @@ pub fn read_text<I: Source>(alloc: Global, reader: &mut I) -> Result<Vec<u8>, Re
     };
     let mut text = Vec::new(alloc);
     let mut is_at_end = false;
-    while !is_at_end && text.len() < MOST_READ {
-        is_at_end = read_more(&mut text, reader, &mut chunk)?;
+    while !is_at_end && text.len() <= longest {
+        is_at_end = read_more(&mut text, reader, &mut chunk, longest)?;
     }
     Ok(text)
 }
@@ -76,16 +76,18 @@ fn read_more<I: Source>(
     text: &mut Vec<u8>,
     reader: &mut I,
     chunk: &mut [u8],
+    longest: usize,
 ) -> Result<bool, ReadFault>
     requires whole { I.failed reader.old ≡ false }
-    requires room { length text.old.items < most_read }
+    requires longest { longest + 1 < 2 ^ 64 }
+    requires room { length text.old.items < longest + 1 }
     requires some { 0 < length chunk.old }
-    ensures ok { IfOk result (λ is_at_end. ReadsMore most_read
+    ensures ok { IfOk result (λ is_at_end. ReadsMore (longest + 1)
         (I.remaining reader.old) (I.remaining reader.new) text.old.items text.new.items is_at_end) }
-    ensures few { ReadsFew most_read (length text.old.items) (I.remaining reader.old) (I.remaining reader.new) }
+    ensures few { ReadsFew (longest + 1) (length text.old.items) (I.remaining reader.old) (I.remaining reader.new) }
     ensures failed { (result ≡ Err ReadFault.Failed) ↔ (I.failed reader.new ≡ true) }
 {
-    let room = chunk.len().min(MOST_READ - text.len());
+    let room = chunk.len().min(longest + 1 - text.len());
     let buffer = &mut chunk[..room];
     let Ok(count) = reader.read(buffer) else {
         return Err(ReadFault::Failed);
