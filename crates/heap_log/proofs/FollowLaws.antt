@@ -1,8 +1,8 @@
 -- Events that follow: one more, cut in two, and what they leave.
-use Rattle.std.proofs.Common.{◌≡◌, ◌<◌, ◌+◌, ◌∙◌, ℕ, suc, List, [], ◌∷◌, ◌++◌, Option, None, Some, drop, get_or, length, take, refl, sym, subst}
+use Rattle.std.proofs.Common.{arith, ◌≡◌, ◌<◌, ◌+◌, ◌∙◌, ℕ, suc, List, [], ◌∷◌, ◌++◌, Option, None, Some, drop, get_or, length, take, refl, sym, subst}
 use Rattle.std.specs.Prelude.{All}
 use Rattle.std.proofs.Math.Seq.{split_at}
-use Rattle.std.proofs.lemmas.List.{take_more}
+use Rattle.std.proofs.lemmas.List.{length-take-le, take_more}
 use Rattle.std.proofs.lemmas.List.Elements.{All-head, All-push, All-tail}
 use Rattle.trace_text.specs.declared.trace.Command.{Command}
 use Rattle.heap_reply.specs.declared.reply.Reply.{Reply}
@@ -31,7 +31,7 @@ AllFollow-more old events i none mid new found here all same judged =
 -- the events up to one that doesn't
 pub DiffersAt-found : (old : State) (events : List (ℕ × Event)) (i : ℕ) (none : ℕ × Event) (mid new : State) (found : Option Difference) (difference : Difference)
     → i < length events → AllFollow old (take i events) mid → found ≡ Some difference → IsFound mid (get_or events i none).1 found new
-    → DiffersAt old events (get_or events i none).0 difference new
+    → DiffersAt old events (get_or events i none).0 i difference new
 DiffersAt-found old events i none mid new found difference here all same judged =
     let event = (get_or events i none).1 in
     let differs : IsFound mid event (Some difference) new = subst (λ (f : Option Difference). IsFound mid event f new) same judged in
@@ -41,6 +41,7 @@ DiffersAt-found old events i none mid new found difference here all same judged 
       event = event;
       after = drop (suc i) events;
       parts = split_at events i none here;
+      count_is = length-take-le i events (omega (arith, here));
       follow = subst (λ (s : State). AllFollow old (take i events) s) still all;
       refused = subst (λ (s : State). IsRefusedEvent s event) still differs.0;
       instead = subst (λ (s : State). SaysInstead s event difference) still differs.1;
@@ -102,9 +103,9 @@ pub AllFit-more : (events : List (ℕ × Event)) (i : ℕ) (none : ℕ × Event)
 AllFit-more events i none here all fits =
     subst (All FitsListed) (sym (take_more events i none here)) (All-push FitsListed (take i events) (get_or events i none) all fits)
 
-pub DiffersAt-never : Laws → (old : State) (events : List (ℕ × Event)) (line : ℕ) (difference : Difference) (new left : State)
-    → DiffersAt old events line difference new → AllFollow old events left → ⊥
-DiffersAt-never laws old events line difference new left d p =
+pub DiffersAt-never : Laws → (old : State) (events : List (ℕ × Event)) (line count : ℕ) (difference : Difference) (new left : State)
+    → DiffersAt old events line count difference new → AllFollow old events left → ⊥
+DiffersAt-never laws old events line count difference new left d p =
     let parts = AllFollow-cut old d.before ((line, d.event) ∷ d.after) left (subst (λ (xs : List (ℕ × Event)). AllFollow old xs left) d.parts p) in
     let same : parts.0 ≡ new = AllFollow-one laws old d.before parts.0 new parts.1 d.follow in
     d.refused parts.2.0 (subst (λ (s : State). EventFollows s d.event parts.2.0) same parts.2.1)

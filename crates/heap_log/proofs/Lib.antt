@@ -1,3 +1,5 @@
+mod DueLaws
 mod FollowLaws
+mod OriginLaws
 mod SeenLaws
 mod TallyLaws

@@ -76,12 +76,13 @@ abbrev pub IsFound : State → Event → Option Difference → State → Type 0
 IsFound old event None new = EventFollows old event new
 IsFound old event (Some difference) new = IsRefusedEvent old event × SaysInstead old event difference × (new ≡ old)
 
--- The events follow up to the one of this line, which may not happen then, as is told.
-pub record DiffersAt (old : State) (events : List (ℕ × Event)) (line : ℕ) (difference : Difference) (new : State) : Type 0 where
+-- The events follow up to the one of this line, with so many before it, which may not happen then, as is told.
+pub record DiffersAt (old : State) (events : List (ℕ × Event)) (line count : ℕ) (difference : Difference) (new : State) : Type 0 where
   pub before : List (ℕ × Event)
   pub event : Event
   pub after : List (ℕ × Event)
   pub parts : events ≡ before ++ (line, event) ∷ after
+  pub count_is : length before ≡ count
   pub follow : AllFollow old before new
   pub refused : IsRefusedEvent new event
   pub instead : SaysInstead new event difference
@@ -138,9 +139,9 @@ tally_of events = record {
 -- finds it.
 abbrev pub IsVerdict : State → List (ℕ × Event) → Verdict → State → Type 0
 IsVerdict old events (Agrees tally) new = AllFollow old events new × (tally ≡ tally_of events)
-IsVerdict old events (Differs line difference) new = DiffersAt old events line difference new
+IsVerdict old events (Differs line count difference) new = DiffersAt old events line count difference new
 
 -- Events that agree hand out only what is unused.
 abbrev pub AgreesUnused : State → List (ℕ × Event) → Verdict → Type 0
 AgreesUnused old events (Agrees tally) = HandOutUnused old events
-AgreesUnused old events (Differs line difference) = Unit {0}
+AgreesUnused old events (Differs line count difference) = Unit {0}

@@ -33,8 +33,8 @@ fn fit(event: Event)
     }
 }
 
-// Judges one event on a machine that has done all before it.
-fn follow_event<R: Threads + Sync>(
+/// Judges one event on a machine that has done all before it.
+pub fn follow_event<R: Threads + Sync>(
     rt: &R,
     alloc: Global,
     machine: &mut Machine,
@@ -76,11 +76,12 @@ pub fn judge<R: Threads + Sync>(
     ensures unused { IfOk result (λ verdict. IsSafe machine.old.state → AgreesUnused machine.old.state events.now verdict) }
 {
     logs();
-    for (line, event) in events {
+    for (count, (line, event)) in events.iter().enumerate() {
         fit(*event);
         if let Some(difference) = follow_event(rt, alloc, machine, *event)? {
             return Ok(Verdict::Differs {
                 line: *line,
+                count,
                 difference,
             });
         }

@@ -15,8 +15,8 @@ use heap_machine::answers;
 pub fn logs()
     ensures one { (first : State) (events : List (ℕ × TheEvent)) (last left : State) →
         AllFollow first events last → AllFollow first events left → last ≡ left }
-    ensures never { (first : State) (events : List (ℕ × TheEvent)) (line : ℕ) (difference : TheDifference) (mid last : State) →
-        DiffersAt first events line difference mid → AllFollow first events last → ⊥ }
+    ensures never { (first : State) (events : List (ℕ × TheEvent)) (line count : ℕ) (difference : TheDifference) (mid last : State) →
+        DiffersAt first events line count difference mid → AllFollow first events last → ⊥ }
     ensures safe { (first : State) (events : List (ℕ × TheEvent)) (last : State) →
         IsSafe first → All FitsListed events → AllFollow first events last → IsSafe last }
     ensures unused { (first : State) (events : List (ℕ × TheEvent)) (last : State) →

@@ -31,6 +31,10 @@ pub struct Tally {
 pub enum Verdict {
     /// Each follows from those before it.
     Agrees(Tally),
-    /// The event of this line is the first that doesn't.
-    Differs { line: u32, difference: Difference },
+    /// The event of this line is the first that doesn't, with so many before it.
+    Differs {
+        line: u32,
+        count: usize,
+        difference: Difference,
+    },
 }

@@ -8,22 +8,22 @@ use Rattle.heap_log.proofs.judging.judge.Goals as goal
 
 pub returns-in-Some-clause-verdict : goal.returns-in-Some-clause-verdict
 returns-in-Some-clause-verdict g c =
-    DiffersAt-found c.args.machine.now.state c.args.events.now c.loop-line.line-index _ c.loop-line.machine.state c.follow_event.new.machine.state
-    c.in_ok-difference.field-0 c.in-Some.difference c.loop-line-test.true c.loop-line.invariant.follow c.in-Some.is c.in_ok-difference.ensures.found
+    DiffersAt-found c.args.machine.now.state c.args.events.now c.loop-count.count _ c.loop-count.machine.state c.follow_event.new.machine.state
+    c.in_ok-difference.field-0 c.in-Some.difference c.loop-count-test.true c.loop-count.invariant.follow c.in-Some.is c.in_ok-difference.ensures.found
 
-pub loop-line-preserved : goal.loop-line-preserved
-loop-line-preserved g c = record {
-  follow = AllFollow-more c.args.machine.now.state c.args.events.now c.loop-line.line-index _ c.loop-line.machine.state c.follow_event.new.machine.state
-      c.in_ok-difference.field-0 c.loop-line-test.true c.loop-line.invariant.follow c.in_default.is c.in_ok-difference.ensures.found;
-  safe = λ first. c.follow_event.ensures.safe (c.loop-line.invariant.safe first);
-  fits = AllFit-more c.args.events.now c.loop-line.line-index _ c.loop-line-test.true c.loop-line.invariant.fits c.fit.ensures;
+pub loop-count-preserved : goal.loop-count-preserved
+loop-count-preserved g c = record {
+  follow = AllFollow-more c.args.machine.now.state c.args.events.now c.loop-count.count _ c.loop-count.machine.state c.follow_event.new.machine.state
+      c.in_ok-difference.field-0 c.loop-count-test.true c.loop-count.invariant.follow c.in_default.is c.in_ok-difference.ensures.found;
+  safe = λ first. c.follow_event.ensures.safe (c.loop-count.invariant.safe first);
+  fits = AllFit-more c.args.events.now c.loop-count.count _ c.loop-count-test.true c.loop-count.invariant.fits c.fit.ensures;
 }
 
 pub returns-clause-unused : goal.returns-clause-unused
 returns-clause-unused g c =
     let first = c.args.machine.now.state in
-    let last = c.loop-line.machine.state in
-    let whole = take_all c.loop-line.line-index c.args.events.now (omega (arith, c.loop-line-test.false)) in
+    let last = c.loop-count.machine.state in
+    let whole = take_all c.loop-count.count c.args.events.now (omega (arith, c.loop-count-test.false)) in
     λ safe.
     c.logs.ensures.unused first c.args.events.now last safe
-    (subst (All FitsListed) whole c.loop-line.invariant.fits) (subst (λ (xs : List (ℕ × Event)). AllFollow first xs last) whole c.loop-line.invariant.follow)
+    (subst (All FitsListed) whole c.loop-count.invariant.fits) (subst (λ (xs : List (ℕ × Event)). AllFollow first xs last) whole c.loop-count.invariant.follow)

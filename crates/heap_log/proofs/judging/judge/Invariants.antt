@@ -5,9 +5,9 @@ use Rattle.heap_machine.specs.Safety.{IsSafe}
 use Rattle.heap_log.specs.Judged.{AllFollow, FitsListed}
 use Rattle.heap_log.proofs.judging.judge.Given as goal
 
-abbrev pub invariant-loop-line : goal.invariant-loop-line
-invariant-loop-line g l = record {
-  follow : AllFollow l.fn.machine.state (take l.line-index l.events) l.machine.state;
+abbrev pub invariant-loop-count : goal.invariant-loop-count
+invariant-loop-count g l = record {
+  follow : AllFollow l.fn.machine.state (take l.count l.events) l.machine.state;
   safe : IsSafe l.fn.machine.state → IsSafe l.machine.state;
-  fits : All FitsListed (take l.line-index l.events);
+  fits : All FitsListed (take l.count l.events);
 }

@@ -11,7 +11,7 @@ pub returns-clause-never : goal.returns-clause-never
 returns-clause-never c =
     let answers = c.answers.ensures in
     let laws : Laws = record { one = answers.one; safe = answers.safe; unused = answers.unused } in
-    λ first events line difference mid last differs p. DiffersAt-never laws first events line difference mid last differs p
+    λ first events line count difference mid last differs p. DiffersAt-never laws first events line count difference mid last differs p
 
 pub returns-clause-safe : goal.returns-clause-safe
 returns-clause-safe c =
