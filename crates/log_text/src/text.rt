@@ -51,6 +51,7 @@ fn read_events(alloc: Global, first: u32, text: &[u8]) -> Result<Vec<(u32, Event
     requires { first + length text.now < 2 ^ 32 }
     ensures value { Gives (λ list. list.items) result (events_from first (lines_of text.now)) }
     ensures valid { IfOk result (λ list. All IsListedEvent list.items) }
+    ensures few { IfOk result (λ list. first + length list.items < 2 ^ 32) }
 {
     let mut list = Vec::new(alloc);
     let mut number = first;
@@ -72,6 +73,7 @@ pub fn parse(alloc: Global, text: &[u8]) -> Result<Log, LogFault>
     ensures heap { IfOk result (λ log. IsHeap log.base log.pages) }
     ensures givens { IfOk result (λ log. All IsListedGiven log.givens.items) }
     ensures events { IfOk result (λ log. All IsListedEvent log.events.items) }
+    ensures few { IfOk result (λ log. length log.events.items < 2 ^ 32) }
 {
     if text.len() > LONGEST_LOG {
         return Err(LogFault::Trace(TraceFault::TooLong));

@@ -1,5 +1,5 @@
-use Rattle.std.proofs.Common.{◌≡◌, ◌<◌, ◌^◌, ◌++◌, ◌∙◌, ℕ, [], Option, Some, None, IfSome, All, sym, ap, arith}
-use Rattle.std.proofs.lemmas.List.{append-nil}
+use Rattle.std.proofs.Common.{◌≡◌, ◌<◌, ◌≤◌, ◌^◌, length, ◌++◌, ◌∙◌, ℕ, [], Option, Some, None, IfSome, All, sym, ap, arith}
+use Rattle.std.proofs.lemmas.List.{append-nil, length-append}
 use Rattle.std.proofs.lemmas.List.Elements.{All-append, All-cons, All-nil}
 use Rattle.std.proofs.lemmas.Result.{err_from_is_err_and}
 use Rattle.log_text.specs.declared.log.Event.{Event}
@@ -18,6 +18,10 @@ All-listed : (number : ℕ) (event : Option Event) → number < 2 ^ 32 → IfSom
 All-listed number None small valid = All-nil IsListedEvent
 All-listed number (Some event) small valid = All-cons IsListedEvent (number, event) [] (small, valid) (All-nil IsListedEvent)
 
+length-listed : (number : ℕ) (event : Option Event) → length (listed number event) ≤ 1
+length-listed number None = omega arith
+length-listed number (Some event) = omega arith
+
 pub loop-line-preserved : goal.loop-line-preserved
 loop-line-preserved c =
     let items = c.loop-line.list.items in
@@ -30,6 +34,7 @@ loop-line-preserved c =
     let valid : All IsListedEvent (listed number read) = All-listed number read (omega arith) c.in_ok-event.ensures.valid in
     record {
       valid = rw more (All-append IsListedEvent items (listed number read) c.loop-line.invariant.valid valid);
+      few = rw more (omega (arith, c.loop-line.invariant.few, length-append items (listed number read), length-listed number read));
       number = omega (arith, c.in-Some.ensures.shorter);
       told = rw more (events_go_on items number c.loop-line.rest.now c.in-Some.line c.in-Some.after.now read _
           c.in-Some.ensures.line c.in_ok-event.ensures.value c.loop-line.invariant.told);

@@ -8,6 +8,7 @@ use Rattle.log_text.proofs.text.read_events.Given as goal
 abbrev pub invariant-loop-line : goal.invariant-loop-line
 invariant-loop-line l = record {
   valid : All IsListedEvent l.list.items;
+  few : l.first + length l.list.items ≤ l.number;
   number : l.number + length l.rest ≤ l.first + length l.text;
   told : with_front l.list.items (events_from l.number (lines_of l.rest)) ≡ events_from l.first (lines_of l.text);
 }
