@@ -1,0 +1,6 @@
+mod BlockLaws
+mod FitLaws
+mod GuardLaws
+mod LineLaws
+mod PlaceLaws
+mod TurnLaws

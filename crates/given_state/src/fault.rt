@@ -1,0 +1,24 @@
+//! What given lines lack.
+
+use heap_machine::Claim;
+
+/// What a given line lacks.
+#[derive(Debug, Clone, Copy, PartialEq, Eq)]
+pub enum Lack {
+    /// The block may not lie there, beside those of the lines before it, for this reason.
+    Block(Claim),
+    /// No granule of the heap lies at the address.
+    NoGranule,
+    /// The word is tagged, and no given block has all of these bounds, or they are empty.
+    Unguarded { base: u64, top: u128 },
+}
+
+/// Why no machine was made of given lines.
+#[derive(Debug, Clone, Copy, PartialEq, Eq)]
+pub enum StartFault {
+    /// An allocation was refused.
+    Memory,
+    /// They tell no state that is safe: the block of this line is the first that lacks this, or, where none does, its
+    /// word is.
+    Unsafe { line: u32, lack: Lack },
+}

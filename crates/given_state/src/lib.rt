@@ -1,0 +1,12 @@
+//! The machine which the given lines of a log tell of, or what these lack.
+#![tactic(auto)]
+
+mod blocks;
+mod fault;
+mod laws;
+mod starting;
+mod words;
+
+pub use crate::fault::{Lack, StartFault};
+pub use crate::laws::safe_or_flawed;
+pub use crate::starting::start;

@@ -1,0 +1,57 @@
+//! Machines in the state that given lines tell of.
+
+ghost use Rattle.std.specs.Prelude.{◌≡◌, All, IfErr, IfOk, OnOk};
+ghost use Rattle.log_text.specs.Log.{IsListedGiven};
+ghost use Rattle.trace_text.specs.Heap.{IsHeap};
+ghost use Rattle.heap_machine.specs.Making.{made};
+ghost use Rattle.heap_machine.specs.Safety.{IsSafe};
+ghost use Rattle.given_state.specs.Given.{AreSafe, IsFault, given_state};
+ghost use Rattle.given_state.specs.Giving.{FitHeap};
+
+use crate::blocks::heap_given;
+use crate::fault::StartFault;
+use crate::words::hold_all;
+use heap_core::Heap;
+use heap_machine::Machine;
+use log_text::Given;
+use std::alloc::Global;
+use sweep_pool::Cutting;
+use tag_memory::{Memory, Registers};
+
+// The machine of parts that fit.
+fn machine_of(heap: Heap, memory: Memory, registers: Registers, cutting: Cutting) -> Machine
+    requires { FitHeap heap memory registers }
+    ensures made { result ≡ made heap memory registers cutting }
+    ensures safe { IsSafe result.state }
+{
+    Machine::of(heap, memory, registers, cutting).unwrap()
+}
+
+/// The machine in the state that given lines tell of, of a heap of so many pages of 4,096 bytes from `base` on. Its
+/// sweeps are cut into tasks of `cutting`'s pages, and made by no more than its workers. Else their first flaw: blocks
+/// are judged before words, each in the order of their lines.
+pub fn start(
+    alloc: Global,
+    base: u64,
+    pages: u32,
+    givens: &[(u32, Given)],
+    cutting: Cutting,
+) -> Result<Machine, StartFault>
+    requires heap { IsHeap base pages }
+    requires givens { All IsListedGiven givens.now }
+    ensures made { IfOk result (λ machine. machine.state ≡ given_state base pages givens.now) }
+    ensures cutting { IfOk result (λ machine. machine.cutting ≡ cutting) }
+    ensures lines { OnOk result (AreSafe base pages givens.now) }
+    ensures safe { IfOk result (λ machine. IsSafe machine.state) }
+    ensures flaw { IfErr result (IsFault base pages givens.now) }
+{
+    let heap = heap_given(alloc, base, pages, givens)?;
+    let Ok(mut memory) = Memory::new(alloc, base, pages) else {
+        return Err(StartFault::Memory);
+    };
+    let mut registers = Registers::new();
+    if let Err((line, lack)) = hold_all(&heap, &mut memory, &mut registers, givens) {
+        return Err(StartFault::Unsafe { line, lack });
+    }
+    Ok(machine_of(heap, memory, registers, cutting))
+}
