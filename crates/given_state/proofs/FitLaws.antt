@@ -114,7 +114,7 @@ with_words s m registers new fit all =
     record { together = fit.together; pages = fit.pages; words = all; granules = fit.granules; dirty = fit.dirty }
 
 -- What a line leaves that may be held.
-pub FitHeap-given : (s : HeapState) (m : MemoryState) (registers : List Cell) (given : Given) → FitHeap s m registers → MayHold s given
+FitHeap-given : (s : HeapState) (m : MemoryState) (registers : List Cell) (given : Given) → FitHeap s m registers → MayHold s given
     → FitHeap s (with_given_memory m given) (with_given_register registers given)
 FitHeap-given s m registers (Register r tag bytes) fit may =
     with_words s m registers (with_register registers r (cell_with tag bytes)) fit (register_kept s registers r (cell_with tag bytes) (r == 0) fit.words may)
@@ -125,7 +125,7 @@ FitHeap-given s m registers (Painted base top) fit may = fit
 FitHeap-given s m registers Epoch fit may = fit
 
 -- The cells of the memory, as the meaning of the lines has them.
-pub cells_given : (m : MemoryState) (base : ℕ) (given : Given) → m.base ≡ base → (with_given_memory m given).cells ≡ with_given_granule base m.cells given
+cells_given : (m : MemoryState) (base : ℕ) (given : Given) → m.base ≡ base → (with_given_memory m given).cells ≡ with_given_granule base m.cells given
 cells_given m base (Granule address tag bytes) at = ap (λ (b : ℕ). set m.cells ((address - b) / 16) (bits_of_bytes bytes, tag)) at
 cells_given m base (Register r tag bytes) at = refl
 cells_given m base (Live start top) at = refl
@@ -133,13 +133,26 @@ cells_given m base (Waiting start top) at = refl
 cells_given m base (Painted start top) at = refl
 cells_given m base Epoch at = refl
 
-pub base_given : (m : MemoryState) (given : Given) → (with_given_memory m given).base ≡ m.base
+base_given : (m : MemoryState) (given : Given) → (with_given_memory m given).base ≡ m.base
 base_given m (Granule address tag bytes) = refl
 base_given m (Register r tag bytes) = refl
 base_given m (Live start top) = refl
 base_given m (Waiting start top) = refl
 base_given m (Painted start top) = refl
 base_given m Epoch = refl
+
+-- A line more, whose word may be held.
+pub FitHeap-more : (s : HeapState) (m new : MemoryState) (registers written : List Cell) (given : Given) → FitHeap s m registers → MayHold s given
+    → new ≡ with_given_memory m given → written ≡ with_given_register registers given → FitHeap s new written
+FitHeap-more s m new registers written given fit may puts sets =
+    subst (λ (x : MemoryState). FitHeap s x written) (sym puts) (
+    subst (λ (x : List Cell). FitHeap s (with_given_memory m given) x) (sym sets) (FitHeap-given s m registers given fit may))
+
+pub cells_more : (m new : MemoryState) (base : ℕ) (given : Given) → m.base ≡ base → new ≡ with_given_memory m given → new.cells ≡ with_given_granule base m.cells given
+cells_more m new base given at puts = ap (λ (x : MemoryState). x.cells) puts ∙ cells_given m base given at
+
+pub base_more : (m new : MemoryState) (base : ℕ) (given : Given) → m.base ≡ base → new ≡ with_given_memory m given → new.base ≡ base
+base_more m new base given at puts = ap (λ (x : MemoryState). x.base) puts ∙ (base_given m given ∙ at)
 
 -- ---- no flaw
 

@@ -1,5 +1,5 @@
 -- What the block in which a word's base lies says of the word.
-use Rattle.std.proofs.Common.{◌≡◌, ◌∙◌, ◌<◌, ◌≤◌, ◌+◌, ◌-◌, inl, inr, ℕ, true, false, sym, ap, arith}
+use Rattle.std.proofs.Common.{◌≡◌, ◌∙◌, ◌<◌, ◌≤◌, ◌+◌, ◌-◌, ◌*◌, inl, inr, ℕ, true, false, length, sym, ap, arith}
 use Rattle.std.specs.List.{Contains}
 use Rattle.std.specs.Prelude.{IsTrue}
 use Rattle.std.proofs.lemmas.Bool.{true≢false}
@@ -12,9 +12,12 @@ use Rattle.heap_core.specs.Heap.{HeapState}
 use Rattle.heap_core.specs.Laws.{Contains-block, has_address-within}
 use Rattle.heap_core.specs.declared.block.Kind.{Kind}
 use Rattle.heap_core.specs.declared.block.Kind.TheVariants.{Live, Painted, Waiting}
-use Rattle.tag_memory.specs.Cells.{Cell}
+use Rattle.tag_memory.specs.Cells.{Cell, MemoryState}
+use Rattle.heap_machine.specs.Making.{LieTogether}
 use Rattle.heap_machine.specs.Safety.{IsGuarded, IsLiveOrHeld}
-use Rattle.given_state.specs.Given.{IsUnguarded}
+use Rattle.given_state.specs.declared.fault.Lack.{Lack}
+use Rattle.given_state.specs.declared.fault.Lack.TheVariants.{Block, NoGranule, Unguarded}
+use Rattle.given_state.specs.Given.{HasGranule, IsUnguarded, LacksGranule, LacksGuard}
 
 of_kind : (heap : HeapState) (kind : Kind) (block : Span) → Contains (blocks_in heap kind) block → IsLiveOrHeld heap block
 of_kind heap Live block has = inl has
@@ -30,15 +33,19 @@ pub IsGuarded-untagged : (heap : HeapState) (c : Cell) → c.1 ≡ false → IsG
 IsGuarded-untagged heap c none = record { within = λ tagged. absurd (true≢false (sym tagged ∙ none)) }
 
 -- A word whose bounds end in the block in which they begin.
-pub IsGuarded-found : (heap : HeapState) (c : Cell) (range : Bounds) (base top : ℕ) (kind : Kind) → range ≡ bounds_in c.0 → IsFound heap range.base base top kind
-    → range.base < range.top → range.top ≤ top → IsGuarded heap c
-IsGuarded-found heap c range base top kind is found some end = record {
+guarded : (heap : HeapState) (c : Cell) (base top : ℕ) (kind : Kind) → IsFound heap (bounds_in c.0).base base top kind
+    → (bounds_in c.0).base < (bounds_in c.0).top → (bounds_in c.0).top ≤ top → IsGuarded heap c
+guarded heap c base top kind found some end = record {
   within = λ _. (
     (base, top - base),
     of_kind heap kind (base, top - base) (Contains-block base top (blocks_in heap kind) found.block),
-    rw is at record { start = found.from; some = some; end = omega (arith, end, found.from, found.before) },
+    record { start = found.from; some = some; end = omega (arith, end, found.from, found.before) },
   );
 }
+
+pub IsGuarded-found : (heap : HeapState) (c : Cell) (range : Bounds) (base top : ℕ) (kind : Kind) → range ≡ bounds_in c.0 → IsFound heap range.base base top kind
+    → range.base < range.top → range.top ≤ top → IsGuarded heap c
+IsGuarded-found heap c range base top kind is found some end = guarded heap c base top kind (rw is at found) (rw is at some) (rw is at end)
 
 unguarded : (heap : HeapState) (c : Cell) (range : Bounds) → range ≡ bounds_in c.0 → (IsGuarded heap c → ⊥) → IsUnguarded heap c range.base range.top
 unguarded heap c range is lacks =
@@ -78,3 +85,14 @@ IsUnguarded-empty heap c range is tagged empty =
 pub IsUnguarded-nowhere : (heap : HeapState) (c : Cell) (range : Bounds) → range ≡ bounds_in c.0 → IsInNoBlock heap range.base → IsTrue c.1
     → IsUnguarded heap c range.base range.top
 IsUnguarded-nowhere heap c range is none tagged = unguarded heap c range is (not_guarded-none heap c (rw is at none) tagged)
+
+-- ---- granules
+
+pub HasGranule-none : (s : HeapState) (m : MemoryState) (address : ℕ) → LieTogether s m → ((i : ℕ) → address ≡ m.base + 16 * i → i < length m.cells → ⊥) → ¬ HasGranule s address
+HasGranule-none s m address together none there =
+    none there.0 (omega (arith, there.1.at, together.base)) (omega (arith, there.1.before_end, together.granules))
+
+pub LacksGranule-guard : (s : HeapState) (address : ℕ) (c : Cell) (lack : Lack) → HasGranule s address → LacksGuard s c lack → LacksGranule s address c lack
+LacksGranule-guard s address c NoGranule there lacks = absurd lacks
+LacksGranule-guard s address c (Block reason) there lacks = (there, lacks)
+LacksGranule-guard s address c (Unguarded base top) there lacks = (there, lacks)

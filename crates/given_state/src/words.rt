@@ -30,11 +30,13 @@ fn guard(heap: &Heap, word: Word, tag: bool) -> Result<(), Lack>
     let Some((block, _)) = heap.block_of(range.base) else {
         return Err(lack);
     };
-    if u128::from(range.base) < range.top && range.top <= block.top {
-        Ok(())
-    } else {
-        Err(lack)
+    if range.top <= u128::from(range.base) {
+        return Err(lack);
     }
+    if block.top < range.top {
+        return Err(lack);
+    }
+    Ok(())
 }
 
 // Writes a register, where its word is guarded.
@@ -95,7 +97,9 @@ fn hold_granule(
         return Err(Lack::NoGranule);
     };
     let word = from_bytes(bytes);
-    guard(heap, word, tag)?;
+    if let Err(lack) = guard(heap, word, tag) {
+        return Err(lack);
+    }
     memory.put(i, word.bits, tag);
     Ok(())
 }
