@@ -1,14 +1,12 @@
 -- Blocks by their bounds, in lists to which others are added, or from which they are taken.
-use Rattle.std.proofs.Common.{◌≡◌, ◌∙◌, ◌<◌, ◌≤◌, ◌+◌, ◌-◌, ◌||◌, ◌&&◌, ◌==◌, not, ℕ, Bool, true, false, List, [], ◌∷◌, Option, None, Some, refl, sym, ap, subst, nat_lt, arith}
-use Rattle.std.specs.Prelude.{◌⊎◌}
+use Rattle.std.proofs.Common.{◌≡◌, ◌∙◌, ◌<◌, ◌-◌, ◌||◌, not, ℕ, Bool, true, false, List, [], ◌∷◌, Option, None, Some, refl, sym, subst, nat_lt, arith}
 use Rattle.std.proofs.lemmas.Bool.{cond_both, true≢false}
 use Rattle.std.proofs.lemmas.Bool.Decides.{nat_tests}
 use Rattle.heap_core.specs.Blocks.{Span, blocks_with, blocks_without, has_bounds, is_block, start_of}
 use Rattle.heap_core.specs.Heap.{HeapState}
 use Rattle.heap_core.specs.Laws.{has_bounds-is}
-use Rattle.heap_core.specs.declared.block.Kind.{Kind}
 use Rattle.log_text.specs.declared.log.Given.{Given}
-use Rattle.given_state.specs.Given.{MayLie, all_claimed, all_released, block_in, block_of_kind, with_claimed, with_released}
+use Rattle.given_state.specs.Given.{MayLie, all_claimed, block_in, with_claimed, with_released}
 use Rattle.given_state.specs.Giving.{IsLive}
 
 or_left : (a b : Bool) → a ≡ true → (a || b) ≡ true

@@ -1,6 +1,6 @@
 -- Memory and registers that fit a heap: new ones do, and so they do with one more word that is guarded.
-use Rattle.std.proofs.Common.{◌≡◌, ◌≢◌, ◌∙◌, ◌<◌, ◌≤◌, ◌+◌, ◌-◌, ◌*◌, ◌/◌, ◌==◌, ◌&&◌, ℕ, Bool, true, false, List, [], ◌∷◌, inl, inr, get_or, if◌then◌else◌, length, refl, replicate, set, sym, ap, subst, arith}
-use Rattle.std.specs.Prelude.{All, ◌⊎◌, IfErr, IsOk, Result, Ok, Err}
+use Rattle.std.proofs.Common.{◌≡◌, ◌∙◌, ◌<◌, ◌-◌, ◌*◌, ◌/◌, ◌==◌, ℕ, Bool, true, false, List, inl, inr, get_or, if◌then◌else◌, length, refl, replicate, set, sym, ap, subst, arith}
+use Rattle.std.specs.Prelude.{All, IfErr, IsOk, Result, Ok, Err}
 use Rattle.std.proofs.lemmas.Bool.{and_parts, cases_eq, cases_lt, true≢false}
 use Rattle.std.proofs.lemmas.List.{get_or-replicate, get_or-set_other, get_or-set_same, get_or_past, length-replicate, length-set}
 use Rattle.std.proofs.lemmas.List.Elements.{All-replicate, All-set}
@@ -8,21 +8,21 @@ use Rattle.cap_codec.specs.Bytes.{bits_of_bytes}
 use Rattle.tag_memory.specs.Cells.{Cell, MemoryState, cell_of, is_dirty_at, marks_after, new_memory, new_registers, null_cell, register_at, register_count, with_register}
 use Rattle.heap_core.specs.Heap.{HeapState}
 use Rattle.heap_core.specs.Blocks.{Span}
-use Rattle.sweep_pool.specs.Sweep.{AreInDirtyPages, is_revoked, takes_tag}
+use Rattle.sweep_pool.specs.Sweep.{is_revoked, takes_tag}
 use Rattle.log_text.specs.declared.log.Given.{Given}
 use Rattle.log_text.specs.declared.log.Given.TheVariants.{Epoch, Granule, Live, Painted, Register, Waiting}
-use Rattle.heap_machine.specs.Making.{IsFlaw, LieTogether}
+use Rattle.heap_machine.specs.Making.{IsFlaw}
 use Rattle.heap_machine.specs.Safety.{HoldsGuarded, IsGuarded}
-use Rattle.heap_machine.specs.declared.machine.Machine.{Machine}
 use Rattle.heap_machine.specs.declared.machine.making.Flaw.{Flaw}
 use Rattle.heap_machine.specs.declared.machine.making.Flaw.TheVariants as flaw
-use Rattle.given_state.specs.Given.{HasGranule, LiesAt, MayHold, cell_with, with_given_granule, with_given_register}
+use Rattle.given_state.specs.Given.{HasGranule, MayHold, cell_with, given_heap, with_given_granule, with_given_register}
 use Rattle.given_state.specs.Giving.{AreTagsDirty, FitHeap, memory_with, with_given_memory}
 use Rattle.given_state.proofs.GuardLaws.{IsGuarded-untagged}
+use Rattle.given_state.proofs.PlaceLaws.{LieAtOne-given}
 
 -- ---- new ones
 
-no_tag : (n i : ℕ) → (get_or (replicate n (0, false)) i (0, false)).1 ≡ false
+no_tag : (n i : ℕ) → (get_or {A = ℕ × Bool} (replicate n (0, false)) i (0, false)).1 ≡ false
 no_tag n i =
     let zero : ℕ × Bool = (0, false) in
     let none : get_or (replicate n zero) i zero ≡ zero = elim (cases_lt i n) [
@@ -31,20 +31,26 @@ no_tag n i =
     ] in
     ap (λ (g : ℕ × Bool). g.1) none
 
+new_length : (pages : ℕ) → length (new_memory 0 pages).cells ≡ 256 * pages
+new_length pages = length-replicate (256 * pages) (0, false)
+
 pub FitHeap-new : (s : HeapState) (base pages : ℕ) → s.base ≡ base → s.size ≡ 4096 * pages → FitHeap s (new_memory base pages) new_registers
 FitHeap-new s base pages lies long = record {
-  together = record {
-    base = sym lies;
-    granules = let n : length (replicate (256 * pages) (0, false)) ≡ 256 * pages = length-replicate (256 * pages) (0, false) in omega (arith, n, long);
-  };
-  pages =
-      let n : length (replicate (256 * pages) (0, false)) ≡ 256 * pages = length-replicate (256 * pages) (0, false) in
-      let d : length (replicate pages false) ≡ pages = length-replicate pages false in
-      omega (arith, n, d);
+  together = record { base = sym lies; granules = omega (arith, new_length pages, long) };
+  pages = let d : length (replicate pages false) ≡ pages = length-replicate pages false in omega (arith, new_length pages, d);
   words = All-replicate (IsGuarded s) register_count null_cell (IsGuarded-untagged s null_cell refl);
   granules = All-replicate (HoldsGuarded s) (256 * pages) (0, false) (IsGuarded-untagged s (cell_of (0, false)) refl);
   dirty = λ i tagged. absurd (true≢false (sym tagged ∙ no_tag (256 * pages) i));
 }
+
+-- So do new ones fit the given heap.
+pub FitHeap-first : (base pages : ℕ) (lines : List (ℕ × Given)) (s : HeapState) (m : MemoryState) (registers : List Cell) → s ≡ given_heap base pages lines
+    → m ≡ new_memory base pages → registers ≡ new_registers → FitHeap s m registers
+FitHeap-first base pages lines s m registers heap memory zeros =
+    let at = LieAtOne-given base pages lines in
+    subst (λ (x : MemoryState). FitHeap s x registers) (sym memory) (
+    subst (λ (x : List Cell). FitHeap s (new_memory base pages) x) (sym zeros) (
+    FitHeap-new s base pages (ap (λ (h : HeapState). h.base) heap ∙ at.base) (ap (λ (h : HeapState). h.size) heap ∙ at.size)))
 
 -- ---- one more word
 
@@ -176,6 +182,6 @@ no_flaw s m registers (flaw.Register r) fit is = is.2.lacks (register_at_all s r
 no_flaw s m registers (flaw.Granule i) fit is = is.3.lacks (fit.granules i (0, false) is.2)
 no_flaw s m registers (flaw.Clean i) fit is = is.4.lacks (λ taken. fit.dirty i (taken_tag s.painted (get_or m.cells i (0, false)) taken))
 
-pub IsOk-made : (s : HeapState) (m : MemoryState) (registers : List Cell) (answer : Result Machine Flaw) → FitHeap s m registers → IfErr answer (IsFlaw s m registers) → IsOk answer
-IsOk-made s m registers (Ok machine) fit flawed = refl
+pub IsOk-made : {X : Type 0} (s : HeapState) (m : MemoryState) (registers : List Cell) (answer : Result X Flaw) → FitHeap s m registers → IfErr answer (IsFlaw s m registers) → IsOk answer
+IsOk-made s m registers (Ok made) fit flawed = refl
 IsOk-made s m registers (Err why) fit flawed = absurd (no_flaw s m registers why fit flawed)

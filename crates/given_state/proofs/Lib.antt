@@ -1,5 +1,6 @@
 mod BlockLaws
 mod FitLaws
+mod FlawLaws
 mod GuardLaws
 mod LineLaws
 mod PlaceLaws

@@ -1,17 +1,14 @@
 -- One line more.
-use Rattle.std.proofs.Common.{◌≡◌, ◌∙◌, ◌<◌, ◌+◌, ℕ, suc, List, [], ◌∷◌, ◌++◌, ap, drop, get_or, length, take, refl, sym, subst}
-use Rattle.std.specs.Prelude.{All, fold}
+use Rattle.std.proofs.Common.{◌≡◌, ◌∙◌, ◌<◌, ◌+◌, ℕ, suc, List, [], ◌∷◌, ◌++◌, ap, drop, get_or, length, take, sym, subst}
+use Rattle.std.specs.Prelude.{fold}
 use Rattle.std.proofs.Math.Seq.{split_at}
 use Rattle.std.proofs.lemmas.List.{take_more}
 use Rattle.std.proofs.lemmas.List.Sums.{fold_more}
-use Rattle.std.proofs.lemmas.List.Elements.{All-append, All-cons, All-nil}
 use Rattle.heap_core.specs.Heap.{HeapState}
 use Rattle.heap_core.specs.declared.block.Claim.{Claim}
-use Rattle.heap_core.specs.declared.block.Claim.TheVariants.{Claimed, Empty, Inexact, Outside, OverHeld, OverLive, Uneven}
-use Rattle.heap_core.specs.Claim.{IsClaim, IsReason}
 use Rattle.log_text.specs.declared.log.Given.{Given}
 use Rattle.given_state.specs.declared.fault.Lack.{Lack}
-use Rattle.given_state.specs.Given.{LacksHold, LacksHoldFirst, LacksPlace, LacksPlaceFirst, MayAllHold, MayAllLie, MayHold, MayLie, all_claimed, block_in, with_claimed}
+use Rattle.given_state.specs.Given.{LacksHold, LacksHoldFirst, LacksPlace, LacksPlaceFirst, MayAllHold, MayAllLie, MayLie, all_claimed, block_in, with_claimed}
 
 -- What the lines so far make, and the next one of it.
 pub fold_next : {X Y : Type 0} (f : Y → X → Y) (a : Y) (xs : List X) (i : ℕ) (none : X) (now new : Y) → i < length xs → now ≡ fold f a (take i xs)
@@ -51,13 +48,3 @@ LacksHoldFirst-at s lines i none lack here may lacks = record {
   may = may;
   lacks = lacks;
 }
-
--- Why a claim was refused.
-pub reason_of : (before now : HeapState) (base top : ℕ) (claim : Claim) (new : HeapState) → (claim ≡ Claimed → ⊥) → IsClaim before now base top claim new → IsReason now base top claim
-reason_of before now base top Claimed new not is = absurd (not refl)
-reason_of before now base top Uneven new not is = is.0
-reason_of before now base top Empty new not is = is.0
-reason_of before now base top Outside new not is = is.0
-reason_of before now base top Inexact new not is = is.0
-reason_of before now base top (OverLive block) new not is = is.0
-reason_of before now base top (OverHeld block) new not is = is.0

@@ -1,5 +1,5 @@
 -- The given heap: how it is made, where it lies, and whether an epoch is open in it.
-use Rattle.std.proofs.Common.{◌≡◌, ◌∙◌, ◌*◌, ℕ, Bool, true, false, List, [], ◌∷◌, Option, None, Some, if◌then◌else◌, refl, ap}
+use Rattle.std.proofs.Common.{◌≡◌, ◌∙◌, ℕ, Bool, true, false, List, [], ◌∷◌, Option, None, Some, if◌then◌else◌, refl, ap}
 use Rattle.std.specs.List.{list_any}
 use Rattle.heap_core.specs.Heap.{HeapState, empty_heap}
 use Rattle.heap_core.specs.Quarantine.{with_epoch}

@@ -1,9 +1,9 @@
 -- The blocks that lines give, once all are handed out: each is live when its turn comes to be given up.
-use Rattle.std.proofs.Common.{◌≡◌, ◌<◌, ◌-◌, ℕ, Bool, true, false, List, [], ◌∷◌, Option, None, Some, inl, inr, length, if◌then◌else◌, refl, sym, ap, subst, arith}
+use Rattle.std.proofs.Common.{◌≡◌, ◌<◌, ◌-◌, ℕ, Bool, true, false, List, [], ◌∷◌, Option, Some, inl, inr, if◌then◌else◌, sym, subst, arith}
 use Rattle.std.specs.Prelude.{All}
 use Rattle.std.proofs.lemmas.List.Elements.{All-cons, All-contains, All-head, All-nil, All-tail}
 use Rattle.std.specs.List.{list_any}
-use Rattle.heap_core.specs.Blocks.{IsApart, Span}
+use Rattle.heap_core.specs.Blocks.{IsApart}
 use Rattle.heap_core.specs.Claim.{IsClaimable}
 use Rattle.heap_core.specs.Heap.{HeapState}
 use Rattle.heap_core.specs.Laws.{Contains-block}

@@ -8,5 +8,5 @@ mod starting;
 mod words;
 
 pub use crate::fault::{Lack, StartFault};
-pub use crate::laws::safe_or_flawed;
+pub use crate::laws::flaws;
 pub use crate::starting::start;

@@ -41,7 +41,7 @@ pub fn start(
     requires givens { All IsListedGiven givens.now }
     ensures made { IfOk result (λ machine. machine.state ≡ given_state base pages givens.now) }
     ensures cutting { IfOk result (λ machine. machine.cutting ≡ cutting) }
-    ensures lines { OnOk result (AreSafe base pages givens.now) }
+    ensures sound { OnOk result (AreSafe base pages givens.now) }
     ensures safe { IfOk result (λ machine. IsSafe machine.state) }
     ensures flaw { IfErr result (IsFault base pages givens.now) }
 {

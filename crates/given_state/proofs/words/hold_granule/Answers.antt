@@ -1,4 +1,4 @@
-use Rattle.given_state.proofs.GuardLaws.{HasGranule-none, LacksGranule-guard}
+use Rattle.given_state.proofs.GuardLaws.{HasGranule-none}
 use Rattle.given_state.proofs.words.hold_granule.Goals as goal
 
 pub returns-in_default-clause-err : goal.returns-in_default-clause-err
