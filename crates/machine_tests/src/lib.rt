@@ -3,6 +3,8 @@
 #![tactic(auto)]
 
 #[cfg(test)]
+mod givens;
+#[cfg(test)]
 mod logs;
 #[cfg(test)]
 mod machine;
