@@ -1,0 +1,245 @@
+//! What is answered for a text that was read.
+
+ghost use Rattle.std.specs.Prelude.{◌≡◌, ℕ, IfErr, IfOk, List, string_bytes};
+ghost use Rattle.std.specs.List.{All};
+ghost use Rattle.command_line.specs.Asked.{AreWithinLimits};
+ghost use Rattle.log_text.specs.Log.{IsListedEvent, record_of};
+ghost use Rattle.given_state.specs.Given.{AreSafe, IsFirstFlaw};
+ghost use Rattle.heap_machine.specs.State.{State};
+ghost use Rattle.heap_log.specs.Judged.{AllFollow, DiffersAt};
+ghost use Rattle.heap_log.specs.Origin.{gives, hands_out, last_line};
+ghost use Rattle.check_command.specs.Answer.{ComesFrom, IsHeldFrom, IsJudged, IsLogAnswer, IsReadLog, first_of, given_at, given_from, is_memory, live_from};
+
+use crate::due_lines::push_due_shown;
+use crate::lines::{Differing, Origin, agrees_text, differs_text, fault_text, unsafe_text};
+use command_line::{Options, Refusal};
+use given_state::{Lack, StartFault, start};
+use heap_core::{Block, Claim};
+use heap_log::{Difference, Verdict, freed_line, given_line, handed_out_line, judge};
+use heap_machine::{Machine, Why};
+use log_text::{Event, Given, Log, LogFault, parse};
+use std::alloc::{AllocError, Global};
+use std::thread::Threads;
+use sweep_pool::Cutting;
+use trace_program::Answer;
+use trace_text::TraceFault;
+
+// The line that gives a block.
+fn given_origin(givens: &[(u32, Given)], block: Block) -> Origin
+    ensures { result ≡ given_at (last_line (gives block) givens.now) }
+{
+    match given_line(givens, block) {
+        Some(line) => Origin::Given(line),
+        None => Origin::Unknown,
+    }
+}
+
+// Where a live block came from, after these events.
+fn live_origin(log: &Log, before: &[(u32, Event)], block: Block) -> Origin
+    ensures { result ≡ live_from (last_line (hands_out block) before.now) (last_line (gives block) log.now.givens.items) }
+{
+    match handed_out_line(before, block) {
+        Some(line) => Origin::HandedOut(line),
+        None => given_origin(&log.givens, block),
+    }
+}
+
+// Where a held block came from, after these events: they are done anew, on another machine.
+fn held_origin<R: Threads + Sync>(
+    rt: &R,
+    alloc: Global,
+    log: &Log,
+    cutting: Cutting,
+    before: &[(u32, Event)],
+    block: Block,
+) -> Result<Origin, Refusal>
+    requires read { IsReadLog log.now }
+    requires valid { All IsListedEvent before.now }
+    requires follow { (last : State) × AllFollow (first_of (record_of log.now)) before.now last }
+    ensures from { IfOk result (IsHeldFrom (record_of log.now) before.now block) }
+    ensures memory { IfErr result (λ refusal. refusal ≡ Refusal.Memory) }
+{
+    // Lines that were safe are so again: what is told is want of memory.
+    let Ok(mut machine) = start(alloc, log.base, log.pages, &log.givens, cutting) else {
+        return Err(Refusal::Memory);
+    };
+    let Ok(found) = freed_line(rt, alloc, &mut machine, before, block) else {
+        return Err(Refusal::Memory);
+    };
+    match found {
+        Some(line) => Ok(Origin::Freed(line)),
+        None => Ok(given_origin(&log.givens, block)),
+    }
+}
+
+// Where the block in the way came from, after these events.
+fn origin_of<R: Threads + Sync>(
+    rt: &R,
+    alloc: Global,
+    log: &Log,
+    cutting: Cutting,
+    before: &[(u32, Event)],
+    difference: Difference,
+) -> Result<Origin, Refusal>
+    requires read { IsReadLog log.now }
+    requires valid { All IsListedEvent before.now }
+    requires follow { (last : State) × AllFollow (first_of (record_of log.now)) before.now last }
+    ensures from { IfOk result (ComesFrom (record_of log.now) before.now difference) }
+    ensures memory { IfErr result (λ refusal. refusal ≡ Refusal.Memory) }
+{
+    match difference {
+        Difference::Answer(Why::Refused(Claim::OverLive(block))) => {
+            Ok(live_origin(log, before, block))
+        }
+        Difference::Answer(Why::Refused(Claim::OverHeld(block))) => {
+            held_origin(rt, alloc, log, cutting, before, block)
+        }
+        _ => Ok(Origin::Unknown),
+    }
+}
+
+// The answer of a log whose event of this line differs, with so many before it, on the machine in whose state that is.
+fn differs_answer<R: Threads + Sync>(
+    rt: &R,
+    alloc: Global,
+    log: &Log,
+    cutting: Cutting,
+    machine: &Machine,
+    line: u32,
+    count: usize,
+    difference: Difference,
+) -> Result<Answer, Refusal>
+    requires read { IsReadLog log.now }
+    requires safe { AreSafe log.now.base log.now.pages log.now.givens.items }
+    requires differs { DiffersAt (first_of (record_of log.now)) log.now.events.items line count difference machine.now.state }
+    ensures ok { IfOk result (λ answer. IsJudged (record_of log.now) answer.status answer.text.items) }
+    ensures memory { IfErr result (λ refusal. refusal ≡ Refusal.Memory) }
+{
+    let from = origin_of(rt, alloc, log, cutting, &log.events[..count], difference)?;
+    let differing = Differing {
+        event: log.events[count].1,
+        is_open: machine.heap().is_open(),
+        from,
+        difference,
+    };
+    let Ok(first) = differs_text(alloc, line, differing) else {
+        return Err(Refusal::Memory);
+    };
+    let mut text = first.into_bytes();
+    let Ok(()) = push_due_shown(alloc, &mut text, machine, differing) else {
+        return Err(Refusal::Memory);
+    };
+    Ok(Answer { status: 5, text })
+}
+
+// The answer with this status and line.
+fn line_answer(status: u8, line: Result<String, AllocError>) -> Result<Answer, Refusal>
+    ensures ok { (told : List ℕ) → IfOk line (λ text. string_bytes text ≡ told) → IfOk result (λ answer. (answer.status ≡ status) × (answer.text.items ≡ told)) }
+    ensures memory { IfErr result (λ refusal. refusal ≡ Refusal.Memory) }
+{
+    match line {
+        Ok(line) => Ok(Answer {
+            status,
+            text: line.into_bytes(),
+        }),
+        Err(AllocError) => Err(Refusal::Memory),
+    }
+}
+
+// The answer of a log on a machine that is as its given lines tell.
+fn judged_answer<R: Threads + Sync>(
+    rt: &R,
+    alloc: Global,
+    log: &Log,
+    cutting: Cutting,
+    machine: &mut Machine,
+) -> Result<Answer, Refusal>
+    requires read { IsReadLog log.now }
+    requires safe { AreSafe log.now.base log.now.pages log.now.givens.items }
+    requires first { machine.old.state ≡ first_of (record_of log.now) }
+    ensures ok { IfOk result (λ answer. IsJudged (record_of log.now) answer.status answer.text.items) }
+    ensures memory { IfErr result (λ refusal. refusal ≡ Refusal.Memory) }
+{
+    match judge(rt, alloc, machine, &log.events) {
+        Ok(Verdict::Agrees(tally)) => line_answer(0, agrees_text(alloc, tally)),
+        Ok(
+            Verdict::Differs {
+                line,
+                count,
+                difference,
+            },
+        ) => differs_answer(rt, alloc, log, cutting, machine, line, count, difference),
+        Err(_) => Err(Refusal::Memory),
+    }
+}
+
+// The line that gives the block over which another is given.
+fn lacking_origin(givens: &[(u32, Given)], lack: Lack) -> Origin
+    ensures { result ≡ given_from givens.now lack }
+{
+    match lack {
+        Lack::Block(Claim::OverLive(block)) => given_origin(givens, block),
+        _ => Origin::Unknown,
+    }
+}
+
+// The answer of a log whose given lines tell no safe state.
+fn unsafe_answer(alloc: Global, log: &Log, line: u32, lack: Lack) -> Result<Answer, Refusal>
+    requires { IsFirstFlaw log.now.base log.now.pages log.now.givens.items line lack }
+    ensures ok { IfOk result (λ answer. IsJudged (record_of log.now) answer.status answer.text.items) }
+    ensures memory { IfErr result (λ refusal. refusal ≡ Refusal.Memory) }
+{
+    let from = lacking_origin(&log.givens, lack);
+    line_answer(5, unsafe_text(alloc, line, from, lack))
+}
+
+// The answer of a log.
+fn log_answer<R: Threads + Sync>(
+    rt: &R,
+    alloc: Global,
+    log: &Log,
+    cutting: Cutting,
+) -> Result<Answer, Refusal>
+    requires { IsReadLog log.now }
+    ensures ok { IfOk result (λ answer. IsJudged (record_of log.now) answer.status answer.text.items) }
+    ensures memory { IfErr result (λ refusal. refusal ≡ Refusal.Memory) }
+{
+    match start(alloc, log.base, log.pages, &log.givens, cutting) {
+        Ok(mut machine) => judged_answer(rt, alloc, log, cutting, &mut machine),
+        Err(StartFault::Unsafe { line, lack }) => unsafe_answer(alloc, log, line, lack),
+        Err(StartFault::Memory) => Err(Refusal::Memory),
+    }
+}
+
+/// The answer for the text of a log, or the line of its fault.
+pub fn check_answer<R: Threads + Sync>(
+    rt: &R,
+    alloc: Global,
+    text: &[u8],
+    options: Options,
+) -> Result<Answer, Refusal>
+    requires limits { AreWithinLimits options }
+    ensures ok { IfOk result (λ answer. IsLogAnswer text.now answer.status answer.text.items) }
+    ensures memory { IfErr result (λ refusal. refusal ≡ Refusal.Memory) }
+{
+    match parse(alloc, text) {
+        Ok(log) => log_answer(rt, alloc, &log, cutting_of(options)),
+        Err(fault) if is_memory(&fault) => Err(Refusal::Memory),
+        Err(fault) => line_answer(3, fault_text(alloc, &fault)),
+    }
+}
+
+// Whether memory ran out, so that the text may be a log.
+fn is_memory(fault: &LogFault) -> bool
+    ensures { result ≡ is_memory fault.now }
+{
+    matches!(fault, LogFault::Trace(TraceFault::Memory))
+}
+
+// How the options cut the sweeps.
+fn cutting_of(options: Options) -> Cutting
+    requires { AreWithinLimits options }
+    ensures { result ≡ record { workers = options.workers; pages_per_task = options.pages_per_task } }
+{
+    Cutting::new(options.workers, options.pages_per_task).unwrap()
+}

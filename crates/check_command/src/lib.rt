@@ -1,0 +1,11 @@
+//! The program that judges logs of allocators, over any devices: words and bytes in, an exit status and lines out.
+#![tactic(auto)]
+
+mod due_lines;
+mod judging;
+mod lines;
+mod program;
+
+pub use crate::program::{check_tool, refuse};
+pub use command_line::{Options, Refusal};
+pub use trace_program::{Failed, FromRead, FromWrite, Sink, Source};

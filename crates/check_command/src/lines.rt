@@ -1,0 +1,256 @@
+//! The lines that the program writes.
+
+ghost use Rattle.std.specs.Prelude.{◌≡◌, IfOk, Some, string_bytes};
+ghost use Rattle.heap_reply.specs.Answer.{answer_text};
+ghost use Rattle.check_command.specs.Text.{agrees_line, differs_line, difference_text, lack_text, line_of_fault, origin_text, refused_text, told_text, unsafe_line, way_text, why_text};
+
+use given_state::Lack;
+use heap_core::{Block, Claim};
+use heap_log::{Difference, Tally};
+use heap_machine::Why;
+use heap_reply::{Hexadecimal, Reply, flag_number};
+use log_text::{Event, LogFault};
+use reply_text::{ShortText, put_reply};
+use std::alloc::{AllocError, Global};
+use std::fmt;
+
+/// Where a block in the way came from, as far as the log tells.
+#[derive(Clone, Copy, Debug, PartialEq, Eq)]
+pub enum Origin {
+    /// A malloc was answered with it at this line.
+    HandedOut(u32),
+    /// It was freed at this line.
+    Freed(u32),
+    /// This line gives it.
+    Given(u32),
+    Unknown,
+}
+
+impl fmt::Display for Origin {
+    ghost output = { λ from. Some (origin_text from) };
+
+    fn fmt<W: fmt::Write>(&self, f: &mut fmt::Formatter<W>) -> fmt::Result {
+        match self {
+            Origin::HandedOut(line) => write!(f, ", handed out at line {line}"),
+            Origin::Freed(line) => write!(f, ", freed at line {line}"),
+            Origin::Given(line) => write!(f, ", given at line {line}"),
+            Origin::Unknown => Ok(()),
+        }
+    }
+}
+
+/// A block in the way, shown as `0x.. 0x.., freed at line ..`.
+#[derive(Clone, Copy)]
+struct InTheWay {
+    block: Block,
+    from: Origin,
+}
+
+impl fmt::Display for InTheWay {
+    ghost output = { λ way. Some (way_text way.block way.from) };
+
+    fn fmt<W: fmt::Write>(&self, f: &mut fmt::Formatter<W>) -> fmt::Result {
+        let base = self.block.base;
+        let top = Hexadecimal(self.block.top);
+        let from = self.from;
+        write!(f, "0x{base:x} {top}{from}")
+    }
+}
+
+/// Why a block may not lie where it is told to.
+#[derive(Clone, Copy)]
+struct RefusedBlock {
+    reason: Claim,
+    from: Origin,
+}
+
+impl fmt::Display for RefusedBlock {
+    ghost output = { λ refused. Some (refused_text refused.reason refused.from) };
+
+    fn fmt<W: fmt::Write>(&self, f: &mut fmt::Formatter<W>) -> fmt::Result {
+        let from = self.from;
+        match self.reason {
+            Claim::Claimed => Ok(()),
+            Claim::Uneven => write!(f, " is not whole granules"),
+            Claim::Empty => write!(f, " is empty"),
+            Claim::Outside => write!(f, " lies outside the heap"),
+            Claim::Inexact => write!(f, " has bounds that no capability holds"),
+            Claim::OverLive(block) => {
+                let way = InTheWay { block, from };
+                write!(f, " lies over the live block {way}")
+            }
+            Claim::OverHeld(block) => {
+                let way = InTheWay { block, from };
+                write!(f, " lies over the held block {way}")
+            }
+        }
+    }
+}
+
+/// The text of a reply.
+#[derive(Clone, Copy)]
+struct ReplyText(Reply);
+
+impl fmt::Display for ReplyText {
+    ghost output = { λ text. Some (answer_text text.0) };
+
+    fn fmt<W: fmt::Write>(&self, f: &mut fmt::Formatter<W>) -> fmt::Result {
+        let mut text = ShortText::new();
+        put_reply(&mut text, self.0);
+        let shown = text.as_str();
+        write!(f, "{shown}")
+    }
+}
+
+/// The words of an event's answer.
+#[derive(Clone, Copy)]
+struct Told(Event);
+
+impl fmt::Display for Told {
+    ghost output = { λ told. Some (told_text told.0) };
+
+    fn fmt<W: fmt::Write>(&self, f: &mut fmt::Formatter<W>) -> fmt::Result {
+        match self.0 {
+            Event::Done { answer, .. } => {
+                let text = ReplyText(answer);
+                write!(f, "{text}")
+            }
+            Event::Seen { .. } => Ok(()),
+        }
+    }
+}
+
+/// An event that differs, and what is told of it, where an epoch is open or none is.
+#[derive(Clone, Copy)]
+pub struct Differing {
+    pub event: Event,
+    pub is_open: bool,
+    pub from: Origin,
+    pub difference: Difference,
+}
+
+/// Why its answer isn't allowed.
+#[derive(Clone, Copy)]
+struct WhyText {
+    told: Told,
+    is_open: bool,
+    from: Origin,
+    why: Why,
+}
+
+impl fmt::Display for WhyText {
+    ghost output = { λ it. Some (why_text (told_text it.told.0) it.is_open it.from it.why) };
+
+    fn fmt<W: fmt::Write>(&self, f: &mut fmt::Formatter<W>) -> fmt::Result {
+        let told = self.told;
+        match self.why {
+            Why::MustBe(reply) => {
+                let reply = ReplyText(reply);
+                write!(f, "the answer is {reply}")
+            }
+            Why::NotOfMalloc => write!(f, "a malloc is answered by a block or by nospace"),
+            Why::TooShort => write!(f, "{told} is shorter than the size asked for"),
+            Why::MayNotSweep if self.is_open => {
+                write!(f, "no sweep may be told: an epoch is open")
+            }
+            Why::MayNotSweep => write!(f, "no sweep may be told: no block waits"),
+            Why::Takes(count) => write!(f, "the sweep takes {count} tags"),
+            Why::Refused(reason) => {
+                let from = self.from;
+                let refused = RefusedBlock { reason, from };
+                write!(f, "{told}{refused}")
+            }
+        }
+    }
+}
+
+impl fmt::Display for Differing {
+    ghost output = { λ it. Some (difference_text (told_text it.event) it.is_open it.from it.difference) };
+
+    fn fmt<W: fmt::Write>(&self, f: &mut fmt::Formatter<W>) -> fmt::Result {
+        match self.difference {
+            Difference::Answer(why) => {
+                let why = WhyText {
+                    told: Told(self.event),
+                    is_open: self.is_open,
+                    from: self.from,
+                    why,
+                };
+                write!(f, "{why}")
+            }
+            Difference::NoGranule => write!(f, "no granule of the heap lies at this address"),
+            Difference::Granule { tag, bytes } => {
+                let tag = flag_number(tag);
+                let text = ShortText::of_bytes(bytes);
+                let shown = text.as_str();
+                write!(f, "the granule holds {tag} {shown}")
+            }
+        }
+    }
+}
+
+/// What a given line lacks.
+#[derive(Clone, Copy)]
+struct LackText {
+    from: Origin,
+    lack: Lack,
+}
+
+impl fmt::Display for LackText {
+    ghost output = { λ it. Some (lack_text it.from it.lack) };
+
+    fn fmt<W: fmt::Write>(&self, f: &mut fmt::Formatter<W>) -> fmt::Result {
+        let from = self.from;
+        match self.lack {
+            Lack::Block(Claim::OverLive(block)) => {
+                let way = InTheWay { block, from };
+                write!(f, "the block lies over the block {way}")
+            }
+            Lack::Block(reason) => {
+                let refused = RefusedBlock { reason, from };
+                write!(f, "the block{refused}")
+            }
+            Lack::NoGranule => write!(f, "no granule of the heap lies at this address"),
+            Lack::Unguarded { base, top } => {
+                let top = Hexadecimal(top);
+                write!(f, "the word's bounds 0x{base:x} {top} lie in no block")
+            }
+        }
+    }
+}
+
+/// The line of a log that agrees.
+pub fn agrees_text(alloc: Global, tally: Tally) -> Result<String, AllocError>
+    ensures { IfOk result (λ text. string_bytes text ≡ agrees_line tally) }
+{
+    let commands = tally.commands;
+    let blocks = tally.blocks;
+    let passes = tally.passes;
+    let tags = tally.tags;
+    format!(in alloc;
+        "agrees {commands} commands, {blocks} blocks handed out, {passes} passes, {tags} tags taken\n"
+    )
+}
+
+/// The line of an event that differs.
+pub fn differs_text(alloc: Global, line: u32, differing: Differing) -> Result<String, AllocError>
+    ensures { IfOk result (λ text. string_bytes text
+        ≡ differs_line line differing.event differing.is_open differing.from differing.difference) }
+{
+    format!(in alloc; "differs {line}: {differing}\n")
+}
+
+/// The line of given lines that tell no safe state.
+pub fn unsafe_text(alloc: Global, line: u32, from: Origin, lack: Lack) -> Result<String, AllocError>
+    ensures { IfOk result (λ text. string_bytes text ≡ unsafe_line line from lack) }
+{
+    let lack = LackText { from, lack };
+    format!(in alloc; "unsafe {line}: {lack}\n")
+}
+
+/// The line of a text that is no log.
+pub fn fault_text(alloc: Global, fault: &LogFault) -> Result<String, AllocError>
+    ensures { IfOk result (λ text. string_bytes text ≡ line_of_fault fault.now) }
+{
+    format!(in alloc; "fault {fault}\n")
+}
