@@ -53,9 +53,11 @@ is_block-without base top b t (x ∷ blocks) other is =
       here : (found : Bool) → (found ≡ false → is_block (blocks_without base top blocks) b t ≡ true) → (found || is_block (blocks_without base top blocks) b t) ≡ true
       here true later = refl
       here false later = later refl
+
       was : (found : Bool) → not found ≡ false → found ≡ true
       was true gone = refl
       was false gone = absurd (true≢false gone)
+
       elsewhere : not (has_bounds base top x) ≡ false → (found : Bool) → has_bounds b t x ≡ found → found ≡ false
       elsewhere gone false at = refl
       elsewhere gone true at =

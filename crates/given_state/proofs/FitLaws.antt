@@ -91,7 +91,7 @@ AreTagsDirty-put m i bits tag pages within all k tagged =
     elim (cases_eq k i) [
       | inl same ↦
           let here : get_or (set m.cells i (bits, tag)) k (0, false) ≡ (bits, tag) =
-              subst (λ (j : ℕ). get_or (set m.cells i (bits, tag)) j (0, false) ≡ (bits, tag)) (sym same) (get_or-set_same m.cells i (bits, tag) (0, false) within) in
+          subst (λ (j : ℕ). get_or (set m.cells i (bits, tag)) j (0, false) ≡ (bits, tag)) (sym same) (get_or-set_same m.cells i (bits, tag) (0, false) within) in
           let is : tag ≡ true = ap (λ (g : ℕ × Bool). g.1) (sym here) ∙ tagged in
           subst (λ (j : ℕ). is_dirty_at (marks_after m.dirty i tag) (j / 256) ≡ true) (sym same) (mark_set m.dirty i tag (omega (arith, within, pages)) is)
       | inr other ↦

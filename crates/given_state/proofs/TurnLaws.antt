@@ -50,8 +50,7 @@ order_of s o b is may = let claimable : IsClaimable s b.0 b.1 = subst (MayLie s)
 all_differ : (s : HeapState) (lines : List (ℕ × Given)) → MayAllLie s lines → AllDiffer lines
 all_differ s [] may = tt
 all_differ s (line ∷ lines) may =
-    let next = with_claimed s (block_in line.1) in
-    (
+    let next = with_claimed s (block_in line.1) in (
       λ k d lt b c is other same. differ_from next lines b (order_of s (block_in line.1) b is may.0) (LivesAt-new s (block_in line.1) b is may.0) may.1 k d lt c other same,
       all_differ next lines may.1,
     )
@@ -115,11 +114,10 @@ still_live one other s line lines live differ =
 
 in_turn : (one : Kind) (s : HeapState) (lines : List (ℕ × Given)) → All (LivesOf one s) lines → AllDiffer lines → AreLiveInTurn one s lines
 in_turn one s [] live differ = tt
-in_turn one s (line ∷ lines) live differ =
-    (
-      IsLive-if s (block_of_kind one line.1) (All-head (LivesOf one s) line lines live),
-      in_turn one (with_released s (block_of_kind one line.1)) lines (still_live one one s line lines (All-tail (LivesOf one s) line lines live) differ.0) differ.1,
-    )
+in_turn one s (line ∷ lines) live differ = (
+  IsLive-if s (block_of_kind one line.1) (All-head (LivesOf one s) line lines live),
+  in_turn one (with_released s (block_of_kind one line.1)) lines (still_live one one s line lines (All-tail (LivesOf one s) line lines live) differ.0) differ.1,
+)
 
 LivesAt-all_released : (one : Kind) (s : HeapState) (lines : List (ℕ × Given)) (b : ℕ × ℕ) → All (λ m. (c : ℕ × ℕ) → block_of_kind one m.1 ≡ Some c → c.0 ≡ b.0 → ⊥) lines
     → LivesAt s b → LivesAt (all_released one s lines) b
@@ -162,7 +160,7 @@ pub waiting_in_turn : (first claimed painted opened : HeapState) (lines : List (
 waiting_in_turn first claimed painted opened lines may claims paints opens =
     let differ = all_differ first lines may in
     let there : All (LivesOf kind.Waiting claimed) lines =
-        subst (λ (h : HeapState). All (LivesOf kind.Waiting h) lines) (sym claims) (all_live_of kind.Waiting (all_claimed first lines) lines (all_live first lines may)) in
+    subst (λ (h : HeapState). All (LivesOf kind.Waiting h) lines) (sym claims) (all_live_of kind.Waiting (all_claimed first lines) lines (all_live first lines may)) in
     let after : All (LivesOf kind.Waiting painted) lines = subst (λ (h : HeapState). All (LivesOf kind.Waiting h) lines) (sym paints) (live_after claimed lines there differ) in
     let in_epoch : All (LivesOf kind.Waiting opened) lines = subst (λ (h : HeapState). All (LivesOf kind.Waiting h) lines) (sym opens) (live_told kind.Waiting painted lines after) in
     in_turn kind.Waiting opened lines in_epoch differ

@@ -9,5 +9,4 @@ ghost use Rattle.given_state.specs.Given.{AreSafe, IsFirstFlaw};
 pub fn flaws()
     ensures { (base pages : ℕ) (lines : List (ℕ × Given)) (line : ℕ) (lack : Lack) →
         AreSafe base pages lines → IsFirstFlaw base pages lines line lack → ⊥ }
-{
-}
+{}

@@ -51,10 +51,7 @@ fn blocks_are_of_the_given_kinds(rt: HostRuntime) {
     };
     assert_eq!(rt; heap.block_of(0x4000_011f), Some((live, Kind::Live)));
     assert_eq!(rt; heap.block_of(0x4000_0200), Some((waits, Kind::Waiting)));
-    assert_eq!(rt;
-        heap.block_of(0x4000_0300),
-        Some((painted, Kind::Painted))
-    );
+    assert_eq!(rt; heap.block_of(0x4000_0300), Some((painted, Kind::Painted)));
     assert_eq!(rt; heap.block_of(0x4000_0120), None);
     assert!(rt; heap.is_open());
     assert_eq!(rt; machine.live_bytes(), 32);
