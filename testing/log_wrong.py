@@ -1,0 +1,358 @@
+"""Logs with one thing wrong, or another that is allowed, made of logs that agree; and logs that begin in the middle of a
+run. Of each it is known how what has to be said of it begins, or nothing where `log_model` alone can tell."""
+
+import re
+from typing import NamedTuple
+
+from log_model import first_state, follow
+from log_state import NULL, capability, is_exact
+from log_words import TRAPS, is_answer, lines_of, read_log
+
+# So many lines come after the one that is wrong.
+AFTER = 6
+# Words that are no answer: too few or too many, numbers in other forms or too large, other letters.
+NO_ANSWERS = [
+    "", "ok ok", "Ok", "done", "->", "-> ok", "block", "block 0x40000000", "block 1073741824 1073741840", "block 0x40000000 0x4000000G",
+    "block 0X40000000 0x40000010", "block 0x040000000 0x40000010", "block 0x40000000 0x40000010 swept", "block 0x40000000 0x40000010 swept 01",
+    "block 0x40000000 0x40000010 cleared 1", "block 0x4000000A 0x40000010", "block 0x10000000000000000 0x10000000000000010",
+    "block 0x40000000 0x100000000000000000000000000000000", "nospace swept", "nospace swept 0x1", "nospace 1", "nospace swept 4294967296",
+    "held", "held 032", "held 0x20", "held 18446744073709551616", "held +16", "cleared -1", "cleared 1 released", "cleared 1 released 1 1",
+    "cleared 4294967296", "cleared 0 held 0", "trap", "trap nothing", "trap Tag", "trap tag 1", "swept 1", "0 " + "0" * 32, "1" * 5000,
+    "tag 2 address 0x0 base 0x0 top 0x0 perms 0x0 type 0x0 exponent 0", "tag 0 address 0x0 base 0x0 top 0x0 perms 0x10000 type 0x0 exponent 0",
+    "tag 0 address 0x0 base 0x0 top 0x0 perms 0x0 type 0x0 exponent 256", "tag 0 address 0x0 top 0x0 base 0x0 perms 0x0 type 0x0 exponent 0",
+]  # fmt: skip
+# Lines that give nothing, with their faults.
+NO_GIVENS = [
+    ("given", "bad-count"), ("given lives 0 16", "bad-command"), ("given live 0x40000000", "bad-count"), ("given live 0x40000000 0x40000010 1", "bad-count"),
+    ("given waiting 0x 0x40000010", "bad-number"), ("given painted 0x40000000 0x10000000000000001", "bad-number"), ("given epoch 1", "bad-count"),
+    ("given live 0x10000000000000000 0x10000000000000000", "bad-number"), ("given register c32 0 " + "0" * 32, "bad-register"),
+    ("given register c1 2 " + "0" * 32, "bad-number"), ("given register c1 0 " + "0" * 31, "bad-data"), ("given granule c1 1 " + "0" * 32, "bad-number"),
+    ("given granule 0x40000000 01 " + "0" * 32, "bad-number"), ("given granule 0x40000000 1", "bad-count"), ("given granule 0x40000000 -> 1 " + "0" * 32, "bad-count"),
+]  # fmt: skip
+
+
+class Trial(NamedTuple):
+    """What was done to a log, the log, and how what is said of it begins."""
+
+    what: str
+    text: str
+    begins: str
+
+
+def told(lines):
+    return "".join(f"{line}\n" for line in lines)
+
+
+# ---- wrong answers
+
+
+def wrong_blocks(block, size, state, held):
+    """Bounds that a block for this size can't have in place of these, each with what is wrong."""
+    base, top = block
+    length = top - base
+    for kind, blocks in (("live", state.live), *held):
+        for other in sorted(blocks)[:1] + sorted(blocks)[-1:]:
+            yield f"over the start of a {kind} block", other[0], other[0] + length
+            yield f"over the last granule of a {kind} block", other[1] - 16, other[1] - 16 + length
+            yield f"up to the first granule of a {kind} block", other[0] + 16 - length, other[0] + 16
+    yield "8 bytes further", base + 8, top + 8
+    yield "top 8 bytes less", base, top - 8
+    yield "empty", base, base
+    yield "the top before the base", top, base
+    yield "before the heap", state.base - length, state.base
+    yield "past the heap", state.top - length + 16, state.top + 16
+    yield "a bad address", base ^ 1 << 63, top ^ 1 << 63
+    if size > 16:
+        yield "a granule too short", base, base + -(-size // 16) * 16 - 16
+    if length >= 1 << 14:
+        yield "bounds that are not rounded", base + 16, top + 16
+    if length > (1 << 14) + 32:
+        yield "a top that is not rounded", base, top - 16
+
+
+def other_blocks(block):
+    """Bounds that a block may have in place of these, or not."""
+    base, top = block
+    for rounded in (32, 512, 4096):
+        yield f"the base rounded down to {rounded}", base // rounded * rounded, top
+        yield f"the top rounded up to {rounded}", base, -(-top // rounded) * rounded
+    yield "a granule further", base + 16, top + 16
+    yield "a granule before", base - 16, top - 16
+    yield "a granule longer", base, top + 16
+
+
+def block_answers(event, state):
+    """Other answers than a block, and other blocks: what was done, the answer, and whether it is wrong, or None."""
+    block, size = tuple(int(it, 16) for it in event.answer[1:3]), event.operands[1]
+    after = "".join(f" {it}" for it in event.answer[3:])
+    held = (("painted", state.painted),) if after else (("waiting", state.waiting), ("painted", state.painted))
+    for what, base, top in wrong_blocks(block, size, state, held):
+        yield what, f"block {base:#x} {top:#x}{after}", True
+    for what, base, top in other_blocks(block):
+        yield what, f"block {base:#x} {top:#x}{after}", None
+    told_block = " ".join(event.answer[:3])
+    if after:
+        yield "a sweep that isn't told", told_block, None
+    elif state.may_sweep():
+        taken = len(state.due_in("sweep"))
+        yield "a sweep that may be told", f"{told_block} swept {taken}", False
+        yield "a sweep that may be told, with a tag too many", f"{told_block} swept {taken + 1}", True
+    else:
+        yield "a sweep that may not be told", f"{told_block} swept 0", True
+
+
+def malloc_answers(event, state):
+    for answer in ("ok", "cleared", "cleared 0", "cleared 0 released 0", "held 16", "trap tag", "tag 0 address 0x0 base 0x0 top 0x0 perms 0x0 type 0x0 exponent 0"):
+        yield "no answer of a malloc", answer, True
+    if event.answer[0] == "block":
+        yield from block_answers(event, state)
+        yield "no space", "nospace", False
+        return
+    if place := state.least_place(event.operands[1]):
+        yield "a block where there was none", f"block {place[0]:#x} {place[1]:#x}", False
+    if not state.may_sweep():
+        yield "no space after a sweep that may not be told", "nospace swept 0", True
+
+
+def number_answers(answer):
+    """The answer with another number of tags or bytes."""
+    for found in re.finditer(r"(?<= )[0-9]+\b", answer):
+        number = int(found[0])
+        for what, other in (("one too many", number + 1), ("one too few", number - 1), ("a granule more", number + 16), ("none", 0), ("twice as many", 2 * number)):
+            if other != number:
+                yield what, f"{answer[: found.start()]}{other}{answer[found.end() :]}", True
+
+
+def shown_answers(words):
+    """What is shown with another field."""
+    for at in range(1, len(words), 2):
+        other = f"{int(words[at], 16) ^ 1:#x}" if words[at].startswith("0x") else str(int(words[at]) ^ 1)
+        yield f"another {words[at - 1]}", " ".join([*words[:at], other, *words[at + 1 :]]), True
+
+
+def one_answers(event):
+    """Other answers of a command that has one."""
+    answer = " ".join(event.answer)
+    for name in TRAPS:
+        if answer != f"trap {name}":
+            yield "another trap" if event.answer[0] == "trap" else "a trap", f"trap {name}", True
+    for other in ("ok", "cleared", "held 32", "nospace", "cleared 1 released 16", "cleared 1", "block 0x40000000 0x40000010"):
+        if other != answer:
+            yield "the answer of another command", other, True
+    if event.answer[0] == "tag":
+        yield from shown_answers(event.answer)
+
+
+def seen_lines(event, state):
+    """Other lines of a granule that was seen."""
+    (address,), (tag, data) = event.operands, event.answer
+    flipped = bytes([data[0] ^ 1, *data[1:]]).hex()
+    yield "another byte", f"granule {address:#x} -> {tag:d} {flipped}", True
+    yield "another tag", f"granule {address:#x} -> {not tag:d} {data.hex()}", True
+    yield "capital letters", f"granule {address:#x} -> {tag:d} {data.hex().upper()}", False
+    yield "another granule", f"granule {state.base:#x} -> {tag:d} {data.hex()}", None
+    for other in (address + 8, address + 1, state.base - 16, state.top, 2**64 - 1):
+        if 0 <= other < 2**64:
+            yield "a granule where none is", f"granule {other:#x} -> {tag:d} {data.hex()}", True
+
+
+def other_lines(event, state, line):
+    """Lines in place of one: what was done, the line, and whether it is wrong, or None where that isn't known."""
+    if event.name == "granule":
+        yield from seen_lines(event, state)
+        return
+    asked, answer = line.partition(" -> ")[0], " ".join(event.answer)
+    answers = malloc_answers(event, state) if event.name == "malloc" else one_answers(event)
+    for what, other, is_wrong in (*answers, *number_answers(answer)):
+        if is_answer(other.split()):
+            yield what, f"{asked} -> {other}", is_wrong
+    if event.name == "malloc" and event.answer[0] == "block":
+        length = int(event.answer[2], 16) - int(event.answer[1], 16)
+        yield "a greater size", f"malloc c{event.operands[0]} {length + 1} -> {answer}", True
+
+
+def changed_lines(text):
+    """All of them for a log that agrees, each with the number of its line."""
+    log, lines = read_log(text), [line for _, line in lines_of(text)]
+    state = first_state(log)
+    for event in log.events:
+        for what, line, is_wrong in other_lines(event, state, lines[event.line - 1]):
+            yield event.line, what, line, is_wrong
+        assert not follow(state, event), (event, "a log that agrees was expected")
+
+
+def changed_answer(lines, number, what, line, is_wrong):
+    before, after = lines[: number - 1], lines[number:]
+    if is_wrong is None:
+        return Trial(f"{what} in line {number}", told([*before, line, *after]), "")
+    if is_wrong:
+        return Trial(f"{what} in line {number}", told([*before, line, *after[:AFTER]]), f"differs {number}: ")
+    return Trial(f"{what} in line {number}, which may be", told([*before, line]), "agrees ")
+
+
+def moved_line(lines, chance):
+    """A line left out, told twice or told later; what that comes to only a judge can tell."""
+    number = chance.randrange(2, len(lines) + 1)
+    before, line, after = lines[: number - 1], lines[number - 1], lines[number:]
+    what, changed = chance.choice(
+        [
+            ("left out", [*before, *after]),
+            ("told twice", [*before, line, line, *after]),
+            ("told later", [*before, *after[:3], line, *after[3:]]),
+        ]
+    )
+    return Trial(f"line {number} {what}", told(changed), "")
+
+
+def faulty_line(lines, log, chance):
+    """A line that has no answer."""
+    event = chance.choice(log.events)
+    asked = lines[event.line - 1].partition(" -> ")[0]
+    answer = chance.choice([None, *NO_ANSWERS, f"2 {'0' * 32}", "0", f"0 {'0' * 31}", f"0 {'0' * 32} 0"])
+    if event.name == "granule" and answer == "0 " + "0" * 32:
+        answer = None
+    changed = list(lines)
+    changed[event.line - 1] = asked if answer is None else f"{asked} -> {answer}"
+    return Trial(f"line {event.line} is answered by {answer!r:.60}", told(changed), f"fault bad-answer {event.line}\n")
+
+
+def mutants(text, chance, most):
+    """So many of the logs with one thing wrong that a log with events gives; what is wrong seldom is as likely as the rest."""
+    lines, kinds = [line for _, line in lines_of(text)], {}
+    for number, what, line, is_wrong in changed_lines(text):
+        kinds.setdefault(what, []).append((number, what, line, is_wrong))
+    for _ in range(most if kinds else 0):
+        yield changed_answer(lines, *chance.choice(kinds[chance.choice(sorted(kinds))]))
+    if kinds:
+        yield moved_line(lines, chance)
+        yield faulty_line(lines, read_log(text), chance)
+
+
+# ---- given states
+
+
+def given_block(kind, base, top):
+    return f"given {kind} {base:#x} {top:#x}"
+
+
+def given_register(number, word, tag):
+    return f"given register c{number} {tag:d} {word.data()}"
+
+
+def given_granule(address, word, tag):
+    return f"given granule {address:#x} {tag:d} {word.data()}"
+
+
+def givens_of(state, chance):
+    """What gives a state, in any order. What is null may be given or not."""
+    lines = [given_block(kind, *block) for kind in ("live", "waiting", "painted") for block in getattr(state, kind)]
+    lines += ["given epoch"] if state.is_open else []
+    for number, (word, tag) in enumerate(state.registers):
+        if word is not NULL or tag or chance.randrange(4) == 0:
+            lines.append(given_register(number, word, tag))
+    lines += [given_granule(address, *cell) for address, cell in state.memory.items()]
+    chance.shuffle(lines)
+    return lines
+
+
+def from_the_middle(text, chance):
+    """The state somewhere in a log that agrees, as given lines, and the rest of the log."""
+    log, lines = read_log(text), [line for _, line in lines_of(text)]
+    state, count = first_state(log), chance.randrange(len(log.events) + 1)
+    for event in log.events[:count]:
+        assert not follow(state, event), (event, "a log that agrees was expected")
+    rest = lines[log.events[count].line - 1 :] if count < len(log.events) else []
+    head = [f"heap {log.base:#x} {log.pages}", *givens_of(state, chance)]
+    return told([*head, *rest])
+
+
+def wrong_given_blocks(state, base, top):
+    """Bounds that no block has, each with what is said of them."""
+    yield base + 8, top, "is not whole granules"
+    yield base, top + 1, "is not whole granules"
+    yield base, base, "is empty"
+    yield top, base, "is empty"
+    yield state.top - 16, state.top + 16, "lies outside the heap"
+    yield state.base - 16, state.base, "lies outside the heap"
+    yield 0, 2**64, "lies outside the heap"
+    if not is_exact(state.base + 16, state.top):
+        yield state.base + 16, state.top, ""
+
+
+def wrong_words(state):
+    """Tagged words whose bounds lie in no block."""
+    yield NULL
+    for base, top in [*state.live, *state.waiting, *state.painted]:
+        for first, last in ((base, top + 16), (base - 16, top), (base, base)):
+            if 0 <= first and last <= 2**64 and is_exact(first, last):
+                yield capability(first, last)
+
+
+def wrong_blocks_given(log, state):
+    """Lines in place of given blocks, or after all given lines: the number of the line, the line, and what is said of it."""
+    end = 2 + len(log.givens)
+    for line, kind, operands in log.givens:
+        if kind not in ("live", "waiting", "painted"):
+            continue
+        base, top = operands
+        for first, last, why in wrong_given_blocks(state, base, top):
+            if 0 <= first < 2**64 and 0 <= last <= 2**64:
+                said = f"no capability has just the bounds of block {first:#x} {last:#x}" if not why else f"block {first:#x} {last:#x} {why}"
+                yield line, given_block(kind, first, last), f"unsafe {line}: {said}\n"
+        for other in ("live", "waiting"):
+            over = f"block {base:#x} {top:#x} lies over the block {base:#x} {top:#x}, given at line {line}"
+            yield end, given_block(other, base, top), f"unsafe {end}: {over}\n"
+
+
+def wrong_words_given(log, state):
+    """The same of given registers and granules."""
+    for line, kind, operands in log.givens:
+        number = operands[0] if operands else None
+        if kind == "register" and number:
+            for word in wrong_words(state):
+                yield line, given_register(number, word, True), f"unsafe {line}: the bounds {word.base:#x} {word.top:#x} of c{number} lie in no block\n"
+        elif kind == "granule":
+            for word in wrong_words(state):
+                name = f"granule {number:#x}"
+                yield line, given_granule(number, word, True), f"unsafe {line}: the bounds {word.base:#x} {word.top:#x} of {name} lie in no block\n"
+            for address in (number + 8, state.base - 16, state.top):
+                if 0 <= address < 2**64:
+                    yield line, given_granule(address, NULL, False), f"unsafe {line}: no granule of the heap lies at {address:#x}\n"
+
+
+def changed_given(lines, log, chance):
+    """A given line left out, of another kind, or with another tag; what that comes to only a judge can tell."""
+    line, kind, _ = chance.choice(log.givens)
+    if kind == "epoch":
+        return None
+    was = lines[line - 1]
+    other = {
+        "live": was.replace("live", "waiting"),
+        "waiting": was.replace("waiting", "live"),
+        "painted": was.replace("painted", "live"),
+        "register": was.replace(" 1 ", " 0 "),
+        "granule": was.replace(" 1 ", " 0 "),
+    }[kind]
+    changed = chance.choice([[], [other]])
+    return Trial(f"given line {line} {'of another kind' if changed else 'left out'}", told([*lines[: line - 1], *changed, *lines[line:]]), "")
+
+
+def wrong_givens(text, chance, most):
+    """So many of the logs with one thing wrong in the given lines, of a log whose given lines come right after the heap."""
+    log, lines = read_log(text), [line for _, line in lines_of(text)]
+    if not log.givens:
+        return
+    state, end = first_state(log), 2 + len(log.givens)
+    for changes in (list(wrong_blocks_given(log, state)), list(wrong_words_given(log, state))):
+        for _ in range(most if changes else 0):
+            number, line, begins = chance.choice(changes)
+            after = lines[number - 1 if number == end else number :]
+            yield Trial(f"a wrong given line {number}", told([*lines[: number - 1], line, *after]), begins)
+    if changed := changed_given(lines, log, chance):
+        yield changed
+    line, fault = chance.choice(NO_GIVENS)
+    number = chance.randrange(2, end + 1)
+    yield Trial(f"given line {number} is '{line:.60}'", told([*lines[: number - 1], line, *lines[number - 1 :]]), f"fault {fault} {number}\n")
+    if log.events:
+        number = log.events[0].line + 1
+        yield Trial(f"line {number} gives something after an event", told([*lines[: number - 1], "given epoch", *lines[number - 1 :]]), f"fault bad-command {number}\n")
