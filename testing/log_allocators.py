@@ -120,7 +120,7 @@ class Run:
         self.quarantine, self.painted = [], []
         self.lines, self.count, self.fault, self.broken = [f"heap {HEAP_BASE:#x} {pages}"], count, fault, None
         steps = [self.malloc] * 8 + [self.free] * 6 + [self.look] + [self.sweep, self.begin, self.end]
-        steps += [self.copy, self.set_address, self.narrow, self.store, self.store, self.load, self.load, self.show, self.write] * 2
+        steps += [self.copy, self.set_address, self.narrow, self.store, self.store, self.load, self.load, self.show, self.write, self.mask] * 2
         while len(self.lines) < count:
             self.random.choice(steps)()
 
@@ -247,8 +247,13 @@ class Run:
 
     def set_address(self):
         target, source = self.target(), self.source()
-        address = (self.state.registers[source][0].base + 16 * self.random.randrange(64)) % 2**64
+        address = self.state.registers[source][0].base + 16 * self.random.randrange(64) + self.random.choice([0] * 7 + [1])
+        address %= 2**64
         self.does(f"setaddr c{target} c{source} {address:#x}", "setaddr", target, source, address)
+
+    def mask(self):
+        target, source, mask = self.target(), self.source(), self.random.choice([0x3D, 0x1D, 0x2D, 0x34, 0x38, self.random.getrandbits(16)])
+        self.does(f"andperm c{target} c{source} {mask:#x}", "andperm", target, source, mask)
 
     def narrow(self):
         target, source, length = self.target(), self.source(), 16 * self.random.randrange(5)

@@ -146,19 +146,20 @@ ANSWERS = [
 ]
 TRAPS = ["tag", "perm", "bounds", "align", "empty", "inexact", "freed", "notblock", "open", "notopen"]
 FORMS = [it.split() for it in ANSWERS] + [["trap", it] for it in TRAPS]
+HEXADECIMAL, DECIMAL = re.compile("0x(0|[1-9a-f][0-9a-f]{0,31})"), re.compile("0|[1-9][0-9]{0,19}")
+NUMBERS = {f"X{bits}": (HEXADECIMAL, 16, 2**bits) for bits in (16, 32, 64, 128)} | {f"D{bits}": (DECIMAL, 10, 2**bits) for bits in (1, 8, 32, 64)}
 
 
 def is_written(word, form):
     """Whether a word of an answer is what a form has there."""
-    number = re.fullmatch("([XD])([0-9]+)", form)
-    if not number:
+    if form not in NUMBERS:
         return word == form
-    digits, radix = ("0x(0|[1-9a-f][0-9a-f]{0,31})", 16) if number[1] == "X" else ("0|[1-9][0-9]{0,19}", 10)
-    return bool(re.fullmatch(digits, word)) and int(word, radix) < 1 << int(number[2])
+    digits, radix, limit = NUMBERS[form]
+    return bool(digits.fullmatch(word)) and int(word, radix) < limit
 
 
 def is_answer(words):
-    return any(len(words) == len(form) and all(map(is_written, words, form)) for form in FORMS)
+    return any(len(words) == len(form) and words[0] == form[0] and all(map(is_written, words, form)) for form in FORMS)
 
 
 def read(words, forms):

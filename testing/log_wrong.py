@@ -6,10 +6,10 @@ from typing import NamedTuple
 
 from log_model import first_state, follow
 from log_state import NULL, capability, is_exact
-from log_words import TRAPS, is_answer, lines_of, read_log
+from log_words import TRAPS, is_answer, lines_of, read_log, words_of
 
-# So many lines come after the one that is wrong.
-AFTER = 6
+# So many lines come after the one that is wrong, and of so many lines of a log one is made wrong.
+AFTER, LOOKED_AT = 6, 60
 # Words that are no answer: too few or too many, numbers in other forms or too large, other letters.
 NO_ANSWERS = [
     "", "ok ok", "Ok", "done", "->", "-> ok", "block", "block 0x40000000", "block 1073741824 1073741840", "block 0x40000000 0x4000000G",
@@ -17,9 +17,25 @@ NO_ANSWERS = [
     "block 0x40000000 0x40000010 cleared 1", "block 0x4000000A 0x40000010", "block 0x10000000000000000 0x10000000000000010",
     "block 0x40000000 0x100000000000000000000000000000000", "nospace swept", "nospace swept 0x1", "nospace 1", "nospace swept 4294967296",
     "held", "held 032", "held 0x20", "held 18446744073709551616", "held +16", "cleared -1", "cleared 1 released", "cleared 1 released 1 1",
-    "cleared 4294967296", "cleared 0 held 0", "trap", "trap nothing", "trap Tag", "trap tag 1", "swept 1", "0 " + "0" * 32, "1" * 5000,
+    "cleared 4294967296", "cleared 0 held 0", "trap", "trap nothing", "trap Tag", "trap tag 1", "swept 1", "0 " + "0" * 32, "held " + "1" * 5000,
     "tag 2 address 0x0 base 0x0 top 0x0 perms 0x0 type 0x0 exponent 0", "tag 0 address 0x0 base 0x0 top 0x0 perms 0x10000 type 0x0 exponent 0",
     "tag 0 address 0x0 base 0x0 top 0x0 perms 0x0 type 0x0 exponent 256", "tag 0 address 0x0 top 0x0 base 0x0 perms 0x0 type 0x0 exponent 0",
+]  # fmt: skip
+# The kinds of wrong given lines that are about words.
+WORD_LACKS = ("register", "granule", "where none is")
+# Lines that tell nothing, with their faults: what is wrong before the arrow comes first.
+FAULTY_LINES = [
+    ("free c32 -> nothing", "bad-register"), ("malloc c1 ->", "bad-count"), ("malloc c1 0x -> nothing", "bad-number"), ("write c1 00 -> nothing", "bad-data"),
+    ("sweep 1", "bad-count"), ("sweep 1 -> nothing", "bad-count"), ("sweeps ->", "bad-command"), ("heap 0x40000000 1 -> ok", "bad-command"),
+    ("granule c1 -> 2", "bad-number"), ("granule -> 0", "bad-count"), ("granule 0x40000000 1 ->", "bad-count"), ("-> ok", "bad-command"), ("-> ->", "bad-command"),
+    ("andperm c1 c1 65536 -> ok", "bad-number"), ("setaddr c1 c01 0 -> ok", "bad-register"), ("free c1->held 16", "bad-count"), ("free c1 -> held 16 -> ok", "bad-answer"),
+    ("sweep", "bad-answer"), ("sweep ->", "bad-answer"), ("granule 0x40000000", "bad-answer"), ("given epoch", "bad-command"),
+]  # fmt: skip
+# What no granule holds, and first lines that are no heap.
+NO_CONTENTS = ["", "0", f"2 {'0' * 32}", f"01 {'0' * 32}", f"0 {'0' * 31}", f"0 {'0' * 33}", f"0 0x{'0' * 30}", f"0 {'0' * 32} 0", "ok"]
+NO_HEAPS = [
+    ("heap 0x40000008 1", "bad-heap"), ("heap 0x40000000 0", "bad-heap"), ("heap 0x40000000 1025", "bad-heap"), ("heap 0xfffffffffffff000 2", "bad-heap"),
+    ("heap 0x40000000", "bad-heap"), ("heap 0x40000000 1 -> ok", "bad-heap"), ("heap", "bad-heap"), ("given epoch", "no-heap"), ("sweep ->", "no-heap"),
 ]  # fmt: skip
 # Lines that give nothing, with their faults.
 NO_GIVENS = [
@@ -156,8 +172,15 @@ def seen_lines(event, state):
             yield "a granule where none is", f"granule {other:#x} -> {tag:d} {data.hex()}", True
 
 
-def other_lines(event, state, line):
+def with_blanks(words, chance):
+    """The same line with other blanks between, before and after its words."""
+    blank = lambda least: "".join(chance.choices(" \t\r", k=chance.randrange(least, 4)))
+    return blank(0) + "".join(word + blank(1) for word in words[:-1]) + words[-1] + blank(0)
+
+
+def other_lines(event, state, line, chance):
     """Lines in place of one: what was done, the line, and whether it is wrong, or None where that isn't known."""
+    yield "other blanks", with_blanks(words_of(line), chance), False
     if event.name == "granule":
         yield from seen_lines(event, state)
         return
@@ -171,13 +194,14 @@ def other_lines(event, state, line):
         yield "a greater size", f"malloc c{event.operands[0]} {length + 1} -> {answer}", True
 
 
-def changed_lines(text):
-    """All of them for a log that agrees, each with the number of its line."""
-    log, lines = read_log(text), [line for _, line in lines_of(text)]
-    state = first_state(log)
+def changed_lines(log, lines, chance):
+    """All of them for some lines of a log that agrees, each with the number of its line."""
+    state, numbers = first_state(log), [event.line for event in log.events]
+    looked_at = set(chance.sample(numbers, min(LOOKED_AT, len(numbers))))
     for event in log.events:
-        for what, line, is_wrong in other_lines(event, state, lines[event.line - 1]):
-            yield event.line, what, line, is_wrong
+        if event.line in looked_at:
+            for what, line, is_wrong in other_lines(event, state, lines[event.line - 1], chance):
+                yield event.line, what, line, is_wrong
         assert not follow(state, event), (event, "a log that agrees was expected")
 
 
@@ -208,24 +232,46 @@ def faulty_line(lines, log, chance):
     """A line that has no answer."""
     event = chance.choice(log.events)
     asked = lines[event.line - 1].partition(" -> ")[0]
-    answer = chance.choice([None, *NO_ANSWERS, f"2 {'0' * 32}", "0", f"0 {'0' * 31}", f"0 {'0' * 32} 0"])
-    if event.name == "granule" and answer == "0 " + "0" * 32:
-        answer = None
+    answer = chance.choice([None, *(NO_CONTENTS if event.name == "granule" else NO_ANSWERS)])
     changed = list(lines)
     changed[event.line - 1] = asked if answer is None else f"{asked} -> {answer}"
     return Trial(f"line {event.line} is answered by {answer!r:.60}", told(changed), f"fault bad-answer {event.line}\n")
 
 
+def faults():
+    """Each fault of a line, in a log of a few lines."""
+    heap, block = "heap 0x40000000 1", "malloc c1 16 -> block 0x40000000 0x40000010"
+    for line, fault in NO_HEAPS:
+        yield Trial(f"the heap line '{line}'", told(["", line, block]), f"fault {fault} 2\n")
+    for line, fault in NO_GIVENS:
+        yield Trial(f"the given line '{line:.60}'", told([heap, line, block, "sweep"]), f"fault {fault} 2\n")
+    for line, fault in FAULTY_LINES:
+        yield Trial(f"the line '{line}'", told([heap, block, line, "sweep"]), f"fault {fault} 3\n")
+    for asked, answers in (("free c1", NO_ANSWERS), ("granule 0x40000000", NO_CONTENTS)):
+        for answer in answers:
+            yield Trial(f"the answer '{answer:.60}'", told([heap, block, f"{asked} -> {answer}", "sweep"]), "fault bad-answer 3\n")
+    for text, number in (("", 1), ("#\n\n \t\r\n", 4), ("# no end", 2)):
+        yield Trial("no line", text, f"fault no-heap {number}\n")
+
+
+def line_put_in(lines, log, chance):
+    """The same with one more line, after some event."""
+    line, fault = chance.choice(FAULTY_LINES)
+    number = chance.choice(log.events).line + 1
+    return Trial(f"line {number} is '{line}'", told([*lines[: number - 1], line, *lines[number - 1 :]]), f"fault {fault} {number}\n")
+
+
 def mutants(text, chance, most):
     """So many of the logs with one thing wrong that a log with events gives; what is wrong seldom is as likely as the rest."""
-    lines, kinds = [line for _, line in lines_of(text)], {}
-    for number, what, line, is_wrong in changed_lines(text):
+    log, lines, kinds = read_log(text), [line for _, line in lines_of(text)], {}
+    for number, what, line, is_wrong in changed_lines(log, lines, chance):
         kinds.setdefault(what, []).append((number, what, line, is_wrong))
     for _ in range(most if kinds else 0):
         yield changed_answer(lines, *chance.choice(kinds[chance.choice(sorted(kinds))]))
     if kinds:
         yield moved_line(lines, chance)
-        yield faulty_line(lines, read_log(text), chance)
+        yield faulty_line(lines, log, chance)
+        yield line_put_in(lines, log, chance)
 
 
 # ---- given states
@@ -289,7 +335,8 @@ def wrong_words(state):
 
 
 def wrong_blocks_given(log, state):
-    """Lines in place of given blocks, or after all given lines: the number of the line, the line, and what is said of it."""
+    """Lines in place of given blocks, or after all given lines: what is wrong, the number of the line, the line, and what is
+    said of it."""
     end = 2 + len(log.givens)
     for line, kind, operands in log.givens:
         if kind not in ("live", "waiting", "painted"):
@@ -298,33 +345,33 @@ def wrong_blocks_given(log, state):
         for first, last, why in wrong_given_blocks(state, base, top):
             if 0 <= first < 2**64 and 0 <= last <= 2**64:
                 said = f"no capability has just the bounds of block {first:#x} {last:#x}" if not why else f"block {first:#x} {last:#x} {why}"
-                yield line, given_block(kind, first, last), f"unsafe {line}: {said}\n"
+                yield why, line, given_block(kind, first, last), f"unsafe {line}: {said}\n"
         for other in ("live", "waiting"):
             over = f"block {base:#x} {top:#x} lies over the block {base:#x} {top:#x}, given at line {line}"
-            yield end, given_block(other, base, top), f"unsafe {end}: {over}\n"
+            yield "over", end, given_block(other, base, top), f"unsafe {end}: {over}\n"
 
 
 def wrong_words_given(log, state):
     """The same of given registers and granules."""
     for line, kind, operands in log.givens:
-        number = operands[0] if operands else None
-        if kind == "register" and number:
-            for word in wrong_words(state):
-                yield line, given_register(number, word, True), f"unsafe {line}: the bounds {word.base:#x} {word.top:#x} of c{number} lie in no block\n"
-        elif kind == "granule":
-            for word in wrong_words(state):
-                name = f"granule {number:#x}"
-                yield line, given_granule(number, word, True), f"unsafe {line}: the bounds {word.base:#x} {word.top:#x} of {name} lie in no block\n"
-            for address in (number + 8, state.base - 16, state.top):
-                if 0 <= address < 2**64:
-                    yield line, given_granule(address, NULL, False), f"unsafe {line}: no granule of the heap lies at {address:#x}\n"
+        if kind not in ("register", "granule") or operands[0] == 0:
+            continue
+        number, given = operands[0], given_register if kind == "register" else given_granule
+        name = f"c{number}" if kind == "register" else f"granule {number:#x}"
+        for word in wrong_words(state):
+            yield kind, line, given(number, word, True), f"unsafe {line}: the bounds {word.base:#x} {word.top:#x} of {name} lie in no block\n"
+        for address in (number + 8, state.base - 16, state.top) if kind == "granule" else ():
+            if 0 <= address < 2**64:
+                yield "where none is", line, given_granule(address, NULL, False), f"unsafe {line}: no granule of the heap lies at {address:#x}\n"
 
 
 def changed_given(lines, log, chance):
     """A given line left out, of another kind, or with another tag; what that comes to only a judge can tell."""
-    line, kind, _ = chance.choice(log.givens)
-    if kind == "epoch":
+    givens = [it for it in log.givens if it.kind != "epoch"]
+    if not givens:
         return None
+    blocks = [it for it in givens if it.kind in ("live", "waiting", "painted")]
+    line, kind, _ = chance.choice(chance.choice([givens, blocks or givens]))
     was = lines[line - 1]
     other = {
         "live": was.replace("live", "waiting"),
@@ -337,17 +384,34 @@ def changed_given(lines, log, chance):
     return Trial(f"given line {line} {'of another kind' if changed else 'left out'}", told([*lines[: line - 1], *changed, *lines[line:]]), "")
 
 
+def twice_wrong(lines, changes, chance):
+    """Two given lines wrong: that of a block is told first, and of two of the same sort the first."""
+    one, other = (chance.choice(changes) for _ in range(2))
+    if one[1] == other[1]:
+        return None
+    changed = list(lines)
+    for _, number, line, _ in (one, other):
+        changed[number - 1] = line
+    _, _, _, begins = min(one, other, key=lambda it: (it[0] in WORD_LACKS, it[1]))
+    return Trial(f"wrong given lines {one[1]} and {other[1]}", told(changed), begins)
+
+
 def wrong_givens(text, chance, most):
-    """So many of the logs with one thing wrong in the given lines, of a log whose given lines come right after the heap."""
+    """So many of the logs with one thing wrong in the given lines, of a log whose given lines come right after the heap; and
+    some with more."""
     log, lines = read_log(text), [line for _, line in lines_of(text)]
     if not log.givens:
         return
-    state, end = first_state(log), 2 + len(log.givens)
-    for changes in (list(wrong_blocks_given(log, state)), list(wrong_words_given(log, state))):
-        for _ in range(most if changes else 0):
-            number, line, begins = chance.choice(changes)
-            after = lines[number - 1 if number == end else number :]
-            yield Trial(f"a wrong given line {number}", told([*lines[: number - 1], line, *after]), begins)
+    state, end, kinds = first_state(log), 2 + len(log.givens), {}
+    for change in (*wrong_blocks_given(log, state), *wrong_words_given(log, state)):
+        kinds.setdefault(change[0], []).append(change)
+    for _ in range(most if kinds else 0):
+        _, number, line, begins = chance.choice(kinds[chance.choice(sorted(kinds))])
+        after = lines[number - 1 if number == end else number :]
+        yield Trial(f"a wrong given line {number}", told([*lines[: number - 1], line, *after]), begins)
+    changes = [it for changes in kinds.values() for it in changes if it[1] != end]
+    if changes and (twice := twice_wrong(lines, changes, chance)):
+        yield twice
     if changed := changed_given(lines, log, chance):
         yield changed
     line, fault = chance.choice(NO_GIVENS)
