@@ -109,8 +109,8 @@ ALLOCATORS = [Classes, NextFit, Buddies]
 
 
 class Run:
-    """A random program over an allocator. From half of its lines on the allocator has the fault, if one is given, and what
-    it does then is done. `broken` is the first line in which that shows, as the run itself knows it."""
+    """A random program of so many commands over an allocator. From the middle on that has the fault, if one is given, and
+    what it does then is done. `broken` is the first line in which that shows, as the run itself knows it."""
 
     def __init__(self, kind, seed, count, fault=None):
         self.random = random.Random(seed)
@@ -118,17 +118,22 @@ class Run:
         self.state = State(HEAP_BASE, pages)
         self.allocator = kind(self.state.base, self.state.top, self.random)
         self.quarantine, self.painted = [], []
-        self.lines, self.count, self.fault, self.broken = [f"heap {HEAP_BASE:#x} {pages}"], count, fault, None
+        self.lines, self.looks = [f"heap {HEAP_BASE:#x} {pages}"], 0
+        self.count, self.fault, self.broken = count, fault, None
         steps = [self.malloc] * 8 + [self.free] * 6 + [self.look] + [self.sweep, self.begin, self.end]
-        steps += [self.copy, self.set_address, self.narrow, self.store, self.store, self.load, self.load, self.show, self.write, self.mask] * 2
-        while len(self.lines) < count:
+        steps += [self.copy, self.set_address, self.narrow, self.mask, self.store, self.store, self.load, self.load] * 2
+        steps += [self.show, self.write] * 2
+        while self.commands() < count:
             self.random.choice(steps)()
 
     def text(self):
         return "\n".join([*self.lines, ""])
 
+    def commands(self):
+        return len(self.lines) - 1 - self.looks
+
     def has(self, fault):
-        return self.fault == fault and len(self.lines) > self.count // 2
+        return self.fault == fault and self.commands() > self.count // 2
 
     def owner(self):
         """One of the registers that get new blocks. Other commands seldom write to them, so that few blocks are lost."""
@@ -158,6 +163,7 @@ class Run:
         address = self.random.choice([*self.state.memory, anywhere])
         word, tag = self.state.granule(address)
         self.tell(f"granule {address:#x}", f"{tag:d} {word.data()}")
+        self.looks += 1
 
     # ---- blocks and passes, of which the allocator knows
 

@@ -147,7 +147,8 @@ ANSWERS = [
 TRAPS = ["tag", "perm", "bounds", "align", "empty", "inexact", "freed", "notblock", "open", "notopen"]
 FORMS = [it.split() for it in ANSWERS] + [["trap", it] for it in TRAPS]
 HEXADECIMAL, DECIMAL = re.compile("0x(0|[1-9a-f][0-9a-f]{0,31})"), re.compile("0|[1-9][0-9]{0,19}")
-NUMBERS = {f"X{bits}": (HEXADECIMAL, 16, 2**bits) for bits in (16, 32, 64, 128)} | {f"D{bits}": (DECIMAL, 10, 2**bits) for bits in (1, 8, 32, 64)}
+NUMBERS = {f"X{bits}": (HEXADECIMAL, 16, 2**bits) for bits in (16, 32, 64, 128)}
+NUMBERS |= {f"D{bits}": (DECIMAL, 10, 2**bits) for bits in (1, 8, 32, 64)}
 
 
 def is_written(word, form):
