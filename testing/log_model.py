@@ -51,7 +51,7 @@ def why_no_block(state, base, top):
         return f"{named(base, top)} is empty"
     if base < state.base or top > state.top:
         return f"{named(base, top)} lies outside the heap"
-    return None if is_exact(base, top) else f"no capability has just the bounds of {named(base, top)}"
+    return None if is_exact(base, top) else f"{named(base, top)} has bounds that no capability holds"
 
 
 def why_not_there(state, base, top, held):
@@ -126,7 +126,7 @@ def wrong_with_one(name, due, right, answer):
 
 def wrong_with_seen(state, address, tag, data):
     if not state.has_granule(address):
-        return [(f"no granule of the heap lies at {address:#x}", None)]
+        return [("no granule of the heap lies at this address", None)]
     held = state.granule(address)
     return [] if held == (word_of_data(data), tag) else [(f"the granule holds {held[1]:d} {held[0].data()}", None)]
 
@@ -157,21 +157,21 @@ def give_blocks(state, givens):
             state.is_open = True
         elif kind in ("live", "waiting", "painted"):
             block = tuple(operands)
-            over = [f"{named(*block)} lies over the {named(*it)}, given at line {lines[it]}" for it in overlapping(lines, *block)]
+            over = [f"the block lies over the {named(*it)}, given at line {lines[it]}" for it in overlapping(lines, *block)]
             why = why_no_block(state, *block)
             if why or over:
-                raise Unsafe(line, [why] if why else over)
+                raise Unsafe(line, [why.replace(named(*block), "the block")] if why else over)
             lines[block] = line
             getattr(state, kind)[block] = f"given at line {line}"
     # A painted block is one of an epoch that is open.
     state.is_open = state.is_open or bool(state.painted)
 
 
-def lack_of_word(state, name, word):
+def lack_of_word(state, word):
     """What a tagged word lacks, or None: its bounds lie in one block, and its base below its top."""
     blocks = [*state.live, *state.waiting, *state.painted]
     is_guarded = word.base < word.top and any(base <= word.base and word.top <= top for base, top in blocks)
-    return None if is_guarded else f"the bounds {word.base:#x} {word.top:#x} of {name} lie in no block"
+    return None if is_guarded else f"the word's bounds {word.base:#x} {word.top:#x} lie in no block"
 
 
 def give_words(state, givens):
@@ -179,10 +179,10 @@ def give_words(state, givens):
         if kind not in ("register", "granule"):
             continue
         number, tag, data = operands
-        word, name = word_of_data(data), f"c{number}" if kind == "register" else f"granule {number:#x}"
+        word = word_of_data(data)
         if kind == "granule" and not state.has_granule(number):
-            raise Unsafe(line, [f"no granule of the heap lies at {number:#x}"])
-        if tag and (lack := lack_of_word(state, name, word)):
+            raise Unsafe(line, ["no granule of the heap lies at this address"])
+        if tag and (lack := lack_of_word(state, word)):
             raise Unsafe(line, [lack])
         if kind == "register":
             state.put(number, word, tag)

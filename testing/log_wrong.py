@@ -344,10 +344,10 @@ def wrong_blocks_given(log, state):
         base, top = operands
         for first, last, why in wrong_given_blocks(state, base, top):
             if 0 <= first < 2**64 and 0 <= last <= 2**64:
-                said = f"no capability has just the bounds of block {first:#x} {last:#x}" if not why else f"block {first:#x} {last:#x} {why}"
+                said = f"the block {why or 'has bounds that no capability holds'}"
                 yield why, line, given_block(kind, first, last), f"unsafe {line}: {said}\n"
         for other in ("live", "waiting"):
-            over = f"block {base:#x} {top:#x} lies over the block {base:#x} {top:#x}, given at line {line}"
+            over = f"the block lies over the block {base:#x} {top:#x}, given at line {line}"
             yield "over", end, given_block(other, base, top), f"unsafe {end}: {over}\n"
 
 
@@ -357,12 +357,11 @@ def wrong_words_given(log, state):
         if kind not in ("register", "granule") or operands[0] == 0:
             continue
         number, given = operands[0], given_register if kind == "register" else given_granule
-        name = f"c{number}" if kind == "register" else f"granule {number:#x}"
         for word in wrong_words(state):
-            yield kind, line, given(number, word, True), f"unsafe {line}: the bounds {word.base:#x} {word.top:#x} of {name} lie in no block\n"
+            yield kind, line, given(number, word, True), f"unsafe {line}: the word's bounds {word.base:#x} {word.top:#x} lie in no block\n"
         for address in (number + 8, state.base - 16, state.top) if kind == "granule" else ():
             if 0 <= address < 2**64:
-                yield "where none is", line, given_granule(address, NULL, False), f"unsafe {line}: no granule of the heap lies at {address:#x}\n"
+                yield "where none is", line, given_granule(address, NULL, False), f"unsafe {line}: no granule of the heap lies at this address\n"
 
 
 def changed_given(lines, log, chance):

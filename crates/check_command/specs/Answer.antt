@@ -23,7 +23,7 @@ use Rattle.heap_log.specs.declared.verdict.Difference.{Difference}
 use Rattle.heap_log.specs.declared.verdict.Difference.TheVariants.{Answer}
 use Rattle.heap_log.specs.Due.{due_words}
 use Rattle.heap_log.specs.Judged.{AllFollow, DiffersAt, tally_of}
-use Rattle.heap_log.specs.Origin.{IsLastFree, gives, hands_out, last_line}
+use Rattle.heap_log.specs.Origin.{IsLastFree, first_line, gives, hands_out, last_line}
 use Rattle.trace_program.specs.Answer.{memory_line}
 use Rattle.trace_program.specs.Device.{ReadsUpTo}
 use Rattle.check_command.specs.declared.lines.Origin.{Origin}
@@ -66,18 +66,18 @@ held_from (Some line) given = Freed line
 abbrev pub IsHeldFrom : Record → List (ℕ × Event) → BlockBounds → Origin → Type 0
 IsHeldFrom log before block from =
     (found : Option ℕ) × (last : State) × IsLastFree (first_of log) block before found last
-    × (from ≡ held_from found (last_line (gives block) log.givens))
+    × (from ≡ held_from found (first_line (gives block) log.givens))
 
 -- After these events, where the block that is in the way came from.
 abbrev pub ComesFrom : Record → List (ℕ × Event) → Difference → Origin → Type 0
 ComesFrom log before (Answer (Refused (OverLive block))) from =
-    from ≡ live_from (last_line (hands_out block) before) (last_line (gives block) log.givens)
+    from ≡ live_from (last_line (hands_out block) before) (first_line (gives block) log.givens)
 ComesFrom log before (Answer (Refused (OverHeld block))) from = IsHeldFrom log before block from
 ComesFrom log before difference from = from ≡ Unknown
 
 -- The line that gives the block over which another is given.
 abbrev pub given_from : List (ℕ × Given) → Lack → Origin
-given_from givens (Block (OverLive block)) = given_at (last_line (gives block) givens)
+given_from givens (Block (OverLive block)) = given_at (first_line (gives block) givens)
 given_from givens lack = Unknown
 
 -- ---- words that are due

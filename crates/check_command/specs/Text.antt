@@ -6,11 +6,12 @@ use Rattle.hex.specs.Hex.{encode_lower}
 use Rattle.heap_core.specs.declared.block.Block.{Block}
 use Rattle.heap_core.specs.declared.block.Claim.{Claim}
 use Rattle.heap_core.specs.declared.block.Claim.TheVariants.{Claimed, Empty, Inexact, Outside, OverHeld, OverLive, Uneven}
-use Rattle.heap_reply.specs.Answer.{answer_text}
+use Rattle.heap_reply.specs.declared.reply.Reply.TheVariants.{Block as HandsOut, BlockAfter as HandsOutAfter}
+use Rattle.heap_reply.specs.Answer.{answer_text, block_text}
 use Rattle.heap_reply.specs.Display.{bit_text, hexadecimal_text, joined}
 use Rattle.log_text.specs.declared.fault.LogFault.{LogFault}
 use Rattle.log_text.specs.declared.log.Event.{Event}
-use Rattle.log_text.specs.declared.log.Event.TheVariants.{Done, Seen}
+use Rattle.log_text.specs.declared.log.Event.TheVariants.{Done}
 use Rattle.log_text.specs.Fault.{log_fault_text}
 use Rattle.given_state.specs.declared.fault.Lack.{Lack}
 use Rattle.given_state.specs.declared.fault.Lack.TheVariants as lack
@@ -78,10 +79,11 @@ difference_text told is_open from NoGranule = codes "no granule of the heap lies
 difference_text told is_open from (Granule tag bytes) =
     concat (codes "the granule holds " ∷ bit_text tag ∷ codes " " ∷ encode_lower bytes ∷ [])
 
--- The words of an event's answer.
+-- The block that an event hands out.
 abbrev pub told_text : Event → List ℕ
-told_text (Done command answer) = answer_text answer
-told_text (Seen address tag bytes) = []
+told_text (Done command (HandsOut base top)) = block_text base top
+told_text (Done command (HandsOutAfter base top cleared)) = block_text base top
+told_text event = []
 
 abbrev pub differs_line : ℕ → Event → Bool → Origin → Difference → List ℕ
 differs_line line event is_open from difference =

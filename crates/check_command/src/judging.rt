@@ -7,7 +7,7 @@ ghost use Rattle.log_text.specs.Log.{IsListedEvent, record_of};
 ghost use Rattle.given_state.specs.Given.{AreSafe, IsFirstFlaw};
 ghost use Rattle.heap_machine.specs.State.{State};
 ghost use Rattle.heap_log.specs.Judged.{AllFollow, DiffersAt};
-ghost use Rattle.heap_log.specs.Origin.{gives, hands_out, last_line};
+ghost use Rattle.heap_log.specs.Origin.{first_line, gives, hands_out, last_line};
 ghost use Rattle.check_command.specs.Answer.{ComesFrom, IsHeldFrom, IsJudged, IsLogAnswer, IsReadLog, first_of, given_at, given_from, is_memory, live_from};
 
 use crate::due_lines::push_due_shown;
@@ -26,7 +26,7 @@ use trace_text::TraceFault;
 
 // The line that gives a block.
 fn given_origin(givens: &[(u32, Given)], block: Block) -> Origin
-    ensures { result ≡ given_at (last_line (gives block) givens.now) }
+    ensures { result ≡ given_at (first_line (gives block) givens.now) }
 {
     match given_line(givens, block) {
         Some(line) => Origin::Given(line),
@@ -36,7 +36,7 @@ fn given_origin(givens: &[(u32, Given)], block: Block) -> Origin
 
 // Where a live block came from, after these events.
 fn live_origin(log: &Log, before: &[(u32, Event)], block: Block) -> Origin
-    ensures { result ≡ live_from (last_line (hands_out block) before.now) (last_line (gives block) log.now.givens.items) }
+    ensures { result ≡ live_from (last_line (hands_out block) before.now) (first_line (gives block) log.now.givens.items) }
 {
     match handed_out_line(before, block) {
         Some(line) => Origin::HandedOut(line),

@@ -102,7 +102,7 @@ impl fmt::Display for ReplyText {
     }
 }
 
-/// The words of an event's answer.
+/// The block that an event hands out, if it does.
 #[derive(Clone, Copy)]
 struct Told(Event);
 
@@ -111,11 +111,14 @@ impl fmt::Display for Told {
 
     fn fmt<W: fmt::Write>(&self, f: &mut fmt::Formatter<W>) -> fmt::Result {
         match self.0 {
-            Event::Done { answer, .. } => {
-                let text = ReplyText(answer);
-                write!(f, "{text}")
+            Event::Done {
+                answer: Reply::Block { base, top } | Reply::BlockAfter { base, top, .. },
+                ..
+            } => {
+                let block = ReplyText(Reply::Block { base, top });
+                write!(f, "{block}")
             }
-            Event::Seen { .. } => Ok(()),
+            _ => Ok(()),
         }
     }
 }

@@ -5,7 +5,7 @@ ghost use Rattle.std.specs.List.{All};
 ghost use Rattle.log_text.specs.Log.{IsListedEvent, IsValidEvent};
 ghost use Rattle.heap_machine.specs.State.{State};
 ghost use Rattle.heap_log.specs.Judged.{AllFollow};
-ghost use Rattle.heap_log.specs.Origin.{IsLastFree, are_bounds, frees, gives, hands_out, last_line};
+ghost use Rattle.heap_log.specs.Origin.{IsLastFree, are_bounds, first_line, frees, gives, hands_out, last_line};
 
 use crate::judging::follow_event;
 use crate::laws::logs;
@@ -67,15 +67,16 @@ fn gives(block: Block, given: Given) -> bool
     }
 }
 
-/// The last line that gives the block.
+/// The first line that gives the block.
 pub fn given_line(givens: &[(u32, Given)], block: Block) -> Option<u32>
-    ensures { result ≡ last_line (gives block) givens.now }
+    ensures { result ≡ first_line (gives block) givens.now }
 {
-    let mut found = None;
     for (line, given) in givens {
-        found = noted(gives(block, *given), *line, found);
+        if gives(block, *given) {
+            return Some(*line);
+        }
     }
-    found
+    None
 }
 
 // Whether an event that follows now frees the block.

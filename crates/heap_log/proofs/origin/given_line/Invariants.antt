@@ -1,6 +1,7 @@
-use Rattle.std.proofs.Common.{◌≡◌, take}
-use Rattle.heap_log.specs.Origin.{gives, last_line}
+use Rattle.std.proofs.Common.{◌≡◌, drop}
+use Rattle.heap_log.specs.Origin.{first_line, gives}
 use Rattle.heap_log.proofs.origin.given_line.Given as goal
 
+-- no line before gives the block
 abbrev pub invariant-loop-line : goal.invariant-loop-line
-invariant-loop-line l = l.found ≡ last_line (gives l.block) (take l.line-index l.givens)
+invariant-loop-line l = first_line (gives l.block) (drop l.line-index l.givens) ≡ first_line (gives l.block) l.givens
