@@ -10,7 +10,7 @@ import re
 FUNCTION = re.compile(r"^( *)(pub )?fn (\w+)")
 OWNER = re.compile(r"^(?:impl(?:<.*?>)? (?:.* for )?|(?:pub )?trait )(?:\w+::)*(\w+).*\{$")
 USE = re.compile(r"^pub use (\w+)::([\w:]*?)(?:\{([^}]*)\}|(\w+));", re.M)
-SCRIPTS = ("gate", "heap_page", "heap_states", "heap_tool", "launcher", "crates.txt")
+SCRIPTS = ("gate", "heap_check", "heap_page", "heap_states", "heap_tool", "launcher", "crates.txt")
 # What has words that stand nowhere else: wrong bodies, and wrong documents.
 NOT_WORDS = ("testing/edits/", "testing/refused_edits", "testing/documents")
 ITEM = re.compile(r"^pub (?:fn|struct|enum|trait|const|type) (\w+)", re.M)
