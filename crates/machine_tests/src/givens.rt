@@ -17,7 +17,7 @@ fn started(rt: &impl Abort, alloc: Global, text: &str) -> Result<Machine, StartF
 
 // The machine that lines tell of, with a live block at 0x40000100, one of 16 bytes that waits at 0x40000200, and a painted
 // one at 0x40000300, each with its words in registers and in memory.
-fn three_blocks(rt: &impl Abort, alloc: Global) -> Machine {
+pub(crate) fn three_blocks(rt: &impl Abort, alloc: Global) -> Machine {
     let text = "heap 0x40000000 16
 given register c3 1 00030040000000000483d10400003d00
 given live 0x40000100 0x40000120

@@ -1,12 +1,14 @@
 //! Logs, and what is said of them.
 
-use heap_log::{Difference, Tally, Verdict, judge};
+use crate::givens::three_blocks;
+use heap_log::{Difference, DueWord, Tally, Verdict, due_words, freed_line, given_line, handed_out_line, judge};
 use heap_machine::{Block, Claim, Machine, Why};
 use log_text::parse;
 use std::alloc::Global;
 use std::process::Abort;
 use std::thread::Threads;
-use sweep_pool::Cutting;
+use sweep_pool::{Cutting, Open};
+use trace_text::Command;
 
 fn judged<R: Abort + Threads + Sync>(rt: &R, alloc: Global, text: &[u8]) -> Verdict {
     let log = parse(alloc, text).expect(rt, "it is a log");
@@ -45,6 +47,7 @@ sweep -> trap open
         verdict,
         Verdict::Differs {
             line: 4,
+            count: 2,
             difference: Difference::Answer(Why::Refused(Claim::OverHeld(over))),
         }
     );
@@ -122,8 +125,182 @@ fn granules_are_not_as_they_were_seen(rt: HostRuntime) {
             verdict,
             Verdict::Differs {
                 line: 2,
+                count: 0,
                 difference,
             }
         );
+    }
+}
+
+// The words of a block that waits are due for a sweep, and where an epoch is open, those of the painted ones instead.
+#[test]
+fn words_are_due(rt: HostRuntime) {
+    let alloc = rt.alloc();
+    let mut machine = three_blocks(&rt, alloc);
+    let painted = 0x4000_0300;
+    let register = DueWord::Register {
+        register: 3,
+        base: painted,
+    };
+    let granule = DueWord::Granule {
+        address: 0x4000_0100,
+        base: painted,
+    };
+    let all = due_words(alloc, &machine, true).expect(&rt, "there is memory");
+    assert_eq!(rt; all.as_slice(), [register, granule].as_slice());
+    let stored = due_words(alloc, &machine, false).expect(&rt, "there is memory");
+    assert_eq!(rt; stored.as_slice(), [granule].as_slice());
+    machine.step(&rt, alloc, Command::End, &Open).expect(&rt, "there is memory");
+    let waits = 0x4000_0200;
+    let register = DueWord::Register {
+        register: 2,
+        base: waits,
+    };
+    let granule = DueWord::Granule {
+        address: 0x4000_0110,
+        base: waits,
+    };
+    let all = due_words(alloc, &machine, true).expect(&rt, "there is memory");
+    assert_eq!(rt; all.as_slice(), [register, granule].as_slice());
+    let stored = due_words(alloc, &machine, false).expect(&rt, "there is memory");
+    assert_eq!(rt; stored.as_slice(), [granule].as_slice());
+    machine.step(&rt, alloc, Command::Sweep, &Open).expect(&rt, "there is memory");
+    let none = due_words(alloc, &machine, true).expect(&rt, "there is memory");
+    assert_eq!(rt; none.len(), 0);
+}
+
+// Where a capability was narrowed, its own base is told, and not that of the block.
+#[test]
+fn a_narrowed_word_is_told_with_its_own_base(rt: HostRuntime) {
+    let alloc = rt.alloc();
+    let mut machine = three_blocks(&rt, alloc);
+    machine.step(&rt, alloc, Command::Free { rs: 1 }, &Open).expect(&rt, "there is memory");
+    machine.step(&rt, alloc, Command::End, &Open).expect(&rt, "there is memory");
+    let words = due_words(alloc, &machine, true).expect(&rt, "there is memory");
+    let freed = DueWord::Register {
+        register: 1,
+        base: 0x4000_0100,
+    };
+    let waits = DueWord::Register {
+        register: 2,
+        base: 0x4000_0200,
+    };
+    let within = DueWord::Granule {
+        address: 0x4000_0110,
+        base: 0x4000_0200,
+    };
+    let last = DueWord::Granule {
+        address: 0x4000_fff0,
+        base: 0x4000_0110,
+    };
+    assert_eq!(rt; words.as_slice(), [freed, waits, within, last].as_slice());
+}
+
+// A block that is freed, swept, handed out again and freed again, and one after a pass of a malloc.
+const TWICE: &[u8] = b"heap 0x40000000 16
+malloc c1 20 -> block 0x40000100 0x40000120
+free c1 -> held 32
+sweep -> cleared 1 released 32
+malloc c2 20 -> block 0x40000100 0x40000120
+malloc c3 16 -> block 0x40000120 0x40000130
+free c2 -> held 32
+free c3 -> held 16
+
+free c2 -> trap freed
+malloc c4 16 -> block 0x40000100 0x40000110 swept 2
+";
+
+const SHORT: Block = Block {
+    base: 0x4000_0100,
+    top: 0x4000_0110,
+};
+
+const LONG: Block = Block {
+    base: 0x4000_0100,
+    top: 0x4000_0120,
+};
+
+const AFTER: Block = Block {
+    base: 0x4000_0120,
+    top: 0x4000_0130,
+};
+
+#[test]
+fn the_last_event_that_hands_out_a_block_is_found(rt: HostRuntime) {
+    let log = parse(rt.alloc(), TWICE).expect(&rt, "it is a log");
+    let never = Block {
+        base: 0x4000_0110,
+        top: 0x4000_0120,
+    };
+    let rows = [
+        (LONG, Some(5)),
+        (AFTER, Some(6)),
+        (SHORT, Some(11)),
+        (never, None),
+    ];
+    for (block, line) in rows {
+        assert_eq!(rt; handed_out_line(&log.events, block), line);
+    }
+}
+
+#[test]
+fn the_first_line_that_gives_a_block_is_found(rt: HostRuntime) {
+    let text = b"heap 0x40000000 16
+given epoch
+given register c1 0 00010040000000000481490400003d00
+given painted 0x40000120 0x40000130
+
+given waiting 0x40000100 0x40000110
+given live 0x40000100 0x40000120
+given live 0x40000100 0x40000110
+";
+    let log = parse(rt.alloc(), text).expect(&rt, "it is a log");
+    let never = Block {
+        base: 0x4000_0100,
+        top: 0x4000_0130,
+    };
+    let rows = [
+        (AFTER, Some(4)),
+        (SHORT, Some(6)),
+        (LONG, Some(7)),
+        (never, None),
+    ];
+    for (block, line) in rows {
+        assert_eq!(rt; given_line(&log.givens, block), line);
+    }
+}
+
+// The line of the last event of a log without given lines that frees the block, where the log agrees.
+fn freed_at<R: Abort + Threads + Sync>(
+    rt: &R,
+    alloc: Global,
+    text: &[u8],
+    block: Block,
+) -> Option<Option<u32>> {
+    let log = parse(alloc, text).expect(rt, "it is a log");
+    let cutting = Cutting::new(1, 16).expect(rt, "it is a cutting");
+    let mut judging = Machine::new(alloc, log.base, log.pages, cutting).expect(
+        rt,
+        "there is memory",
+    );
+    let mut machine = Machine::new(alloc, log.base, log.pages, cutting).expect(
+        rt,
+        "there is memory",
+    );
+    assert!(rt; log.events.len() < 1 << 24);
+    match judge(rt, alloc, &mut judging, &log.events) {
+        Ok(Verdict::Agrees(_)) => {
+            let found = freed_line(rt, alloc, &mut machine, &log.events, block);
+            Some(found.expect(rt, "there is memory"))
+        }
+        _ => None,
+    }
+}
+
+#[test]
+fn the_last_event_that_frees_a_block_is_found(rt: HostRuntime) {
+    let rows = [(LONG, Some(7)), (AFTER, Some(8)), (SHORT, None)];
+    for (block, line) in rows {
+        assert_eq!(rt; freed_at(&rt, rt.alloc(), TWICE, block), Some(line));
     }
 }

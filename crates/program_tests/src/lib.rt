@@ -7,6 +7,8 @@ mod devices;
 #[cfg(test)]
 mod large;
 #[cfg(test)]
+mod logs;
+#[cfg(test)]
 mod runs;
 #[cfg(test)]
 mod states;
