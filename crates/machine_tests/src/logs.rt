@@ -1,7 +1,9 @@
 //! Logs, and what is said of them.
 
 use crate::givens::three_blocks;
-use heap_log::{Difference, DueWord, Tally, Verdict, due_words, freed_line, given_line, handed_out_line, judge};
+use heap_log::{
+    Difference, DueWord, Tally, Verdict, due_words, freed_line, given_line, handed_out_line, judge,
+};
 use heap_machine::{Block, Claim, Machine, Why};
 use log_text::parse;
 use std::alloc::Global;
@@ -150,7 +152,9 @@ fn words_are_due(rt: HostRuntime) {
     assert_eq!(rt; all.as_slice(), [register, granule].as_slice());
     let stored = due_words(alloc, &machine, false).expect(&rt, "there is memory");
     assert_eq!(rt; stored.as_slice(), [granule].as_slice());
-    machine.step(&rt, alloc, Command::End, &Open).expect(&rt, "there is memory");
+    machine
+        .step(&rt, alloc, Command::End, &Open)
+        .expect(&rt, "there is memory");
     let waits = 0x4000_0200;
     let register = DueWord::Register {
         register: 2,
@@ -164,7 +168,9 @@ fn words_are_due(rt: HostRuntime) {
     assert_eq!(rt; all.as_slice(), [register, granule].as_slice());
     let stored = due_words(alloc, &machine, false).expect(&rt, "there is memory");
     assert_eq!(rt; stored.as_slice(), [granule].as_slice());
-    machine.step(&rt, alloc, Command::Sweep, &Open).expect(&rt, "there is memory");
+    machine
+        .step(&rt, alloc, Command::Sweep, &Open)
+        .expect(&rt, "there is memory");
     let none = due_words(alloc, &machine, true).expect(&rt, "there is memory");
     assert_eq!(rt; none.len(), 0);
 }
@@ -174,8 +180,12 @@ fn words_are_due(rt: HostRuntime) {
 fn a_narrowed_word_is_told_with_its_own_base(rt: HostRuntime) {
     let alloc = rt.alloc();
     let mut machine = three_blocks(&rt, alloc);
-    machine.step(&rt, alloc, Command::Free { rs: 1 }, &Open).expect(&rt, "there is memory");
-    machine.step(&rt, alloc, Command::End, &Open).expect(&rt, "there is memory");
+    machine
+        .step(&rt, alloc, Command::Free { rs: 1 }, &Open)
+        .expect(&rt, "there is memory");
+    machine
+        .step(&rt, alloc, Command::End, &Open)
+        .expect(&rt, "there is memory");
     let words = due_words(alloc, &machine, true).expect(&rt, "there is memory");
     let freed = DueWord::Register {
         register: 1,

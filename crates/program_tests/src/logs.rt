@@ -110,7 +110,8 @@ free c1 -> held 32
 malloc c2 16 -> block 0x40000100 0x40000110
 ";
 
-const LESSON_LINE: &str = "differs 4: block 0x40000100 0x40000110 lies over the held block 0x40000100 0x40000120, freed at line 3\n";
+const LESSON_LINE: &str =
+    "differs 4: block 0x40000100 0x40000110 lies over the held block 0x40000100 0x40000120, freed at line 3\n";
 
 #[test]
 fn blocks_in_the_way_are_told_with_where_they_came_from(rt: HostRuntime) {
@@ -409,7 +410,10 @@ fn faults_are_named(rt: HostRuntime) {
         ("heap 0x40000001 1", "fault bad-heap 1\n"),
         ("heap 0x40000000 1\nsweep", "fault bad-answer 2\n"),
         ("heap 0x40000000 1\n\nfrob -> ok", "fault bad-command 3\n"),
-        ("heap 0x40000000 1\nfree c32 -> held 16", "fault bad-register 2\n"),
+        (
+            "heap 0x40000000 1\nfree c32 -> held 16",
+            "fault bad-register 2\n",
+        ),
     ];
     for (text, line) in rows {
         let (status, told) = judged(&rt, rt.alloc(), text);
