@@ -1,8 +1,8 @@
 //! The program on its command line, standard input and standard output.
 #![tactic(auto)]
 
+use check_command::{FromRead, FromWrite, Refusal, check_tool, refuse};
 use command_line::arguments;
-use check_command::{FromRead, FromWrite, Refusal, refuse, check_tool};
 use std::process::ExitCode;
 
 fn main(rt: HostRuntime) -> ExitCode {
