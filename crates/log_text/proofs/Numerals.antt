@@ -164,8 +164,8 @@ digits_next ds (suc i) value digit lt few plain below is small glyph =
 pub next_below : (i value digit : ℕ) → value < 16 ^ i → digit < 16 → value * 16 + digit < 16 ^ suc i
 next_below i value digit below small = omega (arith, pow-suc 16 i)
 
-pub next_fits : (i value digit : ℕ) → i < 32 → value < 16 ^ i → digit < 16 → value * 16 + digit < 2 ^ 128
-next_fits i value digit few below small = omega (arith, pow16_le (suc i) 32 (omega arith), next_below i value digit below small)
+pub next_fits : (most i value digit : ℕ) → i < most → value < 16 ^ i → digit < 16 → value * 16 + digit < 16 ^ most
+next_fits most i value digit few below small = omega (arith, pow16_le (suc i) most few, next_below i value digit below small)
 
 pub limit_within : (most : ℕ) → most ≤ 32 → 16 ^ most ≤ 16 ^ 64
 limit_within most few = pow16_le most 64 (omega arith)

@@ -1,6 +1,6 @@
 //! Numbers and flags, in the one form in which a report writes them.
 
-ghost use Rattle.std.specs.Prelude.{◌≡◌, ◌≢◌, ◌<◌, ◌≤◌, ◌+◌, ◌^◌, ℕ, false, IfNone, IfSome};
+ghost use Rattle.std.specs.Prelude.{◌≡◌, ◌≢◌, ◌<◌, ◌≤◌, ◌+◌, ◌^◌, ℕ, false, length, IfNone, IfSome};
 ghost use Rattle.std.specs.Fmt.{digit_glyph};
 ghost use Rattle.trace_text.specs.Reading.{has_leading_zero};
 ghost use Rattle.log_text.specs.Answer.{bit_in, decimal_in, hexadecimal_in, written};
@@ -38,6 +38,38 @@ fn lower_digit(byte: u8) -> Option<u8>
     Some(digit)
 }
 
+// The value of up to 16 hexadecimal digits, for which 64 bits have room.
+fn short_value(digits: &[u8]) -> Option<u64>
+    requires some { 0 < length digits.now }
+    requires few { length digits.now ≤ 16 }
+    requires plain { has_leading_zero digits.now ≡ false }
+    ensures value { (most : ℕ) → length digits.now ≤ most → most ≤ 32 → result ≡ written 16 (16 ^ most) digits.now }
+    ensures below { IfSome result (λ number. number < 16 ^ length digits.now) }
+{
+    let mut value: u64 = 0;
+    for byte in digits {
+        let digit = lower_digit(*byte)?;
+        value = value * 16 + u64::from(digit);
+    }
+    Some(value)
+}
+
+// The value of up to 32 hexadecimal digits.
+fn long_value(digits: &[u8]) -> Option<u128>
+    requires some { 0 < length digits.now }
+    requires few { length digits.now ≤ 32 }
+    requires plain { has_leading_zero digits.now ≡ false }
+    ensures value { (most : ℕ) → length digits.now ≤ most → most ≤ 32 → result ≡ written 16 (16 ^ most) digits.now }
+    ensures below { IfSome result (λ number. number < 16 ^ length digits.now) }
+{
+    let mut value: u128 = 0;
+    for byte in digits {
+        let digit = lower_digit(*byte)?;
+        value = value * 16 + u128::from(digit);
+    }
+    Some(value)
+}
+
 // The value of hexadecimal digits, of which there are at most so many.
 fn digits_value(digits: &[u8], most: usize) -> Option<u128>
     requires { (0 < most) × (most ≤ 32) }
@@ -47,12 +79,11 @@ fn digits_value(digits: &[u8], most: usize) -> Option<u128>
     if digits.is_empty() || digits.len() > most || starts_with_zero(digits) {
         return None;
     }
-    let mut value: u128 = 0;
-    for byte in digits {
-        let digit = lower_digit(*byte)?;
-        value = value * 16 + u128::from(digit);
+    if digits.len() > 16 {
+        return long_value(digits);
     }
-    Some(value)
+    let value = short_value(digits)?;
+    Some(u128::from(value))
 }
 
 /// The number that a word writes in hexadecimal, with at most so many digits.

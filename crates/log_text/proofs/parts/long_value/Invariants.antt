@@ -1,6 +1,6 @@
 use Rattle.std.proofs.Common.{◌≡◌, ◌<◌, ◌^◌, false, take}
 use Rattle.std.specs.Fmt.{digits}
-use Rattle.log_text.proofs.parts.digits_value.Given as goal
+use Rattle.log_text.proofs.parts.long_value.Given as goal
 
 -- the digits so far are those that are written of the value
 abbrev pub invariant-loop-byte : goal.invariant-loop-byte
