@@ -76,6 +76,23 @@ pub fn sweep_dirty<R: Threads + Sync, G: Gate + Sync>(
         → IfOk result (λ masks. TakeTags memory.now (due heap) masks.items) }
     ensures err { IfErr result (λ fault. fault ≡ SweepFault.Memory) }
 {
+    sweep_dirty_alone(alloc, memory, shadow, cutting, gate)
+}
+
+/// The same pass without a runtime: it needs none.
+pub fn sweep_dirty_alone<G: Gate>(
+    alloc: Global,
+    memory: &Memory,
+    shadow: &Shadow,
+    cutting: &Cutting,
+    gate: &G,
+) -> Result<Vec<u64>, SweepFault>
+    ensures ok { IfOk result (λ masks. AreDirtyMasks memory.now shadow.now masks.items) }
+    ensures held { (heap : HeapState) → IsShadowOf heap memory.now.base shadow.now
+        → AreInDirtyPages memory.now.cells memory.now.dirty (due heap)
+        → IfOk result (λ masks. TakeTags memory.now (due heap) masks.items) }
+    ensures err { IfErr result (λ fault. fault ≡ SweepFault.Memory) }
+{
     let pages = memory.pages();
     let Ok(mut masks) = vec![in alloc; 0; PAGE_WORDS * pages as usize] else {
         return Err(SweepFault::Memory);

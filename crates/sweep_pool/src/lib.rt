@@ -15,10 +15,10 @@ mod workers;
 
 pub use crate::claims::sweep_next;
 pub use crate::cutting::{CutFault, Cutting};
-pub use crate::dirty::sweep_dirty;
+pub use crate::dirty::{sweep_dirty, sweep_dirty_alone};
 pub use crate::gate::{Gate, Open};
 pub use crate::gathering::{GatherFault, gather};
 pub use crate::painting::{paint_shadow, share_of};
-pub use crate::pool::sweep_masks;
+pub use crate::pool::{sweep_masks, sweep_masks_alone};
 pub use crate::sweep::{SweepFault, due_registers, swept_registers};
 pub use crate::task::{Swept, sweep_task};

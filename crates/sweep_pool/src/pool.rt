@@ -45,6 +45,23 @@ pub fn sweep_masks<R: Threads + Sync, G: Gate + Sync>(
     sweep_shared(rt, alloc, memory, shadow, cutting, gate)
 }
 
+/// The masks of `sweep_masks`, made by the calling thread alone, task after task, so without a runtime. `gate` is told of
+/// each task once, by rising number.
+pub fn sweep_masks_alone<G: Gate>(
+    alloc: Global,
+    memory: &Memory,
+    shadow: &Shadow,
+    cutting: &Cutting,
+    gate: &G,
+) -> Result<Vec<u64>, SweepFault>
+    ensures ok { IfOk result (λ masks. AreMasks memory.now shadow.now masks.items) }
+    ensures held { (heap : HeapState) → IsShadowOf heap memory.now.base shadow.now
+        → IfOk result (λ masks. TakeTags memory.now (due heap) masks.items) }
+    ensures err { IfErr result (λ fault. fault ≡ SweepFault.Memory) }
+{
+    sweep_alone(alloc, memory, shadow, cutting, gate)
+}
+
 // The same, by workers that claim tasks on a board.
 fn sweep_shared<R: Threads + Sync, G: Gate + Sync>(
     rt: &R,

@@ -2,7 +2,7 @@ use Rattle.std.proofs.Common.{◌≡◌, ◌≤◌, ◌*◌, inl, inr, ℕ, arit
 use Rattle.std.proofs.lemmas.Bool.{cases_lt}
 use Rattle.sweep_pool.specs.Laws.{TakeTags-dirty}
 use Rattle.sweep_pool.specs.Tasks.{first_page}
-use Rattle.sweep_pool.proofs.dirty.sweep_dirty.Goals as goal
+use Rattle.sweep_pool.proofs.dirty.sweep_dirty_alone.Goals as goal
 
 pub fill_dirty-requires-clause-before : goal.fill_dirty-requires-clause-before
 fill_dirty-requires-clause-before g c = λ i below.

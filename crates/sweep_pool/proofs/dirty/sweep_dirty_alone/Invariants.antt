@@ -3,7 +3,7 @@ use Rattle.std.specs.Prelude.{min}
 use Rattle.sweep_pool.specs.Sweep.{is_dirty_hit_at}
 use Rattle.tag_memory.specs.Tags.{is_set_for}
 use Rattle.sweep_pool.specs.Tasks.{page_count}
-use Rattle.sweep_pool.proofs.dirty.sweep_dirty.Given as goal
+use Rattle.sweep_pool.proofs.dirty.sweep_dirty_alone.Given as goal
 
 abbrev pub invariant-loop-task : goal.invariant-loop-task
 invariant-loop-task g l = record {
