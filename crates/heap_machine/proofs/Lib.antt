@@ -8,6 +8,7 @@ mod GuardLaws
 mod KeptSizes
 mod MakingLaws
 mod NewBlock
+mod PassLaws
 mod PassedChecks
 mod OnePlace
 pub mod OneStep

@@ -3,6 +3,7 @@ pub mod Follow
 pub mod Followed
 pub mod Making
 pub mod Parts
+pub mod Passes
 pub mod Revoked
 pub mod Safety
 pub mod Sound

@@ -1,32 +1,26 @@
 //! The machine that runs the commands of a trace.
 
-ghost use Rattle.std.specs.Prelude.{◌≡◌, ◌≢◌, ◌↔◌, ◌+◌, IfErr, IfOk, IsOk, OnErr, OnOk, false, replicate, true};
+ghost use Rattle.std.specs.Prelude.{◌≡◌, ◌↔◌, ◌+◌, IfOk, false, replicate, true};
 ghost use Rattle.heap_core.specs.Blocks.{bytes_in};
 ghost use Rattle.heap_core.specs.Heap as heap;
 ghost use Rattle.tag_memory.specs.Extent as span;
-ghost use Rattle.trace_text.specs.Command.{IsValid};
-ghost use Rattle.heap_machine.specs.Dirty.{IsDirtied, dirty_after};
-ghost use Rattle.heap_machine.specs.Followed.{FollowsFreely, IsFollowed};
-ghost use Rattle.heap_machine.specs.Safety.{IsSafe, IsUnused, LeavesInUse};
+ghost use Rattle.heap_machine.specs.Dirty.{IsDirtied};
+ghost use Rattle.heap_machine.specs.Safety.{IsSafe};
 ghost use Rattle.heap_machine.specs.Sound.{IsMachine};
 ghost use Rattle.heap_machine.specs.State.{first_state};
-ghost use Rattle.heap_machine.specs.Step.{Step, TakesNoMemory};
 
+mod following;
 mod making;
+mod stepping;
 
 use crate::fault::MachineFault;
-use crate::followed::Followed;
-use crate::laws::answers;
 pub use crate::machine::making::Flaw;
 use crate::parts::Parts;
 use heap_core::Heap;
-use heap_reply::Reply;
 use std::alloc::Global;
 use std::marker::Model;
-use std::thread::Threads;
-use sweep_pool::{Cutting, Gate};
+use sweep_pool::Cutting;
 use tag_memory::{Memory, MemoryFault, Registers};
-use trace_text::Command;
 
 /// One heap with its memory, and 32 registers. Its state is sound, so it is safe, and in an open epoch what the
 /// painted blocks have in memory stands in dirty pages.
@@ -78,63 +72,6 @@ impl Machine {
             registers: Registers::new(),
         };
         Ok(Machine { parts, cutting })
-    }
-
-    /// Does one command. `gate` is told of each task of a pass: of a sweep and of what begins an epoch, which make none
-    /// where nothing waits, and of what ends it, each task that has a dirty page.
-    pub fn step<R: Threads + Sync, G: Gate + Sync>(
-        &mut self,
-        rt: &R,
-        alloc: Global,
-        command: Command,
-        gate: &G,
-    ) -> Result<Reply, MachineFault>
-        requires { IsValid command }
-        ensures step { IfOk result (λ reply. Step self.old.state command reply self.new.state) }
-        ensures err { OnErr result (self.new ≡ self.old) }
-        ensures memory { IfErr result (λ fault. fault ≡ MachineFault.Memory) }
-        ensures ok { TakesNoMemory self.old.state command → IsOk result }
-        ensures cutting { self.new.cutting ≡ self.old.cutting }
-        ensures safe { IsSafe self.new.state }
-        ensures unused { IfOk result (λ reply. IsUnused self.old.state command reply) }
-        ensures revoked { IfOk result (λ reply. LeavesInUse command reply self.new.state) }
-        // A page is dirty where a tagged word was stored into it since an epoch began, and so stands each tagged word
-        // of memory whose base lies in a painted block.
-        ensures dirty { OnOk result (self.new.dirty ≡ dirty_after self.old.state command self.old.dirty) }
-        ensures dirtied { IsDirtied self.new.state self.new.dirty }
-    {
-        // From a sound state each step leads to one.
-        answers();
-        self.parts.memory.whole();
-        self.parts.serve(rt, alloc, self.cutting, command, gate)
-    }
-
-    /// Does one command as it was answered by an allocator that places blocks as it likes, where it may be answered so;
-    /// else nothing is changed. `gate` is told as by `step`.
-    pub fn follow<R: Threads + Sync, G: Gate + Sync>(
-        &mut self,
-        rt: &R,
-        alloc: Global,
-        command: Command,
-        answer: Reply,
-        gate: &G,
-    ) -> Result<Followed, MachineFault>
-        requires { IsValid command }
-        ensures followed { IfOk result (λ followed. IsFollowed self.old.state command answer followed self.new.state) }
-        ensures still { result ≢ Ok Followed.Agrees → self.new ≡ self.old }
-        ensures memory { IfErr result (λ fault. fault ≡ MachineFault.Memory) }
-        ensures ok { FollowsFreely self.old.state command answer → IsOk result }
-        ensures cutting { self.new.cutting ≡ self.old.cutting }
-        ensures safe { IsSafe self.new.state }
-        ensures unused { result ≡ Ok Followed.Agrees → IsUnused self.old.state command answer }
-        ensures revoked { result ≡ Ok Followed.Agrees → LeavesInUse command answer self.new.state }
-        ensures dirty { result ≡ Ok Followed.Agrees → self.new.dirty ≡ dirty_after self.old.state command self.old.dirty }
-        ensures dirtied { IsDirtied self.new.state self.new.dirty }
-    {
-        answers();
-        self.parts.memory.whole();
-        self.parts
-            .follow(rt, alloc, self.cutting, command, answer, gate)
     }
 
     /// The registers now.

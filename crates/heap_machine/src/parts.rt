@@ -5,6 +5,7 @@ ghost use Rattle.tag_memory.specs.Cells.{register_at, register_count};
 ghost use Rattle.trace_text.specs.Command.{IsValid};
 ghost use Rattle.heap_machine.specs.Dirty.{dirty_after};
 ghost use Rattle.heap_machine.specs.Parts.{AreParts, state_of};
+ghost use Rattle.heap_machine.specs.Passes.{FindsTags};
 ghost use Rattle.heap_machine.specs.Safety.{FitsTypes};
 ghost use Rattle.heap_machine.specs.Step.{Step, TakesNoMemory, access, first_failed, index_in};
 
@@ -12,24 +13,23 @@ mod allocation;
 mod answering;
 mod epochs;
 mod following;
+mod passes;
 mod retry;
 mod revocation;
 
 use crate::fault::MachineFault;
+pub use crate::parts::passes::Found;
 use cap_codec::{
     LOAD, LOAD_CAPABILITY, STORE, STORE_CAPABILITY, Word, and_perms, bounds, fields, from_bytes,
     is_allowed, representable, set_address, with_bounds,
 };
 use heap_core::Heap;
 use heap_reply::{Reply, Shown, Trap};
-use std::alloc::Global;
-use std::thread::Threads;
-use sweep_pool::{Cutting, Gate};
 use tag_memory::{GRANULE, Memory, Registers};
 use trace_text::Command;
 
 /// One heap with its memory, and 32 registers. Each command takes parts whose state is sound from one state to the
-/// next; `cutting` says how its passes are cut.
+/// next.
 #[derive(Drop)]
 pub struct Parts {
     pub heap: Heap,
@@ -38,15 +38,14 @@ pub struct Parts {
 }
 
 impl Parts {
-    /// Does one command.
-    pub fn serve<R: Threads + Sync, G: Gate + Sync>(
+    /// Does one command. `pass` tells what a pass finds.
+    pub fn serve<P: Fn(&Parts) -> Option<Found>>(
         &mut self,
-        rt: &R,
-        alloc: Global,
-        cutting: Cutting,
         command: Command,
-        gate: &G,
+        pass: &P,
     ) -> Result<Reply, MachineFault>
+        requires callable { P.IsAlwaysCallable pass.now }
+        requires finds { FindsTags (P.post pass.now) }
         requires parts { AreParts self.old }
         requires valid { IsValid command }
         ensures step { IfOk result (λ reply. Step (state_of self.old) command reply (state_of self.new)) }
@@ -59,7 +58,7 @@ impl Parts {
         ensures fits { FitsTypes command }
     {
         match command {
-            Command::Malloc { rd, size } => self.malloc(rt, alloc, cutting, rd, size, gate),
+            Command::Malloc { rd, size } => self.malloc(rd, size, pass),
             Command::Free { rs } => self.free(rs),
             Command::Copy { rd, rs } => Ok(self.copy(rd, rs)),
             Command::SetAddr { rd, rs, address } => Ok(self.set_address(rd, rs, address)),
@@ -69,9 +68,9 @@ impl Parts {
             Command::LoadCap { rd, ra } => Ok(self.load_cap(rd, ra)),
             Command::Write { ra, bytes } => Ok(self.write(ra, bytes)),
             Command::Show { rs } => Ok(self.show(rs)),
-            Command::Sweep => self.sweep(rt, alloc, cutting, None, gate),
-            Command::Begin => self.begin(rt, alloc, cutting, None, gate),
-            Command::End => self.end(rt, alloc, cutting, None, gate),
+            Command::Sweep => self.sweep(None, pass),
+            Command::Begin => self.begin(None, pass),
+            Command::End => self.end(None, pass),
         }
     }
 

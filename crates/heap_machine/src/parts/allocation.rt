@@ -3,30 +3,28 @@
 ghost use Rattle.std.specs.Prelude.{◌≡◌, IfErr, IfOk, IsOk, OnErr, OnOk, false, true};
 ghost use Rattle.trace_text.specs.Command.{IsValid};
 ghost use Rattle.heap_machine.specs.Parts.{AreParts, state_of};
+ghost use Rattle.heap_machine.specs.Passes.{FindsTags};
 ghost use Rattle.heap_machine.specs.Step.{MaySweep, Step, TakesNoMemory};
 
 use crate::fault::MachineFault;
 use crate::parts::Parts;
+use crate::parts::passes::Found;
 use cap_codec::{Word, block_capability};
 use heap_core::Block;
 use heap_reply::Reply;
-use std::alloc::Global;
-use std::thread::Threads;
-use sweep_pool::{Cutting, Gate};
 use trace_text::Command;
 
 impl Parts {
     // A block is handed out where it has a place. Where it has none, but no epoch is open and some block waits, a sweep
     // comes first, and then one more try.
-    pub(super) fn malloc<R: Threads + Sync, G: Gate + Sync>(
+    pub(super) fn malloc<P: Fn(&Parts) -> Option<Found>>(
         &mut self,
-        rt: &R,
-        alloc: Global,
-        cutting: Cutting,
         rd: u8,
         size: u64,
-        gate: &G,
+        pass: &P,
     ) -> Result<Reply, MachineFault>
+        requires callable { P.IsAlwaysCallable pass.now }
+        requires finds { FindsTags (P.post pass.now) }
         requires parts { AreParts self.old }
         requires valid { IsValid (Command.Malloc rd size) }
         ensures step { IfOk result (λ reply. Step (state_of self.old) (Command.Malloc rd size) reply (state_of self.new)) }
@@ -47,7 +45,7 @@ impl Parts {
             self.registers.set(rd, Word::NULL, false);
             return Ok(Reply::NoSpace);
         }
-        self.sweep_and_malloc(rt, alloc, cutting, rd, size, gate)
+        self.sweep_and_malloc(rd, size, pass)
     }
 
     // Whether a malloc may sweep: no epoch is open, and some block waits.

@@ -5,6 +5,7 @@ ghost use Rattle.trace_text.specs.Command.{IsValid};
 ghost use Rattle.heap_machine.specs.Dirty.{dirty_after};
 ghost use Rattle.heap_machine.specs.Followed.{CanAnswer, FollowsFreely, HasOneAnswer, IsExpected, IsFollowed, IsJudgedFreely};
 ghost use Rattle.heap_machine.specs.Parts.{AreParts, state_of};
+ghost use Rattle.heap_machine.specs.Passes.{FindsTags};
 ghost use Rattle.heap_machine.specs.Safety.{FitsTypes};
 ghost use Rattle.heap_machine.specs.Step.{MaySweep, Step, TakesNoMemory};
 
@@ -12,25 +13,22 @@ use crate::fault::MachineFault;
 use crate::followed::{Followed, Why};
 use crate::laws::{answers, steps};
 use crate::parts::Parts;
+use crate::parts::passes::Found;
 use cap_codec::{Word, block_capability};
 use heap_core::Claim;
 use heap_reply::Reply;
-use std::alloc::Global;
-use std::thread::Threads;
-use sweep_pool::{Cutting, Gate};
 use trace_text::Command;
 
 impl Parts {
     /// Does one command as it was answered, where it may be answered so. Everything is judged before anything changes.
-    pub fn follow<R: Threads + Sync, G: Gate + Sync>(
+    pub fn follow<P: Fn(&Parts) -> Option<Found>>(
         &mut self,
-        rt: &R,
-        alloc: Global,
-        cutting: Cutting,
         command: Command,
         answer: Reply,
-        gate: &G,
+        pass: &P,
     ) -> Result<Followed, MachineFault>
+        requires callable { P.IsAlwaysCallable pass.now }
+        requires finds { FindsTags (P.post pass.now) }
         requires parts { AreParts self.old }
         requires valid { IsValid command }
         ensures followed { IfOk result (λ followed. IsFollowed (state_of self.old) command answer followed (state_of self.new)) }
@@ -42,21 +40,20 @@ impl Parts {
         ensures fits { FitsTypes command }
     {
         let Command::Malloc { rd, size } = command else {
-            return self.follow_step(rt, alloc, cutting, command, answer, gate);
+            return self.follow_step(command, answer, pass);
         };
-        self.follow_malloc(rt, alloc, cutting, rd, size, answer, gate)
+        self.follow_malloc(rd, size, answer, pass)
     }
 
     // Does a command that has one answer, where it is this.
-    fn follow_step<R: Threads + Sync, G: Gate + Sync>(
+    fn follow_step<P: Fn(&Parts) -> Option<Found>>(
         &mut self,
-        rt: &R,
-        alloc: Global,
-        cutting: Cutting,
         command: Command,
         answer: Reply,
-        gate: &G,
+        pass: &P,
     ) -> Result<Followed, MachineFault>
+        requires callable { P.IsAlwaysCallable pass.now }
+        requires finds { FindsTags (P.post pass.now) }
         requires parts { AreParts self.old }
         requires valid { IsValid command }
         requires one { HasOneAnswer command }
@@ -70,7 +67,7 @@ impl Parts {
     {
         answers();
         steps();
-        let reply = self.serve_as(rt, alloc, cutting, command, answer, gate)?;
+        let reply = self.serve_as(command, answer, pass)?;
         if differs(Some(answer), reply) {
             return Ok(Followed::Differs(Why::MustBe(reply)));
         }
@@ -78,15 +75,14 @@ impl Parts {
     }
 
     // Does a command that has one answer, where it is this; else nothing is changed. It answers the command's.
-    fn serve_as<R: Threads + Sync, G: Gate + Sync>(
+    fn serve_as<P: Fn(&Parts) -> Option<Found>>(
         &mut self,
-        rt: &R,
-        alloc: Global,
-        cutting: Cutting,
         command: Command,
         answer: Reply,
-        gate: &G,
+        pass: &P,
     ) -> Result<Reply, MachineFault>
+        requires callable { P.IsAlwaysCallable pass.now }
+        requires finds { FindsTags (P.post pass.now) }
         requires parts { AreParts self.old }
         requires valid { IsValid command }
         requires one { HasOneAnswer command }
@@ -101,9 +97,9 @@ impl Parts {
         ensures fits { FitsTypes command }
     {
         match command {
-            Command::Sweep => return self.sweep(rt, alloc, cutting, Some(answer), gate),
-            Command::Begin => return self.begin(rt, alloc, cutting, Some(answer), gate),
-            Command::End => return self.end(rt, alloc, cutting, Some(answer), gate),
+            Command::Sweep => return self.sweep(Some(answer), pass),
+            Command::Begin => return self.begin(Some(answer), pass),
+            Command::End => return self.end(Some(answer), pass),
             _ => {}
         }
         steps();
@@ -111,20 +107,19 @@ impl Parts {
         if differs(Some(answer), reply) {
             return Ok(reply);
         }
-        self.serve(rt, alloc, cutting, command, gate)
+        self.serve(command, pass)
     }
 
     // Does a malloc as it was answered, where it may be.
-    fn follow_malloc<R: Threads + Sync, G: Gate + Sync>(
+    fn follow_malloc<P: Fn(&Parts) -> Option<Found>>(
         &mut self,
-        rt: &R,
-        alloc: Global,
-        cutting: Cutting,
         rd: u8,
         size: u64,
         answer: Reply,
-        gate: &G,
+        pass: &P,
     ) -> Result<Followed, MachineFault>
+        requires callable { P.IsAlwaysCallable pass.now }
+        requires finds { FindsTags (P.post pass.now) }
         requires parts { AreParts self.old }
         requires valid { IsValid (Command.Malloc rd size) }
         ensures followed { IfOk result (λ followed. IsFollowed (state_of self.old) (Command.Malloc rd size) answer followed (state_of self.new)) }
@@ -137,14 +132,14 @@ impl Parts {
         match answer {
             Reply::Block { base, top } => Ok(self.place(rd, size, base, top)),
             Reply::BlockAfter { base, top, cleared } => {
-                self.sweep_and_place(rt, alloc, cutting, rd, size, base, top, cleared, gate)
+                self.sweep_and_place(rd, size, base, top, cleared, pass)
             }
             Reply::NoSpace => {
                 self.registers.set(rd, Word::NULL, false);
                 Ok(Followed::Agrees)
             }
             Reply::NoSpaceAfter { cleared } => {
-                self.sweep_and_place_none(rt, alloc, cutting, rd, size, cleared, gate)
+                self.sweep_and_place_none(rd, size, cleared, pass)
             }
             Reply::Held(_)
             | Reply::Done
@@ -177,18 +172,17 @@ impl Parts {
     }
 
     // A sweep that took so many tags, and then a block, where both may be.
-    fn sweep_and_place<R: Threads + Sync, G: Gate + Sync>(
+    fn sweep_and_place<P: Fn(&Parts) -> Option<Found>>(
         &mut self,
-        rt: &R,
-        alloc: Global,
-        cutting: Cutting,
         rd: u8,
         size: u64,
         base: u64,
         top: u128,
         cleared: u32,
-        gate: &G,
+        pass: &P,
     ) -> Result<Followed, MachineFault>
+        requires callable { P.IsAlwaysCallable pass.now }
+        requires finds { FindsTags (P.post pass.now) }
         requires parts { AreParts self.old }
         requires valid { IsValid (Command.Malloc rd size) }
         ensures followed { IfOk result (λ followed. IsFollowed (state_of self.old) (Command.Malloc rd size) (Reply.BlockAfter base top cleared) followed (state_of self.new)) }
@@ -204,7 +198,7 @@ impl Parts {
         if top < least_top(base, size) {
             return Ok(Followed::Differs(Why::TooShort));
         }
-        let revoked = self.revoked_tags(rt, alloc, cutting, gate)?;
+        let revoked = self.revoked_tags(pass)?;
         let count = revoked.count();
         if count != cleared {
             return Ok(Followed::Differs(Why::Takes(count)));
@@ -219,16 +213,15 @@ impl Parts {
     }
 
     // A sweep that took so many tags, where it may be, and then no block.
-    fn sweep_and_place_none<R: Threads + Sync, G: Gate + Sync>(
+    fn sweep_and_place_none<P: Fn(&Parts) -> Option<Found>>(
         &mut self,
-        rt: &R,
-        alloc: Global,
-        cutting: Cutting,
         rd: u8,
         size: u64,
         cleared: u32,
-        gate: &G,
+        pass: &P,
     ) -> Result<Followed, MachineFault>
+        requires callable { P.IsAlwaysCallable pass.now }
+        requires finds { FindsTags (P.post pass.now) }
         requires parts { AreParts self.old }
         requires valid { IsValid (Command.Malloc rd size) }
         ensures followed { IfOk result (λ followed. IsFollowed (state_of self.old) (Command.Malloc rd size) (Reply.NoSpaceAfter cleared) followed (state_of self.new)) }
@@ -241,7 +234,7 @@ impl Parts {
         if !self.may_sweep() {
             return Ok(Followed::Differs(Why::MayNotSweep));
         }
-        let revoked = self.revoked_tags(rt, alloc, cutting, gate)?;
+        let revoked = self.revoked_tags(pass)?;
         let taken = revoked.count();
         if taken != cleared {
             return Ok(Followed::Differs(Why::Takes(taken)));

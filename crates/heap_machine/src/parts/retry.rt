@@ -3,29 +3,27 @@
 ghost use Rattle.std.specs.Prelude.{◌≡◌, IfErr, IfOk, OnErr, OnOk};
 ghost use Rattle.trace_text.specs.Command.{IsValid};
 ghost use Rattle.heap_machine.specs.Parts.{AreParts, state_of};
+ghost use Rattle.heap_machine.specs.Passes.{FindsTags};
 ghost use Rattle.heap_machine.specs.Step.{HasNoPlace, MaySweep, Step};
 
 use crate::fault::MachineFault;
 use crate::parts::Parts;
+use crate::parts::passes::Found;
 use cap_codec::{Word, block_capability};
 use heap_core::Block;
 use heap_reply::Reply;
-use std::alloc::Global;
-use std::thread::Threads;
-use sweep_pool::{Cutting, Gate};
 use trace_text::Command;
 
 impl Parts {
     // A sweep, and then a block where it has a place now. Whatever takes memory comes before the first change.
-    pub(super) fn sweep_and_malloc<R: Threads + Sync, G: Gate + Sync>(
+    pub(super) fn sweep_and_malloc<P: Fn(&Parts) -> Option<Found>>(
         &mut self,
-        rt: &R,
-        alloc: Global,
-        cutting: Cutting,
         rd: u8,
         size: u64,
-        gate: &G,
+        pass: &P,
     ) -> Result<Reply, MachineFault>
+        requires callable { P.IsAlwaysCallable pass.now }
+        requires finds { FindsTags (P.post pass.now) }
         requires parts { AreParts self.old }
         requires valid { IsValid (Command.Malloc rd size) }
         requires none { HasNoPlace (state_of self.old) size }
@@ -36,7 +34,7 @@ impl Parts {
         ensures err { OnErr result (self.new ≡ self.old) }
         ensures memory { IfErr result (λ fault. fault ≡ MachineFault.Memory) }
     {
-        let revoked = self.revoked_tags(rt, alloc, cutting, gate)?;
+        let revoked = self.revoked_tags(pass)?;
         let Ok((found, _)) = self.heap.give_back_and_reserve(size) else {
             return Err(MachineFault::Memory);
         };

@@ -9,34 +9,20 @@ ghost use Rattle.tag_memory.specs.Cells.{Cell, MemoryState};
 ghost use Rattle.trace_text.specs.Command.{IsValid};
 ghost use Rattle.heap_machine.specs.Followed.{CanAnswer, IsExpected};
 ghost use Rattle.heap_machine.specs.Parts.{AreParts, state_of};
+ghost use Rattle.heap_machine.specs.Passes.{FindsTags};
 ghost use Rattle.heap_machine.specs.Revoked.{AreRevoked, AreTaken};
 ghost use Rattle.heap_machine.specs.Step.{Step, TakesNoMemory};
 
 use crate::fault::MachineFault;
 use crate::parts::Parts;
 use crate::parts::following::differs;
+use crate::parts::passes::Found;
 use cap_codec::{Bounds, bounds};
-use heap_core::{Freed, Shadow};
+use heap_core::Freed;
 use heap_reply::{Reply, Trap};
-use std::alloc::Global;
-use std::thread::Threads;
-use sweep_pool::{Cutting, Gate, Open, paint_shadow, sweep_masks, swept_registers};
+use sweep_pool::swept_registers;
 use tag_memory::{Memory, Registers};
 use trace_text::Command;
-
-// To look where the bases of so many tagged granules lie takes longer than a worker more costs: the start of
-// its thread, and its tries of the tasks that others have claimed.
-const GRANULES_A_WORKER: usize = 16_000;
-
-// How a pass over so many tagged granules is cut: a worker is started only where its work is worth it.
-fn cutting_for(cutting: Cutting, tagged: usize) -> Cutting
-    ensures pages { result.pages_per_task ≡ cutting.pages_per_task }
-    ensures workers { result.workers ≤ cutting.workers }
-{
-    let worthwhile = tagged / GRANULES_A_WORKER + 1;
-    let workers = worthwhile.min(cutting.workers() as usize) as u32;
-    Cutting::new(workers, cutting.pages_per_task()).unwrap()
-}
 
 // How many bits of these masks are 1.
 pub(super) fn ones_in(masks: &[u64]) -> u32
@@ -117,15 +103,14 @@ impl Parts {
     // Every tagged word whose base lies in a block that waits loses its tag; then these blocks are free. Where none waits
     // there is nothing to look for. Whatever takes memory comes first. Where another reply is expected than the one that
     // is answered, nothing is changed.
-    pub(super) fn sweep<R: Threads + Sync, G: Gate + Sync>(
+    pub(super) fn sweep<P: Fn(&Parts) -> Option<Found>>(
         &mut self,
-        rt: &R,
-        alloc: Global,
-        cutting: Cutting,
         expected: Option<Reply>,
-        gate: &G,
+        pass: &P,
     ) -> Result<Reply, MachineFault>
-        requires { AreParts self.old }
+        requires callable { P.IsAlwaysCallable pass.now }
+        requires finds { FindsTags (P.post pass.now) }
+        requires parts { AreParts self.old }
         ensures step { IfOk result (λ reply. IsExpected expected reply → Step (state_of self.old) Command.Sweep reply (state_of self.new)) }
         ensures other { IfOk result (λ reply. ¬ IsExpected expected reply → CanAnswer (state_of self.old) Command.Sweep reply) }
         ensures still { IfOk result (λ reply. ¬ IsExpected expected reply → self.new ≡ self.old) }
@@ -144,7 +129,7 @@ impl Parts {
                 released: 0,
             });
         }
-        let revoked = self.revoked_tags(rt, alloc, cutting, gate)?;
+        let revoked = self.revoked_tags(pass)?;
         let reply = Reply::Swept {
             cleared: revoked.count(),
             released: self.heap.due_bytes(),
@@ -160,62 +145,25 @@ impl Parts {
         Ok(reply)
     }
 
-    // The tags of memory and registers that a sweep takes now, of words whose base lies in a block that is due.
-    pub(super) fn revoked_tags<R: Threads + Sync, G: Gate + Sync>(
+    // The tags of memory and registers that a pass takes now, of words whose base lies in a block that is due. In an open
+    // epoch such words stand in dirty pages alone, since none was left when it began, and later each came from a register.
+    pub(super) fn revoked_tags<P: Fn(&Parts) -> Option<Found>>(
         &self,
-        rt: &R,
-        alloc: Global,
-        cutting: Cutting,
-        gate: &G,
+        pass: &P,
     ) -> Result<RevokedTags, MachineFault>
-        requires { AreParts self.now }
+        requires callable { P.IsAlwaysCallable pass.now }
+        requires finds { FindsTags (P.post pass.now) }
+        requires parts { AreParts self.now }
         ensures memory { IfErr result (λ fault. fault ≡ MachineFault.Memory) }
         ensures revoked { IfOk result (λ tags. AreRevoked (due self.now.heap) self.now.memory self.now.registers tags) }
         ensures masks { IfOk result (λ tags. 64 * length tags.masks.items ≡ length self.now.memory.cells) }
         ensures few { length self.now.memory.cells < 2 ^ 31 }
     {
-        let shadow = self.shadow(rt, alloc, cutting)?;
-        let masks = self.memory_masks(rt, alloc, cutting, &shadow, gate)?;
+        let Some(found) = pass(self) else {
+            return Err(MachineFault::Memory);
+        };
+        let Found { shadow, masks } = found;
         let registers = swept_registers(&self.registers, &shadow, self.memory.base());
         Ok(RevokedTags { masks, registers })
-    }
-
-    // The shadow of the blocks that are due. One worker paints it: it copies the row of their granules, which takes
-    // less than the start of a thread.
-    pub(super) fn shadow<R: Threads + Sync>(
-        &self,
-        rt: &R,
-        alloc: Global,
-        cutting: Cutting,
-    ) -> Result<Shadow, MachineFault>
-        ensures memory { IfErr result (λ fault. fault ≡ MachineFault.Memory) }
-        ensures shadow { IfOk result (IsShadow self.now.heap) }
-    {
-        let painters = cutting_for(cutting, 0);
-        let Ok(shadow) = paint_shadow(rt, alloc, &self.heap, &painters, &Open) else {
-            return Err(MachineFault::Memory);
-        };
-        Ok(shadow)
-    }
-
-    // The masks of the tags of memory that a pass takes, by the shadow of the blocks that are due.
-    pub(super) fn memory_masks<R: Threads + Sync, G: Gate + Sync>(
-        &self,
-        rt: &R,
-        alloc: Global,
-        cutting: Cutting,
-        shadow: &Shadow,
-        gate: &G,
-    ) -> Result<Vec<u64>, MachineFault>
-        requires parts { AreParts self.now }
-        requires shadow { IsShadow self.now.heap shadow.now }
-        ensures memory { IfErr result (λ fault. fault ≡ MachineFault.Memory) }
-        ensures masks { IfOk result (λ masks. TakeTags self.now.memory (due self.now.heap) masks.items) }
-    {
-        let cutting = cutting_for(cutting, self.memory.tagged());
-        let Ok(masks) = sweep_masks(rt, alloc, &self.memory, shadow, &cutting, gate) else {
-            return Err(MachineFault::Memory);
-        };
-        Ok(masks)
     }
 }

@@ -30,14 +30,14 @@ returns-then-differs-clause-other g c = λ _.
     let s = state_of c.args.self.now in
     let closed : c.args.self.now.heap.is_open ≡ false = sym c.is_open.ensures ∙ c.if-is_open.false in
     let bytes : held_bytes s.heap ≡ 0 = omega (arith, c.held_bytes.ensures, c.if-held_bytes-eq0.true) in
-    (record { heap = with_epoch s.heap; cells = s.cells; registers = s.registers }, none_taken s c.requires.sound.safe.heap closed bytes s.cells refl (with_epoch s.heap) refl)
+    (record { heap = with_epoch s.heap; cells = s.cells; registers = s.registers }, none_taken s c.requires.parts.sound.safe.heap closed bytes s.cells refl (with_epoch s.heap) refl)
 
 pub returns-then-held_bytes-eq0-clause-step : goal.returns-then-held_bytes-eq0-clause-step
 returns-then-held_bytes-eq0-clause-step g c = λ _.
     let s = state_of c.args.self.now in
     let closed : c.args.self.now.heap.is_open ≡ false = sym c.is_open.ensures ∙ c.if-is_open.false in
     let bytes : held_bytes s.heap ≡ 0 = omega (arith, c.held_bytes.ensures, c.if-held_bytes-eq0.true) in
-    none_taken s c.requires.sound.safe.heap closed bytes c.mark_clean.new.self.cells (ap (λ (m : MemoryState). m.cells) c.mark_clean.ensures) c.begin_epoch.new.self c.begin_epoch.ensures.begun
+    none_taken s c.requires.parts.sound.safe.heap closed bytes c.mark_clean.new.self.cells (ap (λ (m : MemoryState). m.cells) c.mark_clean.ensures) c.begin_epoch.new.self c.begin_epoch.ensures.begun
 
 pub returns-clause-step : goal.returns-clause-step
 returns-clause-step g c = λ _.

@@ -33,7 +33,7 @@ returns-clause-base g c =
     let m = c.args.self.now in
     let opened : c.args.self.now.heap.is_open ≡ true = sym c.is_open.ensures ∙ c.if-not-is_open.false in
     let free : c.give_back.new.self ≡ without_epoch m.heap = c.give_back.ensures.free ∙ ap without_due c.prepare.ensures.unchanged ∙ without_due-open m.heap opened in
-    c.take.ensures.base ∙ (c.requires.base ∙ sym (ap (λ (h : HeapState). h.base) free))
+    c.take.ensures.base ∙ (c.requires.parts.base ∙ sym (ap (λ (h : HeapState). h.base) free))
 
 pub returns-then-not-is_open-clause-other : goal.returns-then-not-is_open-clause-other
 returns-then-not-is_open-clause-other g c = λ _.

@@ -22,11 +22,11 @@ none_taken s sound closed bytes =
 
 pub returns-then-held_bytes-eq0-clause-step : goal.returns-then-held_bytes-eq0-clause-step
 returns-then-held_bytes-eq0-clause-step g c = λ _.
-    none_taken (state_of c.args.self.now) c.requires.sound.safe.heap (sym c.is_open.ensures ∙ c.if-is_open.false) (omega (arith, c.held_bytes.ensures, c.if-held_bytes-eq0.true))
+    none_taken (state_of c.args.self.now) c.requires.parts.sound.safe.heap (sym c.is_open.ensures ∙ c.if-is_open.false) (omega (arith, c.held_bytes.ensures, c.if-held_bytes-eq0.true))
 
 pub returns-then-held_bytes-eq0-clause-other : goal.returns-then-held_bytes-eq0-clause-other
 returns-then-held_bytes-eq0-clause-other g c = λ _.
-    (state_of c.args.self.now, none_taken (state_of c.args.self.now) c.requires.sound.safe.heap (sym c.is_open.ensures ∙ c.if-is_open.false) (omega (arith, c.held_bytes.ensures, c.if-held_bytes-eq0.true)))
+    (state_of c.args.self.now, none_taken (state_of c.args.self.now) c.requires.parts.sound.safe.heap (sym c.is_open.ensures ∙ c.if-is_open.false) (omega (arith, c.held_bytes.ensures, c.if-held_bytes-eq0.true)))
 
 pub returns-then-differs-clause-other : goal.returns-then-differs-clause-other
 returns-then-differs-clause-other g c = λ _.
@@ -59,7 +59,7 @@ returns-clause-base g c =
     let m = c.args.self.now in
     let closed : c.args.self.now.heap.is_open ≡ false = sym c.is_open.ensures ∙ c.if-is_open.false in
     let free : c.give_back.new.self ≡ without_waiting m.heap = c.give_back.ensures.free ∙ ap without_due c.prepare.ensures.unchanged ∙ without_due-closed m.heap closed in
-    c.take.ensures.base ∙ (c.requires.base ∙ sym (ap (λ (h : HeapState). h.base) free))
+    c.take.ensures.base ∙ (c.requires.parts.base ∙ sym (ap (λ (h : HeapState). h.base) free))
 
 pub returns-then-is_open-clause-other : goal.returns-then-is_open-clause-other
 returns-then-is_open-clause-other g c = λ _.

@@ -3,7 +3,7 @@ use Rattle.heap_machine.specs.Parts.{MachineState, machine_of, state_of}
 use Rattle.heap_machine.specs.Safety.{IsUnused, LeavesInUse}
 use Rattle.heap_machine.specs.declared.parts.Parts.{Parts}
 use Rattle.heap_machine.proofs.KeptSizes.{Agrees-holds, AreParts-followed}
-use Rattle.heap_machine.proofs.machine.Machine.follow.Goals as goal
+use Rattle.heap_machine.proofs.machine.Machine.followed.Goals as goal
 
 pub invariant_of-self : goal.invariant_of-self
 invariant_of-self g c =

@@ -6,7 +6,7 @@ use Rattle.heap_machine.specs.Parts.{MachineState, state_of}
 use Rattle.heap_machine.specs.Safety.{IsUnused, LeavesInUse}
 use Rattle.heap_machine.specs.Step.{Step}
 use Rattle.heap_machine.proofs.KeptSizes.{AreParts-after}
-use Rattle.heap_machine.proofs.machine.Machine.step.Goals as goal
+use Rattle.heap_machine.proofs.machine.Machine.done.Goals as goal
 
 pub invariant_of-self : goal.invariant_of-self
 invariant_of-self g c =

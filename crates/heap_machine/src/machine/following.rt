@@ -1,0 +1,111 @@
+//! Commands as they were answered: by threads, or by the calling thread alone.
+
+ghost use Rattle.std.specs.Prelude.{◌≡◌, ◌≢◌, IfErr, IfOk, IfSome, IsOk};
+ghost use Rattle.trace_text.specs.Command.{IsValid};
+ghost use Rattle.heap_machine.specs.Dirty.{IsDirtied, dirty_after};
+ghost use Rattle.heap_machine.specs.Followed.{FollowsFreely, IsFollowed};
+ghost use Rattle.heap_machine.specs.Parts.{AreParts};
+ghost use Rattle.heap_machine.specs.Passes.{FindsTags, IsFound};
+ghost use Rattle.heap_machine.specs.Safety.{IsSafe, IsUnused, LeavesInUse};
+
+use crate::fault::MachineFault;
+use crate::followed::Followed;
+use crate::laws::answers;
+use crate::machine::Machine;
+use crate::parts::{Found, Parts};
+use heap_reply::Reply;
+use std::alloc::Global;
+use std::thread::Threads;
+use sweep_pool::Gate;
+use trace_text::Command;
+
+impl Machine {
+    /// Does one command as it was answered by an allocator that places blocks as it likes, where it may be answered so;
+    /// else nothing is changed. `gate` is told as by `step`.
+    pub fn follow<R: Threads + Sync, G: Gate + Sync>(
+        &mut self,
+        rt: &R,
+        alloc: Global,
+        command: Command,
+        answer: Reply,
+        gate: &G,
+    ) -> Result<Followed, MachineFault>
+        requires { IsValid command }
+        ensures followed { IfOk result (λ followed. IsFollowed self.old.state command answer followed self.new.state) }
+        ensures still { result ≢ Ok Followed.Agrees → self.new ≡ self.old }
+        ensures memory { IfErr result (λ fault. fault ≡ MachineFault.Memory) }
+        ensures ok { FollowsFreely self.old.state command answer → IsOk result }
+        ensures cutting { self.new.cutting ≡ self.old.cutting }
+        ensures safe { IsSafe self.new.state }
+        ensures unused { result ≡ Ok Followed.Agrees → IsUnused self.old.state command answer }
+        ensures revoked { result ≡ Ok Followed.Agrees → LeavesInUse command answer self.new.state }
+        ensures dirty { result ≡ Ok Followed.Agrees → self.new.dirty ≡ dirty_after self.old.state command self.old.dirty }
+        ensures dirtied { IsDirtied self.new.state self.new.dirty }
+    {
+        let cutting = self.cutting;
+        self.followed(
+            command,
+            answer,
+            &|parts: &Parts| -> Option<Found>
+                ensures { AreParts parts.now → IfSome result (IsFound parts.now) }
+            { parts.found_by_workers(rt, alloc, cutting, gate) },
+        )
+    }
+
+    /// Does one command as it was answered, as `follow` does, by the calling thread alone, so without a runtime. `gate`
+    /// is told as by `step`.
+    pub fn follow_alone<G: Gate>(
+        &mut self,
+        alloc: Global,
+        command: Command,
+        answer: Reply,
+        gate: &G,
+    ) -> Result<Followed, MachineFault>
+        requires { IsValid command }
+        ensures followed { IfOk result (λ followed. IsFollowed self.old.state command answer followed self.new.state) }
+        ensures still { result ≢ Ok Followed.Agrees → self.new ≡ self.old }
+        ensures memory { IfErr result (λ fault. fault ≡ MachineFault.Memory) }
+        ensures ok { FollowsFreely self.old.state command answer → IsOk result }
+        ensures cutting { self.new.cutting ≡ self.old.cutting }
+        ensures safe { IsSafe self.new.state }
+        ensures unused { result ≡ Ok Followed.Agrees → IsUnused self.old.state command answer }
+        ensures revoked { result ≡ Ok Followed.Agrees → LeavesInUse command answer self.new.state }
+        ensures dirty { result ≡ Ok Followed.Agrees → self.new.dirty ≡ dirty_after self.old.state command self.old.dirty }
+        ensures dirtied { IsDirtied self.new.state self.new.dirty }
+    {
+        let cutting = self.cutting;
+        self.followed(
+            command,
+            answer,
+            &|parts: &Parts| -> Option<Found>
+                ensures { AreParts parts.now → IfSome result (IsFound parts.now) }
+            { parts.found_alone(alloc, cutting, gate) },
+        )
+    }
+
+    // Does one command as it was answered, whoever makes its passes.
+    fn followed<P: Fn(&Parts) -> Option<Found>>(
+        &mut self,
+        command: Command,
+        answer: Reply,
+        pass: &P,
+    ) -> Result<Followed, MachineFault>
+        requires callable { P.IsAlwaysCallable pass.now }
+        requires finds { FindsTags (P.post pass.now) }
+        requires valid { IsValid command }
+        ensures followed { IfOk result (λ followed. IsFollowed self.old.state command answer followed self.new.state) }
+        ensures still { result ≢ Ok Followed.Agrees → self.new ≡ self.old }
+        ensures memory { IfErr result (λ fault. fault ≡ MachineFault.Memory) }
+        ensures ok { FollowsFreely self.old.state command answer → IsOk result }
+        ensures cutting { self.new.cutting ≡ self.old.cutting }
+        ensures safe { IsSafe self.new.state }
+        ensures unused { result ≡ Ok Followed.Agrees → IsUnused self.old.state command answer }
+        ensures revoked { result ≡ Ok Followed.Agrees → LeavesInUse command answer self.new.state }
+        ensures dirty { result ≡ Ok Followed.Agrees → self.new.dirty ≡ dirty_after self.old.state command self.old.dirty }
+        ensures dirtied { IsDirtied self.new.state self.new.dirty }
+    {
+        answers();
+        self.parts.memory.whole();
+        self.parts.follow(command, answer, pass)
+    }
+}

@@ -1,0 +1,109 @@
+//! Steps of a machine: by threads, or by the calling thread alone.
+
+ghost use Rattle.std.specs.Prelude.{◌≡◌, IfErr, IfOk, IfSome, IsOk, OnErr, OnOk};
+ghost use Rattle.trace_text.specs.Command.{IsValid};
+ghost use Rattle.heap_machine.specs.Dirty.{IsDirtied, dirty_after};
+ghost use Rattle.heap_machine.specs.Parts.{AreParts};
+ghost use Rattle.heap_machine.specs.Passes.{FindsTags, IsFound};
+ghost use Rattle.heap_machine.specs.Safety.{IsSafe, IsUnused, LeavesInUse};
+ghost use Rattle.heap_machine.specs.Step.{Step, TakesNoMemory};
+
+use crate::fault::MachineFault;
+use crate::laws::answers;
+use crate::machine::Machine;
+use crate::parts::{Found, Parts};
+use heap_reply::Reply;
+use std::alloc::Global;
+use std::thread::Threads;
+use sweep_pool::Gate;
+use trace_text::Command;
+
+impl Machine {
+    /// Does one command. `gate` is told of each task of a pass: of a sweep and of what begins an epoch, which make none
+    /// where nothing waits, and of what ends it, each task that has a dirty page.
+    pub fn step<R: Threads + Sync, G: Gate + Sync>(
+        &mut self,
+        rt: &R,
+        alloc: Global,
+        command: Command,
+        gate: &G,
+    ) -> Result<Reply, MachineFault>
+        requires { IsValid command }
+        ensures step { IfOk result (λ reply. Step self.old.state command reply self.new.state) }
+        ensures err { OnErr result (self.new ≡ self.old) }
+        ensures memory { IfErr result (λ fault. fault ≡ MachineFault.Memory) }
+        ensures ok { TakesNoMemory self.old.state command → IsOk result }
+        ensures cutting { self.new.cutting ≡ self.old.cutting }
+        ensures safe { IsSafe self.new.state }
+        ensures unused { IfOk result (λ reply. IsUnused self.old.state command reply) }
+        ensures revoked { IfOk result (λ reply. LeavesInUse command reply self.new.state) }
+        // A page is dirty where a tagged word was stored into it since an epoch began, and so stands each tagged word
+        // of memory whose base lies in a painted block.
+        ensures dirty { OnOk result (self.new.dirty ≡ dirty_after self.old.state command self.old.dirty) }
+        ensures dirtied { IsDirtied self.new.state self.new.dirty }
+    {
+        let cutting = self.cutting;
+        self.done(
+            command,
+            &|parts: &Parts| -> Option<Found>
+                ensures { AreParts parts.now → IfSome result (IsFound parts.now) }
+            { parts.found_by_workers(rt, alloc, cutting, gate) },
+        )
+    }
+
+    /// Does one command as `step` does, by the calling thread alone, so without a runtime. `gate` is told as by `step`.
+    pub fn step_alone<G: Gate>(
+        &mut self,
+        alloc: Global,
+        command: Command,
+        gate: &G,
+    ) -> Result<Reply, MachineFault>
+        requires { IsValid command }
+        ensures step { IfOk result (λ reply. Step self.old.state command reply self.new.state) }
+        ensures err { OnErr result (self.new ≡ self.old) }
+        ensures memory { IfErr result (λ fault. fault ≡ MachineFault.Memory) }
+        ensures ok { TakesNoMemory self.old.state command → IsOk result }
+        ensures cutting { self.new.cutting ≡ self.old.cutting }
+        ensures safe { IsSafe self.new.state }
+        ensures unused { IfOk result (λ reply. IsUnused self.old.state command reply) }
+        ensures revoked { IfOk result (λ reply. LeavesInUse command reply self.new.state) }
+        // A page is dirty where a tagged word was stored into it since an epoch began, and so stands each tagged word
+        // of memory whose base lies in a painted block.
+        ensures dirty { OnOk result (self.new.dirty ≡ dirty_after self.old.state command self.old.dirty) }
+        ensures dirtied { IsDirtied self.new.state self.new.dirty }
+    {
+        let cutting = self.cutting;
+        self.done(
+            command,
+            &|parts: &Parts| -> Option<Found>
+                ensures { AreParts parts.now → IfSome result (IsFound parts.now) }
+            { parts.found_alone(alloc, cutting, gate) },
+        )
+    }
+
+    // Does one command, whoever makes its passes.
+    fn done<P: Fn(&Parts) -> Option<Found>>(
+        &mut self,
+        command: Command,
+        pass: &P,
+    ) -> Result<Reply, MachineFault>
+        requires callable { P.IsAlwaysCallable pass.now }
+        requires finds { FindsTags (P.post pass.now) }
+        requires valid { IsValid command }
+        ensures step { IfOk result (λ reply. Step self.old.state command reply self.new.state) }
+        ensures err { OnErr result (self.new ≡ self.old) }
+        ensures memory { IfErr result (λ fault. fault ≡ MachineFault.Memory) }
+        ensures ok { TakesNoMemory self.old.state command → IsOk result }
+        ensures cutting { self.new.cutting ≡ self.old.cutting }
+        ensures safe { IsSafe self.new.state }
+        ensures unused { IfOk result (λ reply. IsUnused self.old.state command reply) }
+        ensures revoked { IfOk result (λ reply. LeavesInUse command reply self.new.state) }
+        ensures dirty { OnOk result (self.new.dirty ≡ dirty_after self.old.state command self.old.dirty) }
+        ensures dirtied { IsDirtied self.new.state self.new.dirty }
+    {
+        // From a sound state each step leads to one.
+        answers();
+        self.parts.memory.whole();
+        self.parts.serve(command, pass)
+    }
+}

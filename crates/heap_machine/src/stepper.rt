@@ -1,0 +1,85 @@
+//! Who makes the passes of a run: threads, or the calling thread alone.
+
+ghost use Rattle.std.specs.Prelude.{◌≡◌, IfErr, IfOk, IsOk, OnErr, OnOk};
+ghost use denote.Param.Send.{IsSync};
+ghost use Rattle.trace_text.specs.Command.{IsValid};
+ghost use Rattle.heap_machine.specs.Dirty.{IsDirtied, dirty_after};
+ghost use Rattle.heap_machine.specs.Safety.{IsSafe, IsUnused, LeavesInUse};
+ghost use Rattle.heap_machine.specs.Step.{Step, TakesNoMemory};
+
+use crate::fault::MachineFault;
+use crate::machine::Machine;
+use heap_reply::Reply;
+use std::alloc::Global;
+use std::thread::Threads;
+use sweep_pool::Open;
+use trace_text::Command;
+
+/// Does the commands of a run, so that a run is written once for both. No gate is told.
+pub trait Stepper {
+    /// What a call asks besides: of threads, that they may share the handle.
+    ghost ready: { Type 0 };
+
+    /// Does one command, as the machine's own steps do.
+    fn step(
+        &self,
+        machine: &mut Machine,
+        alloc: Global,
+        command: Command,
+    ) -> Result<Reply, MachineFault>
+        requires ready { ready }
+        requires valid { IsValid command }
+        ensures step { IfOk result (λ reply. Step machine.old.state command reply machine.new.state) }
+        ensures err { OnErr result (machine.new ≡ machine.old) }
+        ensures memory { IfErr result (λ fault. fault ≡ MachineFault.Memory) }
+        ensures ok { TakesNoMemory machine.old.state command → IsOk result }
+        ensures cutting { machine.new.cutting ≡ machine.old.cutting }
+        ensures safe { IsSafe machine.new.state }
+        ensures unused { IfOk result (λ reply. IsUnused machine.old.state command reply) }
+        ensures revoked { IfOk result (λ reply. LeavesInUse command reply machine.new.state) }
+        ensures dirty { OnOk result (machine.new.dirty ≡ dirty_after machine.old.state command machine.old.dirty) }
+        ensures dirtied { IsDirtied machine.new.state machine.new.dirty };
+}
+
+/// The threads of a runtime.
+#[derive(Drop)]
+pub struct Workers<'a, R: Threads + Sync> {
+    rt: &'a R,
+}
+
+impl<'a, R: Threads + Sync> Workers<'a, R> {
+    /// Those of this handle.
+    pub fn new(rt: &'a R) -> Workers<'a, R> {
+        Workers { rt }
+    }
+}
+
+impl<R: Threads + Sync> Stepper for Workers<'_, R> {
+    ghost ready = { IsSync R.row };
+
+    fn step(
+        &self,
+        machine: &mut Machine,
+        alloc: Global,
+        command: Command,
+    ) -> Result<Reply, MachineFault> {
+        machine.step(self.rt, alloc, command, &Open)
+    }
+}
+
+/// The calling thread alone.
+#[derive(Drop)]
+pub struct Alone;
+
+impl Stepper for Alone {
+    ghost ready = { Unit {0} };
+
+    fn step(
+        &self,
+        machine: &mut Machine,
+        alloc: Global,
+        command: Command,
+    ) -> Result<Reply, MachineFault> {
+        machine.step_alone(alloc, command, &Open)
+    }
+}
