@@ -8,7 +8,7 @@ mod running;
 
 pub use crate::image::image_text;
 pub use crate::laws::runs;
-pub use crate::running::{Outcome, RunFault, run};
+pub use crate::running::{Outcome, RunFault, run, run_alone};
 pub use heap_machine::{
     Hexadecimal, Machine, MachineFault, Place, Reply, Shown, Trap, flag_number, steps,
 };

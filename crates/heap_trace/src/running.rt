@@ -13,10 +13,10 @@ ghost use Rattle.heap_trace.specs.Run.{Told};
 ghost use Rattle.heap_machine.specs.Safety.{IsSafe};
 
 use crate::report::Report;
-use heap_machine::Machine;
+use heap_machine::{Alone, Machine, Stepper, Workers};
 use std::alloc::{AllocError, Global};
 use std::thread::Threads;
-use sweep_pool::{Cutting, Open};
+use sweep_pool::Cutting;
 use tag_memory::{Memory, Registers};
 use thiserror::Error;
 use trace_text::{Command, Trace, TraceFault, parse, texts};
@@ -54,11 +54,38 @@ pub fn run<R: Threads + Sync>(
     ensures fault { (fault : TheTraceFault) → result ≡ Err (RunFault.Trace fault) → IsFaulty text.now fault }
     ensures memory { result ≢ Err (RunFault.Trace TraceFault.Memory) }
 {
+    run_by(&Workers::new(rt), alloc, text, cutting)
+}
+
+/// Runs a trace as `run` does, by the calling thread alone, so without a runtime.
+pub fn run_alone(alloc: Global, text: &[u8], cutting: Cutting) -> Result<Outcome, RunFault>
+    ensures answer { Answers text.now result }
+    // The same by the grammar.
+    ensures trace { IfOk result (λ outcome. (script : Script) × IsTrace text.now script × IsOutcome script outcome) }
+    ensures fault { (fault : TheTraceFault) → result ≡ Err (RunFault.Trace fault) → IsFaulty text.now fault }
+    ensures memory { result ≢ Err (RunFault.Trace TraceFault.Memory) }
+{
+    run_by(&Alone, alloc, text, cutting)
+}
+
+// Runs a trace, whoever makes its passes.
+fn run_by<S: Stepper>(
+    stepper: &S,
+    alloc: Global,
+    text: &[u8],
+    cutting: Cutting,
+) -> Result<Outcome, RunFault>
+    requires ready { S.ready }
+    ensures answer { Answers text.now result }
+    ensures trace { IfOk result (λ outcome. (script : Script) × IsTrace text.now script × IsOutcome script outcome) }
+    ensures fault { (fault : TheTraceFault) → result ≡ Err (RunFault.Trace fault) → IsFaulty text.now fault }
+    ensures memory { result ≢ Err (RunFault.Trace TraceFault.Memory) }
+{
     texts();
     match parse(alloc, text) {
         Err(TraceFault::Memory) => Err(RunFault::Memory),
         Err(fault) => Err(RunFault::Trace(fault)),
-        Ok(trace) => match run_trace(rt, alloc, &trace, cutting) {
+        Ok(trace) => match run_trace(stepper, alloc, &trace, cutting) {
             Some(outcome) => Ok(outcome),
             None => Err(RunFault::Memory),
         },
@@ -66,12 +93,13 @@ pub fn run<R: Threads + Sync>(
 }
 
 // Runs a trace; `None` where memory runs out.
-fn run_trace<R: Threads + Sync>(
-    rt: &R,
+fn run_trace<S: Stepper>(
+    stepper: &S,
     alloc: Global,
     trace: &Trace,
     cutting: Cutting,
 ) -> Option<Outcome>
+    requires ready { S.ready }
     requires heap { IsHeap trace.now.base trace.now.pages }
     requires valid { All IsListed trace.now.commands.items }
     ensures { IfSome result (λ outcome. IsOutcome (script_of trace.now) outcome) }
@@ -79,7 +107,7 @@ fn run_trace<R: Threads + Sync>(
     let Ok(mut machine) = Machine::new(alloc, trace.base, trace.pages, cutting) else {
         return None;
     };
-    let lines = run_commands(rt, alloc, &mut machine, &trace.commands)?;
+    let lines = run_commands(stepper, alloc, &mut machine, &trace.commands)?;
     let Ok(report) = lines.end(alloc, &machine) else {
         return None;
     };
@@ -92,19 +120,20 @@ fn run_trace<R: Threads + Sync>(
 }
 
 // Runs the commands, and answers the lines of the report but the last; `None` where memory runs out.
-fn run_commands<R: Threads + Sync>(
-    rt: &R,
+fn run_commands<S: Stepper>(
+    stepper: &S,
     alloc: Global,
     machine: &mut Machine,
     commands: &[(u32, Command)],
 ) -> Option<Report>
+    requires ready { S.ready }
     requires valid { All IsListed commands.now }
     requires safe { IsSafe machine.old.state }
     ensures { IfSome result (λ report. Told machine.old.state commands.now machine.new.state report) }
 {
     let mut report = Report::new(alloc);
     for (line, command) in commands {
-        let Ok(reply) = machine.step(rt, alloc, *command, &Open) else {
+        let Ok(reply) = stepper.step(machine, alloc, *command) else {
             return None;
         };
         let Ok(()) = report.push(*line, *command, &reply) else {

@@ -11,8 +11,8 @@ loop-line-preserved g c =
     let items = c.args.commands.now in
     let i = c.loop-line.line-index in
     let none : ℕ × Command = (0, Malloc 0 0) in
-    let P : List (ℕ × Command) → Type 0 = λ told. Told c.args.machine.now.state told c.step.new.self.state c.push.new.self in
+    let P : List (ℕ × Command) → Type 0 = λ told. Told c.args.machine.now.state told c.step.new.machine.state c.push.new.self in
     subst P (sym (take_more items i none c.loop-line-test.true)) (
-    Told-push c.args.machine.now.state (take i items) c.loop-line.machine.state c.step.new.self.state c.loop-line.report c.push.new.self (get_or items i none) c.in-Ok.reply c.loop-line.invariant c.in-Ok.ensures.step
+    Told-push c.args.machine.now.state (take i items) c.loop-line.machine.state c.step.new.machine.state c.loop-line.report c.push.new.self (get_or items i none) c.in-Ok.reply c.loop-line.invariant c.in-Ok.ensures.step
     (record { unused = c.in-Ok.ensures.unused; revoked = c.in-Ok.ensures.revoked }) c.in-Ok.ensures.safe c.in-Ok-push.ensures.ok
     )
