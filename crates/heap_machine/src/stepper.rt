@@ -41,17 +41,10 @@ pub trait Stepper {
         ensures dirtied { IsDirtied machine.new.state machine.new.dirty };
 }
 
-/// The threads of a runtime.
+/// The threads of a runtime, by its handle.
 #[derive(Drop)]
 pub struct Workers<'a, R: Threads + Sync> {
-    rt: &'a R,
-}
-
-impl<'a, R: Threads + Sync> Workers<'a, R> {
-    /// Those of this handle.
-    pub fn new(rt: &'a R) -> Workers<'a, R> {
-        Workers { rt }
-    }
+    pub rt: &'a R,
 }
 
 impl<R: Threads + Sync> Stepper for Workers<'_, R> {

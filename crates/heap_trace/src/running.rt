@@ -54,7 +54,7 @@ pub fn run<R: Threads + Sync>(
     ensures fault { (fault : TheTraceFault) → result ≡ Err (RunFault.Trace fault) → IsFaulty text.now fault }
     ensures memory { result ≢ Err (RunFault.Trace TraceFault.Memory) }
 {
-    run_by(&Workers::new(rt), alloc, text, cutting)
+    run_by(&Workers { rt }, alloc, text, cutting)
 }
 
 /// Runs a trace as `run` does, by the calling thread alone, so without a runtime.

@@ -13,4 +13,4 @@ mod spelling;
 mod taken;
 mod telling;
 
-pub use crate::recording::states;
+pub use crate::recording::{states, states_alone};

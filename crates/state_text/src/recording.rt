@@ -17,12 +17,12 @@ use crate::cells::put_address;
 use crate::data_line::DataLine;
 use crate::seen::{Before, Seen, read_before};
 use crate::telling::put_command;
-use heap_machine::Machine;
+use heap_machine::{Alone, Machine, Stepper, Workers};
 use heap_reply::Reply;
 use heap_trace::RunFault;
 use std::alloc::{AllocError, Global};
 use std::thread::Threads;
-use sweep_pool::{Cutting, Open};
+use sweep_pool::Cutting;
 use trace_text::{Command, Trace, TraceFault, parse};
 
 // The lines so far, and room for one more. The room is used again for each line: a writer fills some of it ahead, which would
@@ -71,8 +71,8 @@ fn told(
 }
 
 // Does a command, and adds its line to the data; `None` where memory runs out.
-fn tell_step<R: Threads + Sync>(
-    rt: &R,
+fn tell_step<S: Stepper>(
+    stepper: &S,
     alloc: Global,
     machine: &mut Machine,
     seen: &mut Seen,
@@ -80,6 +80,7 @@ fn tell_step<R: Threads + Sync>(
     number: u32,
     command: Command,
 ) -> Option<Lines>
+    requires ready { S.ready }
     requires valid { IsValid command }
     requires safe { IsSafe machine.old.state }
     requires seen { IsSeen seen.old machine.old.state }
@@ -87,7 +88,7 @@ fn tell_step<R: Threads + Sync>(
 {
     machine.registers().whole();
     let before = read_before(machine, command);
-    let Ok(reply) = machine.step(rt, alloc, command, &Open) else {
+    let Ok(reply) = stepper.step(machine, alloc, command) else {
         return None;
     };
     seen.put_in_order(alloc, reply);
@@ -101,14 +102,15 @@ fn tell_step<R: Threads + Sync>(
 }
 
 // Does these commands, and adds their lines to the data; `None` where memory runs out.
-fn tell_commands<R: Threads + Sync>(
-    rt: &R,
+fn tell_commands<S: Stepper>(
+    stepper: &S,
     alloc: Global,
     machine: &mut Machine,
     seen: Seen,
     so_far: Lines,
     commands: &[(u32, Command)],
 ) -> Option<Lines>
+    requires ready { S.ready }
     requires valid { All IsListed commands.now }
     requires safe { IsSafe machine.old.state }
     requires seen { IsSeen seen machine.old.state }
@@ -117,7 +119,7 @@ fn tell_commands<R: Threads + Sync>(
     let mut seen = seen;
     let mut so_far = so_far;
     for (line, command) in commands {
-        so_far = tell_step(rt, alloc, machine, &mut seen, so_far, *line, *command)?;
+        so_far = tell_step(stepper, alloc, machine, &mut seen, so_far, *line, *command)?;
     }
     Some(so_far)
 }
@@ -175,12 +177,13 @@ fn tell_end(so_far: Lines, machine: &Machine) -> Result<Lines, AllocError>
 }
 
 // Runs a trace, and answers its data; `None` where memory runs out.
-fn tell_trace<R: Threads + Sync>(
-    rt: &R,
+fn tell_trace<S: Stepper>(
+    stepper: &S,
     alloc: Global,
     trace: &Trace,
     cutting: Cutting,
 ) -> Option<Vec<u8>>
+    requires ready { S.ready }
     requires heap { IsHeap trace.now.base trace.now.pages }
     requires valid { All IsListed trace.now.commands.items }
     ensures { IfSome result (λ text. IsScriptData (script_of trace.now) text.items) }
@@ -194,7 +197,7 @@ fn tell_trace<R: Threads + Sync>(
     let Ok(so_far) = tell_heap(alloc, trace.base, trace.pages) else {
         return None;
     };
-    let so_far = tell_commands(rt, alloc, &mut machine, seen, so_far, &trace.commands)?;
+    let so_far = tell_commands(stepper, alloc, &mut machine, seen, so_far, &trace.commands)?;
     let Ok(so_far) = tell_end(so_far, &machine) else {
         return None;
     };
@@ -214,10 +217,34 @@ pub fn states<R: Threads + Sync>(
     ensures fault { (fault : TheTraceFault) → result ≡ Err (RunFault.Trace fault) → trace_of text.now ≡ Err fault }
     ensures memory { result ≢ Err (RunFault.Trace TraceFault.Memory) }
 {
+    states_by(&Workers { rt }, alloc, text, cutting)
+}
+
+/// The states of a trace as `states` tells them, by the calling thread alone, so without a runtime.
+pub fn states_alone(alloc: Global, text: &[u8], cutting: Cutting) -> Result<Vec<u8>, RunFault>
+    ensures states { IfOk result (λ told. IsDataOf text.now told.items) }
+    ensures fault { (fault : TheTraceFault) → result ≡ Err (RunFault.Trace fault) → trace_of text.now ≡ Err fault }
+    ensures memory { result ≢ Err (RunFault.Trace TraceFault.Memory) }
+{
+    states_by(&Alone, alloc, text, cutting)
+}
+
+// Runs a trace to its states, whoever makes its passes.
+fn states_by<S: Stepper>(
+    stepper: &S,
+    alloc: Global,
+    text: &[u8],
+    cutting: Cutting,
+) -> Result<Vec<u8>, RunFault>
+    requires ready { S.ready }
+    ensures states { IfOk result (λ told. IsDataOf text.now told.items) }
+    ensures fault { (fault : TheTraceFault) → result ≡ Err (RunFault.Trace fault) → trace_of text.now ≡ Err fault }
+    ensures memory { result ≢ Err (RunFault.Trace TraceFault.Memory) }
+{
     match parse(alloc, text) {
         Err(TraceFault::Memory) => Err(RunFault::Memory),
         Err(fault) => Err(RunFault::Trace(fault)),
-        Ok(trace) => match tell_trace(rt, alloc, &trace, cutting) {
+        Ok(trace) => match tell_trace(stepper, alloc, &trace, cutting) {
             Some(text) => Ok(text),
             None => Err(RunFault::Memory),
         },

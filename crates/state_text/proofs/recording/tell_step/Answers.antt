@@ -5,24 +5,24 @@ use Rattle.state_text.proofs.recording.tell_step.Goals as goal
 pub told-requires-clause-stay : goal.told-requires-clause-stay
 told-requires-clause-stay g c =
     let is = seen-in_order c.args.seen.now c.put_in_order.new.self c.in-Ok.reply c.args.machine.now.state c.requires.seen c.put_in_order.ensures in
-    registers-stay c.args.machine.now.state c.args.command c.in-Ok.reply c.step.new.self.state c.put_in_order.new.self c.read_before-before.result is c.in-Ok.ensures.step c.read_before-before.ensures.value
+    registers-stay c.args.machine.now.state c.args.command c.in-Ok.reply c.step.new.machine.state c.put_in_order.new.self c.read_before-before.result is c.in-Ok.ensures.step c.read_before-before.ensures.value
 
 pub follow-requires-clause-stay : goal.follow-requires-clause-stay
 follow-requires-clause-stay g c =
     let is = seen-in_order c.args.seen.now c.put_in_order.new.self c.in-Ok.reply c.args.machine.now.state c.requires.seen c.put_in_order.ensures in
-    registers-stay c.args.machine.now.state c.args.command c.in-Ok.reply c.step.new.self.state c.put_in_order.new.self c.read_before-before.result is c.in-Ok.ensures.step c.read_before-before.ensures.value
+    registers-stay c.args.machine.now.state c.args.command c.in-Ok.reply c.step.new.machine.state c.put_in_order.new.self c.read_before-before.result is c.in-Ok.ensures.step c.read_before-before.ensures.value
 
 pub told-requires-clause-tags : goal.told-requires-clause-tags
 told-requires-clause-tags g c =
     let is = seen-in_order c.args.seen.now c.put_in_order.new.self c.in-Ok.reply c.args.machine.now.state c.requires.seen c.put_in_order.ensures in
-    count-after c.args.machine.now.state c.args.command c.in-Ok.reply c.step.new.self.state c.put_in_order.new.self is c.in-Ok.ensures.step
+    count-after c.args.machine.now.state c.args.command c.in-Ok.reply c.step.new.machine.state c.put_in_order.new.self is c.in-Ok.ensures.step
 
 pub follow-requires-clause-count : goal.follow-requires-clause-count
 follow-requires-clause-count g c =
     let is = seen-in_order c.args.seen.now c.put_in_order.new.self c.in-Ok.reply c.args.machine.now.state c.requires.seen c.put_in_order.ensures in
-    count-after c.args.machine.now.state c.args.command c.in-Ok.reply c.step.new.self.state c.put_in_order.new.self is c.in-Ok.ensures.step
+    count-after c.args.machine.now.state c.args.command c.in-Ok.reply c.step.new.machine.state c.put_in_order.new.self is c.in-Ok.ensures.step
 
 pub returns : goal.returns
 returns g c =
-    records c.args.machine.now.state c.args.number c.args.command c.in-Ok.reply c.step.new.self.state c.args.seen.now c.put_in_order.new.self c.follow.new.self c.read_before-before.result c.args.so_far.text.items c.in-Ok-told.so_far.text.items
+    records c.args.machine.now.state c.args.number c.args.command c.in-Ok.reply c.step.new.machine.state c.args.seen.now c.put_in_order.new.self c.follow.new.self c.read_before-before.result c.args.so_far.text.items c.in-Ok-told.so_far.text.items
     c.requires.seen c.put_in_order.ensures c.requires.safe c.in-Ok.ensures.safe c.in-Ok.ensures.step c.read_before-before.ensures.value c.in-Ok-follow.ensures c.in-Ok-told.ensures
