@@ -1,5 +1,6 @@
 //! Traces with their reports.
 
+mod alone;
 mod image;
 mod sweeps;
 

@@ -1,8 +1,8 @@
 //! Traces whose states are told, words that are refused, and devices that fail.
 
 use crate::devices::{Failing, Fixed, Short, Slow};
-use heap_trace::RunFault;
-use state_text::states;
+use heap_trace::{RunFault, TraceFault};
+use state_text::{states, states_alone};
 use states_command::states_tool;
 use std::alloc::Global;
 use std::thread::Threads;
@@ -155,6 +155,74 @@ fn a_refused_allocation_of_states_is_told(rt: HostRuntime) {
     let text = b"heap 0x40000000 1\nmalloc c1 16\nfree c1\nsweep".as_slice();
     let cutting = Cutting::new(1, 16).expect(&rt, "it is a cutting");
     match states(&rt, rt.alloc(), text, cutting) {
+        Ok(data) => assert_eq!(rt; data.as_slice(), SWEPT.as_bytes()),
+        Err(fault) => assert_eq!(rt; fault, RunFault::Memory),
+    }
+}
+
+// Traces that reach every command: passes of a sweep, of a malloc and of an epoch among them.
+const TOLD: [&str; 3] = [
+    "heap 0x40000000 1\nmalloc c1 16\nfree c1\nsweep",
+    "heap 0x40000000 1
+malloc c1 4064
+copy c2 c1
+setaddr c3 c1 0x40000020
+narrow c3 c3 16
+andperm c4 c3 0x5
+storecap c1 c3
+loadcap c5 c1
+write c3 000102030405060708090a0b0c0d0e0f
+free c1
+malloc c6 64
+show c2
+",
+    "heap 0x40000000 2
+malloc c1 32
+malloc c2 4096
+malloc c3 32
+storecap c2 c1
+free c1
+begin
+storecap c3 c1
+free c2
+end
+malloc c4 32
+sweep
+",
+];
+
+#[test]
+fn states_are_told_without_a_runtime(rt: HostRuntime) {
+    let cutting = Cutting::new(3, 1).expect(&rt, "it is a cutting");
+    let data = states_alone(rt.alloc(), TOLD[0].as_bytes(), cutting).expect(&rt, "it is a trace");
+    assert_eq!(rt; data.as_slice(), SWEPT.as_bytes());
+    let refusal = states_alone(rt.alloc(), b"heap 0x40000000 1\nfrob", cutting).err();
+    assert_eq!(rt; refusal, Some(RunFault::Trace(TraceFault::BadCommand(2))));
+}
+
+#[test]
+fn states_alone_are_those_of_workers(rt: HostRuntime) {
+    for workers in [1, 3] {
+        let cutting = Cutting::new(workers, 1).expect(&rt, "it is a cutting");
+        for text in TOLD {
+            let one = states(&rt, rt.alloc(), text.as_bytes(), cutting).expect(
+                &rt,
+                "it is a trace",
+            );
+            let other = states_alone(rt.alloc(), text.as_bytes(), cutting).expect(
+                &rt,
+                "it is a trace",
+            );
+            assert_eq!(rt; one.as_slice(), other.as_slice(), "{text:?}");
+        }
+    }
+}
+
+// Run with each allocation refused in turn, too.
+#[test]
+fn a_refused_allocation_of_states_alone_is_told(rt: HostRuntime) {
+    let cutting = Cutting::new(1, 16).expect(&rt, "it is a cutting");
+    match states_alone(rt.alloc(), TOLD[0].as_bytes(), cutting) {
         Ok(data) => assert_eq!(rt; data.as_slice(), SWEPT.as_bytes()),
         Err(fault) => assert_eq!(rt; fault, RunFault::Memory),
     }

@@ -11,7 +11,7 @@ use tag_memory::Memory;
 
 // The seven pages of `tagged_memory`, of which only the fourth and the last are dirty: the fourth has no tag, and the
 // last one that the sweep takes.
-fn dirtied_memory(rt: &impl Abort, alloc: Global) -> Memory {
+pub(super) fn dirtied_memory(rt: &impl Abort, alloc: Global) -> Memory {
     let mut memory = tagged_memory(alloc).expect(rt, "there is memory");
     memory.mark_clean();
     for (granule, tag) in [(1023, true), (1023, false), (1791, true), (300, false)] {

@@ -20,17 +20,32 @@ fn must_trap(trap: Trap) -> Followed {
     must_be(Reply::Trap(trap))
 }
 
+// By a machine of which nothing is in use, and by another one without a runtime.
 fn are_followed<R: Abort + Threads + Sync>(
     rt: &R,
     alloc: Global,
     machine: &mut Machine,
     rows: &[Row],
 ) {
+    let mut alone = empty_machine(rt, alloc);
     for (command, answer, followed) in rows {
         assert!(rt; command.is_valid());
         let done = machine.follow(rt, alloc, *command, *answer, &Open);
         assert_eq!(rt; done, Ok(*followed), "{command:?} answered {answer:?}");
+        let done_alone = alone.follow_alone(alloc, *command, *answer, &Open);
+        assert_eq!(rt; done_alone, done, "{command:?} answered {answer:?}");
     }
+    assert_eq!(rt; sums(&alone), sums(machine));
+}
+
+// The bytes of live and held blocks, and how many registers and granules are tagged.
+fn sums(machine: &Machine) -> (u64, u64, usize, usize) {
+    (
+        machine.live_bytes(),
+        machine.held_bytes(),
+        machine.registers().tagged(),
+        machine.memory().tagged(),
+    )
 }
 
 // 64 KiB, of which nothing is in use.

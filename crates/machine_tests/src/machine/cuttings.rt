@@ -92,3 +92,14 @@ fn passes_have_the_tasks_of_the_machines_cutting(rt: HostRuntime) {
         assert_eq!(rt; tally.counts.load(SeqCst), tasks, "{command:?}");
     }
 }
+
+#[test]
+fn passes_alone_have_the_tasks_of_the_machines_cutting(rt: HostRuntime) {
+    let mut machine = machine_of_three_tasks(&rt, rt.alloc()).expect(&rt, "there is memory");
+    for (command, wanted, tasks) in PASSES {
+        let tally = Tally::new();
+        let reply = machine.step_alone(rt.alloc(), command, &tally);
+        assert_eq!(rt; reply, Ok(wanted), "{command:?}");
+        assert_eq!(rt; tally.counts.load(SeqCst), tasks, "{command:?}");
+    }
+}

@@ -83,6 +83,18 @@ fn the_end_visits_dirty_pages_alone(rt: HostRuntime) {
 }
 
 #[test]
+fn the_end_visits_dirty_pages_alone_without_a_runtime(rt: HostRuntime) {
+    let mut machine = machine_before_an_epoch(&rt, rt.alloc()).expect(&rt, "there is memory");
+    for (command, wanted, tasks) in EPOCH {
+        let notes = Notes::new();
+        let reply = machine.step_alone(rt.alloc(), command, &notes);
+        assert_eq!(rt; reply, Ok(wanted), "{command:?}");
+        assert_eq!(rt; notes.tasks.load(SeqCst), tasks, "{command:?}");
+    }
+    assert_eq!(rt; machine.held_bytes(), 4096);
+}
+
+#[test]
 fn an_end_without_a_store_visits_no_page(rt: HostRuntime) {
     let mut machine = machine_before_an_epoch(&rt, rt.alloc()).expect(&rt, "there is memory");
     let begun = machine.step(&rt, rt.alloc(), Command::Begin, &Open);

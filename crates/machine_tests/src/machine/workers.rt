@@ -103,6 +103,18 @@ fn a_sweep_where_nothing_is_held_has_no_task(rt: HostRuntime) {
     }
 }
 
+// Each task once, without a runtime.
+#[test]
+fn a_sweep_of_many_tags_is_made_alone(rt: HostRuntime) {
+    let mut machine = crowded_machine(&rt, rt.alloc()).expect(&rt, "there is memory");
+    let gate = Count::of(0);
+    let reply = machine.step_alone(rt.alloc(), Command::Sweep, &gate);
+    assert_eq!(rt; reply, Ok(SWEPT));
+    assert_eq!(rt; gate.calls.load(SeqCst), 130);
+    assert_eq!(rt; gate.tasks.load(SeqCst), 130 * 129 / 2);
+    assert_eq!(rt; machine.memory().tagged(), 32_999);
+}
+
 // The sweep of a malloc is shared too, and is one.
 #[test]
 fn a_malloc_that_sweeps_shares_its_sweep(rt: HostRuntime) {

@@ -4,7 +4,7 @@ use crate::runs::answer;
 use heap_trace::{RunFault, image_text};
 
 // Traces with the reports of their runs.
-const SWEEPS: [(&str, &str); 6] = [
+pub(super) const SWEEPS: [(&str, &str); 6] = [
     // A block that is held isn't handed out, and its capabilities are gone before it is.
     (
         "heap 0x40000000 1
