@@ -1,0 +1,13 @@
+pub mod DirtyPut
+pub mod ExactLaws
+pub mod NumberLaws
+pub mod OneText
+pub mod PartLaws
+pub mod ReadLaws
+pub mod ReplayLaws
+pub mod SameBlocks
+pub mod SameTexts
+pub mod StartReplay
+pub mod StartsLaws
+pub mod TextLaws
+pub mod UptoLaws

@@ -1,0 +1,15 @@
+-- The granules so far are the machine's.
+use Rattle.std.proofs.Common.{◌≡◌, ◌<◌, ℕ, false, get_or, length}
+use Rattle.heap_machine.specs.Parts.{MachineState}
+use Rattle.state_bytes.specs.State.{IsState}
+use Rattle.state_bytes.specs.Text.{text_of}
+use Rattle.state_bytes.proofs.words.read_cells.Given as goal
+
+abbrev pub invariant-loop-i : goal.invariant-loop-i
+invariant-loop-i l = record {
+  count : length l.memory.cells ≡ length l.fn.memory.cells;
+  pages : length l.memory.dirty ≡ length l.fn.memory.dirty;
+  base : l.memory.base ≡ l.fn.memory.base;
+  all : (m : MachineState) → IsState m → text_of m ≡ l.bytes → length m.state.cells ≡ length l.fn.memory.cells
+      → (k : ℕ) → k < l.i → get_or l.memory.cells k (0, false) ≡ get_or m.state.cells k (0, false);
+}

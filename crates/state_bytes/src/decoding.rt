@@ -1,0 +1,160 @@
+//! A machine from the bytes of its state.
+
+ghost use Rattle.std.specs.Prelude.{◌≡◌, ◌≢◌, ◌≤◌, ◌==◌, ◌*◌, IfErr, IfOk, drop, length, slice_index_or, true};
+ghost use Rattle.byteorder.specs.Endian.{little_number};
+ghost use Rattle.heap_machine.specs.Making.{made};
+ghost use Rattle.heap_machine.specs.Parts.{MachineState};
+ghost use Rattle.state_bytes.specs.Reading.{HasHead, HasParts};
+ghost use Rattle.state_bytes.specs.State.{AreExact, IsSameState, IsState, IsWhole};
+ghost use Rattle.state_bytes.specs.Text.{text_length, text_of};
+
+use crate::blocks::read_blocks;
+use crate::encoding::encode;
+use crate::fault::BytesFault;
+use crate::laws::texts;
+use crate::words::{read_cells, read_dirty, read_registers};
+use byteorder::{ByteOrder, LittleEndian};
+use heap_core::Heap;
+use heap_machine::Machine;
+use std::alloc::Global;
+use sweep_pool::Cutting;
+use tag_memory::{Memory, Registers, is_base, is_size};
+
+// How long the head is, and where its parts stand behind the base.
+const HEAD: usize = 13;
+
+const PAGES: usize = 8;
+
+const OPEN: usize = 12;
+
+// How long a text is beside its pages, and what a page adds to it: its granules, and all.
+const LEAST: u64 = 557;
+
+const PAGE: u64 = 5377;
+
+// Where the heap lies, how many pages it has, and whether an epoch is open.
+#[derive(Clone, Copy)]
+struct Head {
+    base: u64,
+    pages: u32,
+    is_open: bool,
+}
+
+/// The machine of whose state these are the bytes; its sweeps are cut into tasks of `cutting`'s pages, and made by no
+/// more than its workers. All other bytes are refused.
+pub fn decode(alloc: Global, cutting: Cutting, bytes: &[u8]) -> Result<Machine, BytesFault>
+    ensures text { IfOk result (λ machine. text_of machine ≡ bytes.now) }
+    ensures state { IfOk result IsState }
+    ensures cutting { IfOk result (λ machine. machine.cutting ≡ cutting) }
+    ensures same { IfOk result (λ machine. (m : MachineState) → IsWhole m → text_of m ≡ bytes.now → IsSameState machine m) }
+    ensures refused { IfErr result (λ why. why ≢ BytesFault.Memory → (m : MachineState) → IsState m → text_of m ≢ bytes.now) }
+{
+    texts();
+    let machine = match read(alloc, cutting, bytes) {
+        Ok(machine) => machine,
+        Err(why) => return Err(why),
+    };
+    let Ok(again) = encode(alloc, &machine) else {
+        return Err(BytesFault::Memory);
+    };
+    if !are_same(&again, bytes) {
+        return Err(BytesFault::Spelling);
+    }
+    Ok(machine)
+}
+
+fn are_same(a: &[u8], b: &[u8]) -> bool
+    ensures yes { result ≡ true → a.now ≡ b.now }
+    ensures no { a.now ≡ b.now → result ≡ true }
+{
+    a == b
+}
+
+// A machine as the bytes say. Whether they are its own shows when it is told of again.
+fn read(alloc: Global, cutting: Cutting, bytes: &[u8]) -> Result<Machine, BytesFault>
+    ensures exact { IfOk result (λ machine. AreExact machine.state.heap) }
+    ensures cutting { IfOk result (λ machine. machine.cutting ≡ cutting) }
+    ensures same { IfOk result (λ machine. (m : MachineState) → IsState m → text_of m ≡ bytes.now → IsSameState machine m) }
+    ensures refused { IfErr result (λ why. why ≢ BytesFault.Memory → (m : MachineState) → IsState m → text_of m ≢ bytes.now) }
+{
+    let head = read_head(bytes)?;
+    let Ok(mut heap) = Heap::new(alloc, head.base, head.pages) else {
+        return Err(BytesFault::Memory);
+    };
+    let Ok(mut memory) = Memory::new(alloc, head.base, head.pages) else {
+        return Err(BytesFault::Memory);
+    };
+    if !read_blocks(&mut heap, bytes, head.is_open) {
+        return Err(BytesFault::Blocks);
+    }
+    let registers = read_words(&mut memory, bytes);
+    machine_of(heap, memory, registers, cutting)
+}
+
+// What stands first, where the bytes are as many as they must be then, and a heap can lie there.
+fn read_head(bytes: &[u8]) -> Result<Head, BytesFault>
+    ensures length { IfOk result (λ head. length bytes.now ≡ text_length head.pages) }
+    ensures head { IfOk result (λ head. (m : MachineState) → IsState m → text_of m ≡ bytes.now → HasHead m head) }
+    ensures refused { IfErr result (λ why. (m : MachineState) → IsState m → text_of m ≢ bytes.now) }
+{
+    texts();
+    if bytes.len() < HEAD {
+        return Err(BytesFault::Length);
+    }
+    let head = head_in(bytes);
+    if bytes.len() as u64 != LEAST + PAGE * u64::from(head.pages) {
+        return Err(BytesFault::Length);
+    }
+    if !is_size(u64::from(head.pages)) {
+        return Err(BytesFault::Head);
+    }
+    if !is_base(head.base, u64::from(head.pages)) {
+        return Err(BytesFault::Head);
+    }
+    Ok(head)
+}
+
+fn head_in(bytes: &[u8]) -> Head
+    requires { 13 ≤ length bytes.now }
+    ensures base { result.base ≡ little_number 8 bytes.now }
+    ensures pages { result.pages ≡ little_number 4 (drop 8 bytes.now) }
+    ensures is_open { result.is_open ≡ (slice_index_or bytes.now 12 0 == 1) }
+{
+    Head {
+        base: LittleEndian::read_u64(bytes),
+        pages: LittleEndian::read_u32(&bytes[PAGES..]),
+        is_open: bytes[OPEN] == 1,
+    }
+}
+
+// The granules, the dirty pages and the registers.
+fn read_words(memory: &mut Memory, bytes: &[u8]) -> Registers
+    requires { length bytes.now ≡ text_length (length memory.old.dirty) }
+    ensures base { memory.new.base ≡ memory.old.base }
+    ensures memory { (m : MachineState) → IsState m → text_of m ≡ bytes.now → length m.dirty ≡ length memory.old.dirty
+        → (memory.new.cells ≡ m.state.cells) × (memory.new.dirty ≡ m.dirty) }
+    ensures registers { (m : MachineState) → IsState m → text_of m ≡ bytes.now → length m.dirty ≡ length memory.old.dirty
+        → result ≡ m.state.registers }
+{
+    memory.whole();
+    let granules = memory.granules();
+    read_cells(memory, bytes);
+    read_dirty(memory, bytes, HEAD + 21 * granules + 544);
+    read_registers(bytes, HEAD + 21 * granules)
+}
+
+// The machine of these parts, where they are one's.
+fn machine_of(
+    heap: Heap,
+    memory: Memory,
+    registers: Registers,
+    cutting: Cutting,
+) -> Result<Machine, BytesFault>
+    ensures made { IfOk result (λ machine. machine ≡ made heap memory registers cutting) }
+    ensures refused { IfErr result (λ why. (m : MachineState) → IsWhole m → HasParts m heap memory registers → ⊥) }
+{
+    match Machine::of(heap, memory, registers, cutting) {
+        Ok(machine) => Ok(machine),
+        Err(_) => Err(BytesFault::Words),
+    }
+}

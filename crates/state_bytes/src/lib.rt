@@ -1,0 +1,14 @@
+//! The state of a machine as bytes: one text for each state.
+#![tactic(auto)]
+
+mod blocks;
+mod decoding;
+mod encoding;
+mod fault;
+mod laws;
+mod words;
+
+pub use crate::decoding::decode;
+pub use crate::encoding::encode;
+pub use crate::fault::BytesFault;
+pub use crate::laws::{exactness, texts};

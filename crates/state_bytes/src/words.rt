@@ -1,0 +1,95 @@
+//! The granules, dirty pages and registers that bytes tell of.
+
+ghost use Rattle.std.specs.Prelude.{◌≡◌, ◌<◌, ◌≤◌, ◌+◌, ◌*◌, Bool, if◌then◌else◌, length, slice_set, true};
+ghost use Rattle.heap_machine.specs.Parts.{MachineState};
+ghost use Rattle.tag_memory.specs.Cells.{register_count};
+ghost use Rattle.state_bytes.specs.State.{IsState};
+ghost use Rattle.state_bytes.specs.Text.{text_of};
+
+use byteorder::{ByteOrder, LittleEndian};
+use cap_codec::Word;
+use tag_memory::{Memory, PAGE_GRANULES, REGISTERS, Registers};
+
+// Where the granules begin, how long the text of one is, and how long the bytes of a word.
+const HEAD: usize = 13;
+
+const ROW: usize = 21;
+
+const WORD: usize = 16;
+
+// How long the text of a register is.
+const REGISTER: usize = 17;
+
+/// Writes the granules that bytes tell of.
+pub fn read_cells(memory: &mut Memory, bytes: &[u8])
+    requires rows { 13 + 21 * length memory.old.cells ≤ length bytes.now }
+    ensures count { length memory.new.cells ≡ length memory.old.cells }
+    ensures pages { length memory.new.dirty ≡ length memory.old.dirty }
+    ensures base { memory.new.base ≡ memory.old.base }
+    ensures cells { (m : MachineState) → IsState m → text_of m ≡ bytes.now → length m.state.cells ≡ length memory.old.cells
+        → memory.new.cells ≡ m.state.cells }
+{
+    for i in 0..memory.granules() {
+        let at = HEAD + ROW * i;
+        let bits = LittleEndian::read_u128(&bytes[at..]);
+        memory.put(i, bits, bytes[at + WORD] == 1);
+    }
+}
+
+/// Makes the pages dirty that bytes tell of, from `start` on, and the others clean.
+pub fn read_dirty(memory: &mut Memory, bytes: &[u8], start: usize)
+    requires marks { start + length memory.old.dirty ≤ length bytes.now }
+    requires pages { length memory.old.cells ≡ 256 * length memory.old.dirty }
+    ensures cells { memory.new.cells ≡ memory.old.cells }
+    ensures base { memory.new.base ≡ memory.old.base }
+    ensures dirty { (m : MachineState) → IsState m → text_of m ≡ bytes.now → length m.dirty ≡ length memory.old.dirty
+        → start ≡ 557 + 5376 * length m.dirty → memory.new.dirty ≡ m.dirty }
+{
+    memory.mark_clean();
+    for page in 0..memory.pages() as usize {
+        mark_if(memory, page, bytes[start + page] == 1);
+    }
+}
+
+// Makes a page dirty, where it is to be.
+fn mark_if(memory: &mut Memory, page: usize, is_dirty: bool)
+    requires page { 256 * page < length memory.old.cells }
+    ensures cells { memory.new.cells ≡ memory.old.cells }
+    ensures base { memory.new.base ≡ memory.old.base }
+    ensures dirty { memory.new.dirty ≡ (if is_dirty then slice_set memory.old.dirty page true else memory.old.dirty) }
+{
+    if !is_dirty {
+        return;
+    }
+    mark_dirty(memory, page);
+}
+
+// Makes a page dirty, and leaves its granules as they are: its first one is tagged for a moment.
+fn mark_dirty(memory: &mut Memory, page: usize)
+    requires page { 256 * page < length memory.old.cells }
+    ensures cells { memory.new.cells ≡ memory.old.cells }
+    ensures base { memory.new.base ≡ memory.old.base }
+    ensures dirty { memory.new.dirty ≡ slice_set memory.old.dirty page true }
+{
+    let _granules = memory.granules();
+    let i = PAGE_GRANULES as usize * page;
+    let (bits, tag) = memory.cell(i);
+    memory.put(i, bits, true);
+    memory.put(i, bits, tag);
+}
+
+/// The registers that bytes tell of, from `start` on.
+pub fn read_registers(bytes: &[u8], start: usize) -> Registers
+    requires { start + 17 * register_count ≤ length bytes.now }
+    ensures all { (m : MachineState) → IsState m → text_of m ≡ bytes.now → start ≡ 13 + 21 * length m.state.cells → result ≡ m.state.registers }
+    ensures count { length result ≡ register_count }
+{
+    let mut registers = Registers::new();
+    for r in 0..REGISTERS {
+        let at = start + REGISTER * r as usize;
+        let bits = LittleEndian::read_u128(&bytes[at..]);
+        registers.set(r, Word { bits }, bytes[at + WORD] == 1);
+    }
+    registers.whole();
+    registers
+}
