@@ -1,5 +1,5 @@
 -- What was read of a machine: its parts have no flaw, and a heap without blocks begins its replay.
-use Rattle.std.proofs.Common.{◌≡◌, ◌∙◌, ◌<◌, ◌+◌, ◌*◌, ◌/◌, ◌==◌, inl, inr, ℕ, Bool, true, false, List, [], length, drop, get_or, sym, ap, subst, eq-eqb, arith}
+use Rattle.std.proofs.Common.{◌≡◌, ◌∙◌, ◌<◌, ◌*◌, ◌/◌, ◌==◌, inl, inr, ℕ, Bool, true, false, List, [], length, drop, get_or, sym, ap, subst, eq-eqb, arith}
 use Rattle.std.specs.Prelude.{All}
 use Rattle.std.proofs.lemmas.Bool.{cases_eq, ne_eqb, true≢false}
 use Rattle.heap_core.specs.Heap.{HeapState, empty_heap}
@@ -17,7 +17,7 @@ use Rattle.state_bytes.specs.State.{IsSameState, IsState, IsWhole}
 use Rattle.state_bytes.specs.declared.decoding.Head.{Head}
 use Rattle.byteorder.specs.Endian.{little_number}
 use Rattle.tag_memory.specs.Extent.{is_base, is_size}
-use Rattle.state_bytes.specs.Text.{text_of}
+use Rattle.state_bytes.specs.Text.{text_length, text_of}
 use Rattle.state_bytes.proofs.ReadLaws.{head_read, text_long}
 
 -- ---- parts without a flaw
@@ -81,9 +81,9 @@ pub long_text : (m : MachineState) (bytes : List ℕ) → IsWhole m → text_of 
 long_text m bytes whole text short = omega (arith, short, ap (λ (l : List ℕ). length l) (sym text) ∙ text_long m whole)
 
 -- And as many as its pages take.
-pub long_head : (m : MachineState) (bytes : List ℕ) (head : Head) (pages : ℕ) → IsWhole m → text_of m ≡ bytes → HasHead m head → pages ≡ head.pages → (length bytes ≡ 557 + 5377 * pages → ⊥) → ⊥
-long_head m bytes head pages whole text has is other =
-    other (ap (λ (l : List ℕ). length l) (sym text) ∙ (text_long m whole ∙ ap (λ (n : ℕ). 557 + 5377 * n) (sym (is ∙ has.pages))))
+pub long_head : (m : MachineState) (bytes : List ℕ) (head : Head) (long : ℕ) → IsWhole m → text_of m ≡ bytes → HasHead m head → long ≡ text_length head.pages → (length bytes ≡ long → ⊥) → ⊥
+long_head m bytes head long whole text has is other =
+    other (ap (λ (l : List ℕ). length l) (sym text) ∙ (text_long m whole ∙ (ap text_length (sym has.pages) ∙ sym is)))
 
 pages_of : (m : MachineState) → IsWhole m → m.state.heap.size ≡ 4096 * length m.dirty
 pages_of m whole = let granules = whole.sound.granules in omega (arith, granules, whole.pages)

@@ -12,16 +12,10 @@ ghost use Rattle.state_bytes.specs.State.{AreExact, IsState};
 ghost use Rattle.state_bytes.specs.Text.{starts_in, text_of};
 
 use crate::encoding::number_of_kind;
+use crate::places::{HEAD, NUMBER, ROW};
 use byteorder::{ByteOrder, LittleEndian};
 use heap_core::{Claim, Freed, Heap, Kind};
 use tag_memory::GRANULE;
-
-// Where the granules begin, how long the text of one is, and where its block stands in it.
-const HEAD: usize = 13;
-
-const ROW: usize = 21;
-
-const NUMBER: usize = 17;
 
 /// Makes the blocks that bytes tell of, in a heap without blocks, and answers whether they may lie there. An epoch begins
 /// where one is to be open.

@@ -6,31 +6,21 @@ ghost use Rattle.heap_machine.specs.Making.{made};
 ghost use Rattle.heap_machine.specs.Parts.{MachineState};
 ghost use Rattle.state_bytes.specs.Reading.{HasHead, HasParts};
 ghost use Rattle.state_bytes.specs.State.{AreExact, IsSameState, IsState, IsWhole};
-ghost use Rattle.state_bytes.specs.Text.{text_length, text_of};
+ghost use Rattle.state_bytes.specs.Text.{text_of};
+ghost use Rattle.state_bytes.specs.Text as text;
 
 use crate::blocks::read_blocks;
 use crate::encoding::encode;
 use crate::fault::BytesFault;
 use crate::laws::texts;
+use crate::places::{HEAD, OPEN, PAGES, REGISTER, ROW, text_length};
 use crate::words::{read_cells, read_dirty, read_registers};
 use byteorder::{ByteOrder, LittleEndian};
 use heap_core::Heap;
 use heap_machine::Machine;
 use std::alloc::Global;
 use sweep_pool::Cutting;
-use tag_memory::{Memory, Registers, is_base, is_size};
-
-// How long the head is, and where its parts stand behind the base.
-const HEAD: usize = 13;
-
-const PAGES: usize = 8;
-
-const OPEN: usize = 12;
-
-// How long a text is beside its pages, and what a page adds to it: its granules, and all.
-const LEAST: u64 = 557;
-
-const PAGE: u64 = 5377;
+use tag_memory::{Memory, REGISTERS, Registers, is_base, is_size};
 
 // Where the heap lies, how many pages it has, and whether an epoch is open.
 #[derive(Clone, Copy)]
@@ -93,7 +83,7 @@ fn read(alloc: Global, cutting: Cutting, bytes: &[u8]) -> Result<Machine, BytesF
 
 // What stands first, where the bytes are as many as they must be then, and a heap can lie there.
 fn read_head(bytes: &[u8]) -> Result<Head, BytesFault>
-    ensures length { IfOk result (λ head. length bytes.now ≡ text_length head.pages) }
+    ensures length { IfOk result (λ head. length bytes.now ≡ text.text_length head.pages) }
     ensures head { IfOk result (λ head. (m : MachineState) → IsState m → text_of m ≡ bytes.now → HasHead m head) }
     ensures refused { IfErr result (λ why. (m : MachineState) → IsState m → text_of m ≢ bytes.now) }
 {
@@ -102,7 +92,7 @@ fn read_head(bytes: &[u8]) -> Result<Head, BytesFault>
         return Err(BytesFault::Length);
     }
     let head = head_in(bytes);
-    if bytes.len() as u64 != LEAST + PAGE * u64::from(head.pages) {
+    if bytes.len() != text_length(head.pages) {
         return Err(BytesFault::Length);
     }
     if !is_size(u64::from(head.pages)) {
@@ -129,7 +119,7 @@ fn head_in(bytes: &[u8]) -> Head
 
 // The granules, the dirty pages and the registers.
 fn read_words(memory: &mut Memory, bytes: &[u8]) -> Registers
-    requires { length bytes.now ≡ text_length (length memory.old.dirty) }
+    requires { length bytes.now ≡ text.text_length (length memory.old.dirty) }
     ensures base { memory.new.base ≡ memory.old.base }
     ensures memory { (m : MachineState) → IsState m → text_of m ≡ bytes.now → length m.dirty ≡ length memory.old.dirty
         → (memory.new.cells ≡ m.state.cells) × (memory.new.dirty ≡ m.dirty) }
@@ -137,10 +127,10 @@ fn read_words(memory: &mut Memory, bytes: &[u8]) -> Registers
         → result ≡ m.state.registers }
 {
     memory.whole();
-    let granules = memory.granules();
+    let registers = HEAD + ROW * memory.granules();
     read_cells(memory, bytes);
-    read_dirty(memory, bytes, HEAD + 21 * granules + 544);
-    read_registers(bytes, HEAD + 21 * granules)
+    read_dirty(memory, bytes, registers + REGISTER * REGISTERS as usize);
+    read_registers(bytes, registers)
 }
 
 // The machine of these parts, where they are one's.

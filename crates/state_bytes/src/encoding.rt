@@ -7,6 +7,7 @@ ghost use Rattle.state_bytes.specs.Start.{HasNoStart};
 ghost use Rattle.state_bytes.specs.State.{IsWhole};
 ghost use Rattle.state_bytes.specs.Text.{block_number, dirty_text, flag_byte, granule_text, head_text, kind_number, memory_text, register_text, text_of, texts_below};
 
+use crate::places::text_length;
 use byteorder::{ByteOrder, LittleEndian};
 use heap_core::{Heap, Kind};
 use heap_machine::Machine;
@@ -25,8 +26,9 @@ pub fn encode(alloc: Global, machine: &Machine) -> Result<Vec<u8>, AllocError>
     let registers = machine.registers();
     memory.whole();
     registers.whole();
-    let mut out = Vec::new(alloc);
-    put_head(&mut out, heap.base(), memory.pages(), heap.is_open())?;
+    let pages = memory.pages();
+    let mut out = Vec::with_capacity(alloc, text_length(pages))?;
+    put_head(&mut out, heap.base(), pages, heap.is_open())?;
     put_memory(&mut out, heap, memory)?;
     put_registers(&mut out, registers)?;
     put_dirty(&mut out, memory)?;

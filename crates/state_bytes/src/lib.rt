@@ -6,6 +6,7 @@ mod decoding;
 mod encoding;
 mod fault;
 mod laws;
+mod places;
 mod words;
 
 pub use crate::decoding::decode;

@@ -6,19 +6,10 @@ ghost use Rattle.tag_memory.specs.Cells.{register_count};
 ghost use Rattle.state_bytes.specs.State.{IsState};
 ghost use Rattle.state_bytes.specs.Text.{text_of};
 
+use crate::places::{HEAD, REGISTER, ROW, TAG};
 use byteorder::{ByteOrder, LittleEndian};
 use cap_codec::Word;
 use tag_memory::{Memory, PAGE_GRANULES, REGISTERS, Registers};
-
-// Where the granules begin, how long the text of one is, and how long the bytes of a word.
-const HEAD: usize = 13;
-
-const ROW: usize = 21;
-
-const WORD: usize = 16;
-
-// How long the text of a register is.
-const REGISTER: usize = 17;
 
 /// Writes the granules that bytes tell of.
 pub fn read_cells(memory: &mut Memory, bytes: &[u8])
@@ -32,7 +23,7 @@ pub fn read_cells(memory: &mut Memory, bytes: &[u8])
     for i in 0..memory.granules() {
         let at = HEAD + ROW * i;
         let bits = LittleEndian::read_u128(&bytes[at..]);
-        memory.put(i, bits, bytes[at + WORD] == 1);
+        memory.put(i, bits, bytes[at + TAG] == 1);
     }
 }
 
@@ -88,7 +79,7 @@ pub fn read_registers(bytes: &[u8], start: usize) -> Registers
     for r in 0..REGISTERS {
         let at = start + REGISTER * r as usize;
         let bits = LittleEndian::read_u128(&bytes[at..]);
-        registers.set(r, Word { bits }, bytes[at + WORD] == 1);
+        registers.set(r, Word { bits }, bytes[at + TAG] == 1);
     }
     registers.whole();
     registers
