@@ -102,13 +102,10 @@ fn first_unguarded_register(heap: &Heap, registers: &Registers) -> Option<u8>
     None
 }
 
-// The first granule that isn't. A memory without a tag isn't looked through.
+// The first granule that isn't.
 fn first_unguarded_granule(heap: &Heap, memory: &Memory) -> Option<usize>
     ensures { MatchOption result (All (HoldsGuarded heap.now) memory.now.cells) (λ i. (i < length memory.now.cells) × FirstLacks (HasGuardedAt heap.now memory.now) i) }
 {
-    if memory.tagged() == 0 {
-        return None;
-    }
     for i in 0..memory.granules() {
         let (bits, tag) = memory.cell(i);
         if !is_guarded(heap, Word { bits }, tag) {
@@ -131,9 +128,6 @@ fn first_in_clean_page(heap: &Heap, memory: &Memory) -> Option<usize>
     ensures { MatchOption result (AreInDirtyPages memory.now.cells memory.now.dirty heap.now.painted) (λ i. (i < length memory.now.cells) × FirstLacks (StandsDirty heap.now memory.now) i) }
 {
     memory.whole();
-    if memory.tagged() == 0 {
-        return None;
-    }
     for i in 0..memory.granules() {
         let (bits, tag) = memory.cell(i);
         let is_dirty = memory.dirty(i as u32 / PAGE_GRANULES);
