@@ -1,6 +1,6 @@
 //! Machines in the state that given lines tell of.
 
-ghost use Rattle.std.specs.Prelude.{◌≡◌, All, IfErr, IfOk, OnOk};
+ghost use Rattle.std.specs.Prelude.{◌≡◌, [], All, IfErr, IfOk, OnOk};
 ghost use Rattle.log_text.specs.Log.{IsListedGiven};
 ghost use Rattle.trace_text.specs.Heap.{IsHeap};
 ghost use Rattle.heap_machine.specs.Making.{made};
@@ -27,10 +27,28 @@ fn machine_of(heap: Heap, memory: Memory, registers: Registers, cutting: Cutting
     Machine::of(heap, memory, registers, cutting).unwrap()
 }
 
-/// The machine in the state that given lines tell of, of a heap of so many pages of 4,096 bytes from `base` on. Its
-/// sweeps are cut into tasks of `cutting`'s pages, and made by no more than its workers. Else their first flaw: blocks
-/// are judged before words, each in the order of their lines.
-pub fn start(
+// The first machine, of which no line tells.
+fn first_machine(
+    alloc: Global,
+    base: u64,
+    pages: u32,
+    cutting: Cutting,
+) -> Result<Machine, StartFault>
+    requires { IsHeap base pages }
+    ensures made { IfOk result (λ machine. machine.state ≡ given_state base pages []) }
+    ensures cutting { IfOk result (λ machine. machine.cutting ≡ cutting) }
+    ensures sound { AreSafe base pages [] }
+    ensures safe { IfOk result (λ machine. IsSafe machine.state) }
+    ensures memory { IfErr result (λ fault. fault ≡ StartFault.Memory) }
+{
+    let Ok(machine) = Machine::new(alloc, base, pages, cutting) else {
+        return Err(StartFault::Memory);
+    };
+    Ok(machine)
+}
+
+// The same, whatever the lines are: all that is made is looked through.
+fn machine_given(
     alloc: Global,
     base: u64,
     pages: u32,
@@ -54,4 +72,28 @@ pub fn start(
         return Err(StartFault::Unsafe { line, lack });
     }
     Ok(machine_of(heap, memory, registers, cutting))
+}
+
+/// The machine in the state that given lines tell of, of a heap of so many pages of 4,096 bytes from `base` on. Its
+/// sweeps are cut into tasks of `cutting`'s pages, and made by no more than its workers. Else their first flaw: blocks
+/// are judged before words, each in the order of their lines.
+pub fn start(
+    alloc: Global,
+    base: u64,
+    pages: u32,
+    givens: &[(u32, Given)],
+    cutting: Cutting,
+) -> Result<Machine, StartFault>
+    requires heap { IsHeap base pages }
+    requires givens { All IsListedGiven givens.now }
+    ensures made { IfOk result (λ machine. machine.state ≡ given_state base pages givens.now) }
+    ensures cutting { IfOk result (λ machine. machine.cutting ≡ cutting) }
+    ensures sound { OnOk result (AreSafe base pages givens.now) }
+    ensures safe { IfOk result (λ machine. IsSafe machine.state) }
+    ensures flaw { IfErr result (IsFault base pages givens.now) }
+{
+    if givens.is_empty() {
+        return first_machine(alloc, base, pages, cutting);
+    }
+    machine_given(alloc, base, pages, givens, cutting)
 }

@@ -1,5 +1,5 @@
 use Rattle.given_state.proofs.FitLaws.{FitHeap-first}
-use Rattle.given_state.proofs.starting.start.Goals as goal
+use Rattle.given_state.proofs.starting.machine_given.Goals as goal
 
 pub hold_all-requires-clause-fit : goal.hold_all-requires-clause-fit
 hold_all-requires-clause-fit c =
