@@ -10,7 +10,7 @@ mod tallying;
 mod verdict;
 
 pub use crate::due::{DueWord, due_words};
-pub use crate::judging::judge;
+pub use crate::judging::{follow_event, judge};
 pub use crate::laws::logs;
 pub use crate::origin::{freed_line, given_line, handed_out_line};
 pub use crate::verdict::{Difference, Tally, Verdict};

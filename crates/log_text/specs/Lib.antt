@@ -1,3 +1,4 @@
 pub mod Answer
+pub mod Asking
 pub mod Fault
 pub mod Log

@@ -31,9 +31,9 @@ fn address(operands: &Line<'_>) -> Result<u64, LineFault>
     operand_number(word)
 }
 
-// What a name and its operands ask.
+/// What a name and its operands ask.
 #[tactic(auto, unfolding(crate::specs::Log::asked_of))]
-fn question(name: &[u8], operands: &Line<'_>) -> Result<Asked, LineFault>
+pub fn question(name: &[u8], operands: &Line<'_>) -> Result<Asked, LineFault>
     ensures value { result ≡ asked_of name.now (words_of operands.now) }
     ensures valid { IfOk result IsValidAsked }
 {
@@ -56,9 +56,9 @@ fn content(line: &Line<'_>) -> Option<(bool, [u8; 16])>
     Some((tag, bytes))
 }
 
-// What was asked, with what was answered.
+/// What was asked, with what these words answer. None where they are no answer to it.
 #[tactic(auto, unfolding(crate::specs::Log::told_of))]
-fn told(asked: Asked, line: &Line<'_>) -> Option<Event>
+pub fn event_told(asked: Asked, line: &Line<'_>) -> Option<Event>
     ensures value { result ≡ told_of asked (words_of line.now) }
     ensures valid { IsValidAsked asked → IfSome result IsValidEvent }
 {
@@ -93,7 +93,7 @@ fn answered(
         Ok(asked) => asked,
         Err(fault) => return Err(LogFault::Trace(fault.at_line(number))),
     };
-    told(asked, line).ok_or(LogFault::BadAnswer(number))
+    event_told(asked, line).ok_or(LogFault::BadAnswer(number))
 }
 
 // What is wrong with a line without an arrow: its words, or that the answer lacks.

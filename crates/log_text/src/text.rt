@@ -1,9 +1,10 @@
 //! A text as a log.
 
-ghost use Rattle.std.specs.Prelude.{◌≤◌, ◌<◌, ◌+◌, ◌^◌, length, IfOk, All};
+ghost use Rattle.std.specs.Prelude.{◌≤◌, ◌<◌, ◌+◌, ◌^◌, length, IfErr, IfOk, All};
 ghost use Rattle.trace_text.specs.Heap.{IsHeap};
 ghost use Rattle.trace_text.specs.Lines.{lines_of};
-ghost use Rattle.log_text.specs.Log.{Gives, IsListedEvent, IsListedGiven, events_from, givens_from, log_of, record_of};
+ghost use Rattle.log_text.specs.Asking.{IsStart};
+ghost use Rattle.log_text.specs.Log.{Fails, Gives, IsListedEvent, IsListedGiven, events_from, givens_from, log_of, record_of};
 
 use crate::event::event_line;
 use crate::fault::LogFault;
@@ -17,14 +18,24 @@ pub const LONGEST_LOG: usize = 16_777_216;
 
 // The given lines, the number of the first line after them, and the text from there on.
 #[derive(Drop)]
-struct Start<'a> {
+struct Givens<'a> {
     givens: Vec<(u32, Given)>,
     next: u32,
     rest: &'a [u8],
 }
 
+/// A heap and its given lines, the number of the line after them, and the text from there on.
+#[derive(Drop)]
+pub struct Start<'a> {
+    pub base: u64,
+    pub pages: u32,
+    pub givens: Vec<(u32, Given)>,
+    pub next: u32,
+    pub rest: &'a [u8],
+}
+
 // The given lines of a text whose first line has this number.
-fn read_givens(alloc: Global, first: u32, text: &[u8]) -> Result<Start<'_>, LogFault>
+fn read_givens(alloc: Global, first: u32, text: &[u8]) -> Result<Givens<'_>, LogFault>
     requires { first + length text.now < 2 ^ 32 }
     ensures value { Gives (λ s. record { givens = s.givens.items; next = s.next; rest = lines_of s.rest.now })
         result (givens_from first (lines_of text.now)) }
@@ -38,12 +49,12 @@ fn read_givens(alloc: Global, first: u32, text: &[u8]) -> Result<Start<'_>, LogF
         match early_line(next, &line)? {
             Early::Passed => {}
             Early::Given(given) => givens.push((next, given))?,
-            Early::Event => return Ok(Start { givens, next, rest }),
+            Early::Event => return Ok(Givens { givens, next, rest }),
         }
         rest = after;
         next += 1;
     }
-    Ok(Start { givens, next, rest })
+    Ok(Givens { givens, next, rest })
 }
 
 // The events of a text whose first line has this number.
@@ -66,8 +77,28 @@ fn read_events(alloc: Global, first: u32, text: &[u8]) -> Result<Vec<(u32, Event
     Ok(list)
 }
 
-/// The log that a text of at most 16,777,216 bytes is, or its first fault.
+/// A text of at most 16,777,216 bytes up to its first event, or the first fault before that.
 #[tactic(auto, unfolding(crate::specs::Log::log_of))]
+pub fn read_start(alloc: Global, text: &[u8]) -> Result<Start<'_>, LogFault>
+    ensures start { IfOk result (IsStart text.now) }
+    ensures fails { IfErr result (λ fault. Fails fault (log_of text.now)) }
+    ensures few { IfOk result (λ start. start.next + length start.rest.now < 2 ^ 32) }
+{
+    if text.len() > LONGEST_LOG {
+        return Err(LogFault::Trace(TraceFault::TooLong));
+    }
+    let opening = read_heap(text)?;
+    let lines = read_givens(alloc, opening.next, opening.rest)?;
+    Ok(Start {
+        base: opening.base,
+        pages: opening.pages,
+        givens: lines.givens,
+        next: lines.next,
+        rest: lines.rest,
+    })
+}
+
+/// The log that a text of at most 16,777,216 bytes is, or its first fault.
 pub fn parse(alloc: Global, text: &[u8]) -> Result<Log, LogFault>
     ensures exact { Gives record_of result (log_of text.now) }
     ensures heap { IfOk result (λ log. IsHeap log.base log.pages) }
@@ -75,15 +106,11 @@ pub fn parse(alloc: Global, text: &[u8]) -> Result<Log, LogFault>
     ensures events { IfOk result (λ log. All IsListedEvent log.events.items) }
     ensures few { IfOk result (λ log. length log.events.items < 2 ^ 32) }
 {
-    if text.len() > LONGEST_LOG {
-        return Err(LogFault::Trace(TraceFault::TooLong));
-    }
-    let opening = read_heap(text)?;
-    let start = read_givens(alloc, opening.next, opening.rest)?;
+    let start = read_start(alloc, text)?;
     let events = read_events(alloc, start.next, start.rest)?;
     Ok(Log {
-        base: opening.base,
-        pages: opening.pages,
+        base: start.base,
+        pages: start.pages,
         givens: start.givens,
         events,
     })

@@ -124,6 +124,14 @@ impl<'a> Line<'a> {
         }
     }
 
+    /// The bytes of the line.
+    #[inline(always)]
+    pub fn bytes(&self) -> &'a [u8]
+        ensures { result.now ≡ self.now }
+    {
+        self.bytes
+    }
+
     // What follows the first `count` bytes.
     #[inline(always)]
     fn after(&self, count: usize) -> Line<'a>

@@ -1,0 +1,35 @@
+-- What events come to, one more at a time.
+use Rattle.std.specs.Prelude.{◌≤◌, ◌+◌, ◌<◌, ◌^◌}
+use Rattle.heap_reply.specs.declared.reply.Reply.{Reply}
+use Rattle.log_text.specs.declared.log.Event.{Event}
+use Rattle.log_text.specs.declared.log.Event.TheVariants.{Done, Seen}
+use Rattle.heap_log.specs.declared.verdict.Tally.{Tally}
+use Rattle.heap_log.specs.Judged.{blocks_told, passes_told, tags_told}
+
+-- With one more answer.
+abbrev pub counted : Tally → Reply → Tally
+counted tally answer = record {
+  tags = tally.tags + tags_told answer;
+  commands = tally.commands + 1;
+  blocks = tally.blocks + blocks_told answer;
+  passes = tally.passes + passes_told answer;
+}
+
+-- With one more event.
+abbrev pub counted_event : Tally → Event → Tally
+counted_event tally (Done command answer) = counted tally answer
+counted_event tally (Seen address tag bytes) = tally
+
+-- One more can be counted.
+pub record HasRoom (tally : Tally) : Type 0 where
+  pub tags : tally.tags + 2 ^ 32 ≤ 2 ^ 64
+  pub commands : tally.commands + 1 < 2 ^ 32
+  pub blocks : tally.blocks + 1 < 2 ^ 32
+  pub passes : tally.passes + 1 < 2 ^ 32
+
+-- One more was counted, at most.
+pub record Grows (before after : Tally) : Type 0 where
+  pub tags : after.tags < before.tags + 2 ^ 32
+  pub commands : after.commands ≤ before.commands + 1
+  pub blocks : after.blocks ≤ before.blocks + 1
+  pub passes : after.passes ≤ before.passes + 1

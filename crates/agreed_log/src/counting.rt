@@ -1,0 +1,72 @@
+//! What answers come to, one more at a time.
+
+ghost use Rattle.std.specs.Prelude.{◌≡◌, ◌≤◌};
+ghost use Rattle.heap_log.specs.Judged.{blocks_told, passes_told, tags_told};
+ghost use Rattle.agreed_log.specs.Counting.{Grows, HasRoom, counted, counted_event};
+
+use heap_log::Tally;
+use heap_reply::Reply;
+use log_text::Event;
+
+#[inline(always)]
+fn blocks_in(answer: &Reply) -> u32
+    ensures value { result ≡ blocks_told answer.now }
+    ensures few { result ≤ 1 }
+{
+    match *answer {
+        Reply::Block { .. } | Reply::BlockAfter { .. } => 1,
+        _ => 0,
+    }
+}
+
+#[inline(always)]
+fn passes_in(answer: &Reply) -> u32
+    ensures value { result ≡ passes_told answer.now }
+    ensures few { result ≤ 1 }
+{
+    match *answer {
+        Reply::BlockAfter { .. }
+        | Reply::NoSpaceAfter { .. }
+        | Reply::Swept { .. }
+        | Reply::Begun { .. } => 1,
+        _ => 0,
+    }
+}
+
+// The tags that the answer's pass took.
+#[inline(always)]
+fn tags_in(answer: &Reply) -> u32
+    ensures { result ≡ tags_told answer.now }
+{
+    match *answer {
+        Reply::BlockAfter { cleared, .. }
+        | Reply::NoSpaceAfter { cleared }
+        | Reply::Swept { cleared, .. }
+        | Reply::Begun { cleared } => cleared,
+        _ => 0,
+    }
+}
+
+/// Counts an answer.
+#[inline(always)]
+pub fn count(tally: &mut Tally, answer: &Reply)
+    requires room { HasRoom tally.old }
+    ensures value { tally.new ≡ counted tally.old answer.now }
+    ensures few { Grows tally.old tally.new }
+{
+    tally.tags += u64::from(tags_in(answer));
+    tally.commands += 1;
+    tally.blocks += blocks_in(answer);
+    tally.passes += passes_in(answer);
+}
+
+/// Counts an event: a granule that was read adds nothing.
+pub fn count_event(tally: &mut Tally, event: &Event)
+    requires room { HasRoom tally.old }
+    ensures value { tally.new ≡ counted_event tally.old event.now }
+    ensures few { Grows tally.old tally.new }
+{
+    if let Event::Done { answer, .. } = event {
+        count(tally, answer);
+    }
+}

@@ -1,0 +1,143 @@
+//! A log's lines, judged one after another.
+
+ghost use Rattle.std.specs.Prelude.{◌≡◌, ◌<◌, ◌+◌, ◌^◌, ℕ, [], length, IfSome};
+ghost use Rattle.trace_text.specs.Command.{IsValid};
+ghost use Rattle.trace_text.specs.Lines.{lines_of};
+ghost use Rattle.log_text.specs.declared.event.Asked.TheVariants as told_asked;
+ghost use Rattle.log_text.specs.Log.{IsValidAsked};
+ghost use Rattle.heap_machine.specs.Safety.{IsSafe};
+ghost use Rattle.heap_log.specs.Judged.{tally_of};
+ghost use Rattle.agreed_log.specs.Agreed.{HaveAgreed, IsAgreedLine, IsToldEvent};
+ghost use Rattle.agreed_log.specs.Counting.{Grows, HasRoom};
+
+use crate::comparing::is_told;
+use crate::counting::{count, count_event};
+use heap_log::{Tally, follow_event};
+use heap_machine::{Machine, answers};
+use log_text::{Asked, asked_line, event_told};
+use reply_text::ShortText;
+use std::alloc::Global;
+use std::thread::Threads;
+use sweep_pool::Open;
+use trace_text::{Command, Line, split_line};
+
+/// A machine that has done the events so far, what they come to, and room for the text of a reply.
+#[derive(Drop)]
+pub struct Judge {
+    pub machine: Machine,
+    pub tally: Tally,
+    pub text: ShortText,
+}
+
+impl Judge {
+    // Does a command, and compares its reply with what was told, which isn't read.
+    fn compare<R: Threads + Sync>(
+        &mut self,
+        rt: &R,
+        alloc: Global,
+        command: Command,
+        told: &Line<'_>,
+    ) -> Option<()>
+        requires valid { IsValid command }
+        requires safe { IsSafe self.old.machine.state }
+        requires room { HasRoom self.old.tally }
+        ensures event { IfSome result (λ done. IsToldEvent (told_asked.Command command) told.now self.old.machine.state self.new.machine.state self.old.tally self.new.tally) }
+        ensures few { IfSome result (λ done. Grows self.old.tally self.new.tally) }
+        ensures safe { IsSafe self.new.machine.state }
+    {
+        answers();
+        let Ok(reply) = self.machine.step(rt, alloc, command, &Open) else {
+            return None;
+        };
+        if !is_told(told, &reply, &mut self.text) {
+            return None;
+        }
+        count(&mut self.tally, &reply);
+        Some(())
+    }
+
+    // Reads what was told, and does it: a malloc's answer may name another place than a machine would, and a granule is
+    // looked at.
+    fn read<R: Threads + Sync>(
+        &mut self,
+        rt: &R,
+        alloc: Global,
+        asked: Asked,
+        told: &Line<'_>,
+    ) -> Option<()>
+        requires valid { IsValidAsked asked }
+        requires safe { IsSafe self.old.machine.state }
+        requires room { HasRoom self.old.tally }
+        ensures event { IfSome result (λ done. IsToldEvent asked told.now self.old.machine.state self.new.machine.state self.old.tally self.new.tally) }
+        ensures few { IfSome result (λ done. Grows self.old.tally self.new.tally) }
+        ensures safe { IsSafe self.new.machine.state }
+    {
+        let event = event_told(asked, told)?;
+        let Ok(None) = follow_event(rt, alloc, &mut self.machine, event) else {
+            return None;
+        };
+        count_event(&mut self.tally, &event);
+        Some(())
+    }
+
+    // Judges what was asked and told.
+    #[inline(always)]
+    fn event<R: Threads + Sync>(
+        &mut self,
+        rt: &R,
+        alloc: Global,
+        asked: Asked,
+        told: &Line<'_>,
+    ) -> Option<()>
+        requires valid { IsValidAsked asked }
+        requires safe { IsSafe self.old.machine.state }
+        requires room { HasRoom self.old.tally }
+        ensures event { IfSome result (λ done. IsToldEvent asked told.now self.old.machine.state self.new.machine.state self.old.tally self.new.tally) }
+        ensures few { IfSome result (λ done. Grows self.old.tally self.new.tally) }
+        ensures safe { IsSafe self.new.machine.state }
+    {
+        match asked {
+            Asked::Granule(_) | Asked::Command(Command::Malloc { .. }) => {
+                self.read(rt, alloc, asked, told)
+            }
+            Asked::Command(command) => self.compare(rt, alloc, command, told),
+        }
+    }
+
+    // Judges a line.
+    fn line<R: Threads + Sync>(&mut self, rt: &R, alloc: Global, line: &Line<'_>) -> Option<()>
+        requires safe { IsSafe self.old.machine.state }
+        requires room { HasRoom self.old.tally }
+        ensures line { IfSome result (λ done. IsAgreedLine line.now self.old.machine.state self.new.machine.state self.old.tally self.new.tally) }
+        ensures few { IfSome result (λ done. Grows self.old.tally self.new.tally) }
+        ensures safe { IsSafe self.new.machine.state }
+    {
+        let Some((asked, told)) = asked_line(line)? else {
+            return Some(());
+        };
+        self.event(rt, alloc, asked, &told)
+    }
+
+    /// Judges the lines of a text, of which the first has this number. None where one doesn't agree or isn't read.
+    pub fn lines<R: Threads + Sync>(
+        &mut self,
+        rt: &R,
+        alloc: Global,
+        first: u32,
+        text: &[u8],
+    ) -> Option<()>
+        requires safe { IsSafe self.old.machine.state }
+        requires fresh { self.old.tally ≡ tally_of [] }
+        requires few { first + length text.now < 2 ^ 32 }
+        ensures { IfSome result (λ done. (next : ℕ) × HaveAgreed first (lines_of text.now) next [] self.old.machine.state self.new.machine.state self.new.tally) }
+    {
+        let mut number = first;
+        let mut rest = text;
+        while let Some((line, after)) = split_line(rest) {
+            self.line(rt, alloc, &line)?;
+            rest = after;
+            number += 1;
+        }
+        Some(())
+    }
+}
