@@ -1,0 +1,36 @@
+//! The codec for C, C++ and Python, declared in `include/kernelstint.h`. Each function is one call of
+//! `cap_codec` over what crosses to C, and promises what that call promises.
+#![tactic(auto)]
+
+ghost use Rattle.std.specs.Prelude.{◌≡◌};
+ghost use Rattle.kernelstint.specs.Codes.{version};
+
+mod codes;
+mod crossing;
+mod decoding;
+mod making;
+mod words;
+
+pub use crate::crossing::{
+    CodedWord, HostBounds, HostCorrections, HostFields, HostLength, HostWord, NarrowedWord,
+};
+pub use crate::decoding::{
+    kernelstint_bounds_of, kernelstint_corrections_of, kernelstint_exponent_of,
+    kernelstint_is_allowed, kernelstint_representable,
+};
+pub use crate::making::{
+    kernelstint_alignment_mask, kernelstint_and_perms, kernelstint_block_capability,
+    kernelstint_representable_length, kernelstint_set_address, kernelstint_with_bounds,
+};
+pub use crate::words::{
+    kernelstint_fields_of, kernelstint_null_word, kernelstint_word_from_bytes,
+    kernelstint_word_of_fields, kernelstint_word_to_bytes,
+};
+
+/// The version of this library, 8 bits for each of its three parts.
+#[unsafe(no_mangle)]
+pub extern "C" fn kernelstint_version() -> u32
+    ensures { result ≡ version }
+{
+    0x00_0100
+}
