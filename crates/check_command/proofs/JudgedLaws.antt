@@ -1,5 +1,5 @@
 -- What is answered for a log, from what was found of it.
-use Rattle.std.proofs.Common.{◌≡◌, ◌<◌, ◌+◌, ◌++◌, ◌∙◌, ◌∷◌, ℕ, Bool, Err, IfOk, List, Ok, Result, ap, arith, false, get_or, length, subst, sym, take}
+use Rattle.std.proofs.Common.{◌≡◌, ◌<◌, ◌+◌, ◌++◌, ◌∙◌, ◌∷◌, ℕ, Bool, Err, IfOk, List, Ok, Result, ap, arith, false, get_or, length, refl, subst, sym, take}
 use Rattle.std.proofs.Math.Seq.{get_or-append_seam}
 use Rattle.std.proofs.lemmas.List.{length-append, take_at}
 use Rattle.command_line.specs.declared.asked.Refusal.{Refusal}
@@ -14,6 +14,7 @@ use Rattle.heap_log.specs.declared.verdict.Difference.{Difference}
 use Rattle.heap_log.specs.declared.verdict.Tally.{Tally}
 use Rattle.heap_log.specs.Judged.{AllFollow, DiffersAt, tally_of}
 use Rattle.trace_program.specs.declared.answer.Answer.{Answer}
+use Rattle.agreed_log.specs.Agreed.{IsAgreed}
 use Rattle.check_command.specs.declared.lines.Origin.{Origin}
 use Rattle.check_command.specs.Answer.{ComesFrom, IsJudged, IsLogAnswer, agrees, differs, due_shown, first_of, is_memory, judged, miscounts, names_fault}
 use Rattle.check_command.specs.Text.{agrees_line, differs_line, line_of_fault}
@@ -85,3 +86,10 @@ IsJudged-differs log line count difference from s event is_open text safe at com
     is ∙ ap (λ (e : Event). differs_line line e is_open from difference ++ due_shown (miscounts e difference) s) same
     ∙ ap (λ b. differs_line line at.event b from difference ++ due_shown (miscounts at.event difference) s) opened in
     subst (IsJudged log 5) (sym whole) (differs line count difference from s safe at comes)
+
+-- The text is found to agree in one pass.
+pub IsLogAnswer-agrees : (input : List ℕ) (tally : Tally) (r : Result Answer Refusal) → IsAgreed input tally
+    → IfOk r (λ answer. (answer.status ≡ 0) × (answer.text.items ≡ agrees_line tally)) → IfOk r (λ answer. IsLogAnswer input answer.status answer.text.items)
+IsLogAnswer-agrees input tally r is told =
+    let first = first_of is.log in
+    IsLogAnswer-judged input is.log r is.reads (IsJudged-line is.log 0 (agrees_line tally) r (IsJudged-agrees is.log first is.last tally refl is.safe (is.follow, is.tally_is)) told)

@@ -12,6 +12,7 @@ ghost use Rattle.check_command.specs.Answer.{ComesFrom, IsHeldFrom, IsJudged, Is
 
 use crate::due_lines::push_due_shown;
 use crate::lines::{Differing, Origin, agrees_text, differs_text, fault_text, unsafe_text};
+use agreed_log::agreed;
 use command_line::{Options, Refusal};
 use given_state::{Lack, StartFault, start};
 use heap_core::{Block, Claim};
@@ -211,6 +212,23 @@ fn log_answer<R: Threads + Sync>(
     }
 }
 
+// The answer for a text that is read as a whole: as a log, or as its first fault.
+fn read_answer<R: Threads + Sync>(
+    rt: &R,
+    alloc: Global,
+    text: &[u8],
+    cutting: Cutting,
+) -> Result<Answer, Refusal>
+    ensures ok { IfOk result (λ answer. IsLogAnswer text.now answer.status answer.text.items) }
+    ensures memory { IfErr result (λ refusal. refusal ≡ Refusal.Memory) }
+{
+    match parse(alloc, text) {
+        Ok(log) => log_answer(rt, alloc, &log, cutting),
+        Err(fault) if is_memory(&fault) => Err(Refusal::Memory),
+        Err(fault) => line_answer(3, fault_text(alloc, &fault)),
+    }
+}
+
 /// The answer for the text of a log, or the line of its fault.
 pub fn check_answer<R: Threads + Sync>(
     rt: &R,
@@ -222,10 +240,11 @@ pub fn check_answer<R: Threads + Sync>(
     ensures ok { IfOk result (λ answer. IsLogAnswer text.now answer.status answer.text.items) }
     ensures memory { IfErr result (λ refusal. refusal ≡ Refusal.Memory) }
 {
-    match parse(alloc, text) {
-        Ok(log) => log_answer(rt, alloc, &log, cutting_of(options)),
-        Err(fault) if is_memory(&fault) => Err(Refusal::Memory),
-        Err(fault) => line_answer(3, fault_text(alloc, &fault)),
+    let cutting = cutting_of(options);
+    // One pass finds that a log agrees. What a log lacks that doesn't is told by the events that were read.
+    match agreed(rt, alloc, text, cutting) {
+        Some(tally) => line_answer(0, agrees_text(alloc, tally)),
+        None => read_answer(rt, alloc, text, cutting),
     }
 }
 
