@@ -56,3 +56,24 @@ fn a_refused_allocation_of_a_sweep_changes_nothing(rt: HostRuntime) {
     assert_eq!(rt; reply, done);
     assert_eq!(rt; sums(&machine), (0, 0, 0, 0, 4096));
 }
+
+// The same without a runtime, whose step takes memory for the shadow and for the masks.
+#[test]
+fn a_refused_allocation_of_a_sweep_alone_changes_nothing(rt: HostRuntime) {
+    let Ok(mut machine) = held_machine(&rt, rt.alloc()) else {
+        return;
+    };
+    let before = sums(&machine);
+    assert_eq!(rt; before, (1, 1, 0, 32, 4064));
+    let mut reply = machine.step_alone(rt.alloc(), Command::Sweep, &Open);
+    if reply == Err(MachineFault::Memory) {
+        assert_eq!(rt; sums(&machine), before);
+        reply = machine.step_alone(rt.alloc(), Command::Sweep, &Open);
+    }
+    let done = Ok(Reply::Swept {
+        cleared: 2,
+        released: 32,
+    });
+    assert_eq!(rt; reply, done);
+    assert_eq!(rt; sums(&machine), (0, 0, 0, 0, 4096));
+}
