@@ -1,0 +1,5 @@
+pub mod Calls
+pub mod Judged
+pub mod LineCalls
+pub mod Records
+pub mod Runs

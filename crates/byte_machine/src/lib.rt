@@ -1,0 +1,24 @@
+//! The machine as calls on the bytes of its states.
+#![tactic(auto)]
+
+mod commands;
+mod fault;
+mod following;
+mod halves;
+mod lines;
+mod looking;
+mod machines;
+mod reasons;
+mod replies;
+mod runs;
+mod stepping;
+
+pub use crate::commands::{CommandRecord, command_of, record_of};
+pub use crate::fault::CallFault;
+pub use crate::following::follow;
+pub use crate::lines::{LONGEST_REPLY, step_line};
+pub use crate::looking::{CountRecord, WordRecord, counts, granule, register};
+pub use crate::reasons::{WhyRecord, why_record};
+pub use crate::replies::{ReplyRecord, reply_of, reply_record};
+pub use crate::runs::{put_whole, run_report, run_states};
+pub use crate::stepping::{first, state_length, step};

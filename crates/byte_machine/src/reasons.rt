@@ -1,0 +1,86 @@
+//! Why an answer isn't allowed, as a record of plain numbers.
+
+ghost use Rattle.std.specs.Prelude.{◌≡◌};
+ghost use Rattle.byte_machine.specs.Records as records;
+
+use crate::halves::{high_half, low_half};
+use crate::replies::{ReplyRecord, bare, reply_record};
+use heap_core::{Block, Claim};
+use heap_machine::Why;
+
+/// A reason in plain numbers. Kinds count from 0: must be `reply`, not of malloc, too short, may not sweep, takes `count`
+/// tags, refused. `claim` says why a place is refused, from 1: uneven, empty, outside, inexact, over a live block, over a
+/// held one. The block in the way lies from `base` to the top, of which `top_high` is what is above `2^64`.
+#[repr(C)]
+#[derive(Debug, Clone, Copy, PartialEq, Eq)]
+pub struct WhyRecord {
+    pub kind: u8,
+    pub claim: u8,
+    pub count: u32,
+    pub base: u64,
+    pub top: u64,
+    pub top_high: u64,
+    pub reply: ReplyRecord,
+}
+
+fn reason(kind: u8) -> WhyRecord
+    ensures { result ≡ records.reason kind }
+{
+    WhyRecord {
+        kind,
+        claim: 0,
+        count: 0,
+        base: 0,
+        top: 0,
+        top_high: 0,
+        reply: bare(0),
+    }
+}
+
+fn refused(claim: u8) -> WhyRecord
+    ensures { result ≡ records.refused claim }
+{
+    WhyRecord { claim, ..reason(5) }
+}
+
+fn in_the_way(claim: u8, block: Block) -> WhyRecord
+    ensures { result ≡ records.in_the_way claim block.base block.top }
+{
+    WhyRecord {
+        base: block.base,
+        top: low_half(block.top),
+        top_high: high_half(block.top),
+        ..refused(claim)
+    }
+}
+
+fn claim_record(claim: Claim) -> WhyRecord
+    ensures { result ≡ records.claim_told claim }
+{
+    match claim {
+        Claim::Claimed => refused(0),
+        Claim::Uneven => refused(1),
+        Claim::Empty => refused(2),
+        Claim::Outside => refused(3),
+        Claim::Inexact => refused(4),
+        Claim::OverLive(block) => in_the_way(5, block),
+        Claim::OverHeld(block) => in_the_way(6, block),
+    }
+}
+
+/// The record of a reason; what it doesn't tell is 0.
+pub fn why_record(why: Why) -> WhyRecord
+    ensures { result ≡ records.why_told why }
+{
+    match why {
+        Why::MustBe(reply) => WhyRecord {
+            reply: reply_record(reply),
+            ..reason(0)
+        },
+        Why::NotOfMalloc => reason(1),
+        Why::TooShort => reason(2),
+        Why::MayNotSweep => reason(3),
+        Why::Takes(count) => WhyRecord { count, ..reason(4) },
+        Why::Refused(claim) => claim_record(claim),
+    }
+}

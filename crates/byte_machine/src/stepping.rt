@@ -1,0 +1,93 @@
+//! The first state, and commands, from bytes to bytes.
+
+ghost use Rattle.std.specs.Prelude.{◌≡◌, ◌≢◌, ◌↔◌, IfErr, IfOk, MatchOption, OnErr, OnOk, Some, None, false, length, true};
+ghost use Rattle.heap_machine.specs.Follow.{Follows};
+ghost use Rattle.heap_machine.specs.Step.{Step};
+ghost use Rattle.state_bytes.specs.Text.{text_length};
+ghost use Rattle.tag_memory.specs.Extent as extent;
+ghost use Rattle.trace_text.specs.Command.{IsValid};
+ghost use Rattle.byte_machine.specs.Calls.{IsFirst, IsJudged, IsNotFirst, IsStep, IsUnreadable, LeadsTo};
+
+use crate::fault::CallFault;
+use crate::machines::{alone, machine_in, put_text};
+use heap_machine::{Followed, Machine, Reply};
+use state_bytes::exactness;
+use std::alloc::Global;
+use sweep_pool::Open;
+use tag_memory::{is_base, is_size};
+use trace_text::Command;
+
+// How long a state is beside what each page takes, and what that is.
+const LEAST: u64 = 557;
+
+const PAGE: u64 = 5377;
+
+/// How many bytes a state of so many pages has; nothing where no heap has so many.
+pub fn state_length(pages: u32) -> Option<usize>
+    ensures { MatchOption result (extent.is_size pages ≡ false) (λ length. (extent.is_size pages ≡ true) × (length ≡ text_length pages)) }
+{
+    if is_size(u64::from(pages)) {
+        Some((LEAST + PAGE * u64::from(pages)) as usize)
+    } else {
+        None
+    }
+}
+
+/// Writes the first state of a heap of so many pages at `base` into a room of its length.
+pub fn first(alloc: Global, base: u64, pages: u32, out: &mut [u8]) -> Result<(), CallFault>
+    ensures first { OnOk result (IsFirst base pages out.new) }
+    ensures still { OnErr result (out.new ≡ out.old) }
+    ensures fault { IfErr result (IsNotFirst base pages (length out.old)) }
+{
+    exactness();
+    let Some(length) = state_length(pages) else {
+        return Err(CallFault::BadSize);
+    };
+    if !is_base(base, u64::from(pages)) {
+        return Err(CallFault::BadBase);
+    }
+    if out.len() != length {
+        return Err(CallFault::Room);
+    }
+    let Ok(machine) = Machine::new(alloc, base, pages, alone()) else {
+        return Err(CallFault::Memory);
+    };
+    put_text(alloc, &machine, out)
+}
+
+// The machine after a step from a state, and the reply.
+fn stepped(alloc: Global, state: &[u8], command: Command) -> Result<(Machine, Reply), CallFault>
+    requires { IsValid command }
+    ensures leads { IfOk result (λ done. LeadsTo Step state.now command done.1 done.0) }
+    ensures room { IfOk result (λ done. text_length (length done.0.dirty) ≡ length state.now) }
+    ensures fault { IfErr result (IsUnreadable state.now) }
+{
+    let mut machine = machine_in(alloc, state)?;
+    let Ok(reply) = machine.step_alone(alloc, command, &Open) else {
+        return Err(CallFault::Memory);
+    };
+    Ok((machine, reply))
+}
+
+/// Does a command in the state that these bytes tell of, and writes the bytes of the state that it leaves into a room that
+/// is as long.
+pub fn step(
+    alloc: Global,
+    state: &[u8],
+    command: Command,
+    out: &mut [u8],
+) -> Result<Reply, CallFault>
+    requires { IsValid command }
+    ensures step { IfOk result (λ reply. IsStep state.now command reply out.new) }
+    ensures still { OnErr result (out.new ≡ out.old) }
+    ensures room { (result ≡ Err CallFault.Room) ↔ (length out.old ≢ length state.now) }
+    ensures fault { IfErr result (λ fault. fault ≢ CallFault.Room → IsUnreadable state.now fault) }
+{
+    exactness();
+    if out.len() != state.len() {
+        return Err(CallFault::Room);
+    }
+    let (machine, reply) = stepped(alloc, state, command)?;
+    put_text(alloc, &machine, out)?;
+    Ok(reply)
+}
