@@ -83,8 +83,7 @@ fn shown_record(shown: Shown) -> ReplyRecord
 }
 
 fn trap_number(trap: Trap) -> u8
-    ensures value { result ≡ records.trap_number trap }
-    ensures back { records.trap_numbered result ≡ Some trap }
+    ensures { result ≡ records.trap_number trap }
 {
     match trap {
         Trap::Tag => 0,
@@ -101,8 +100,7 @@ fn trap_number(trap: Trap) -> u8
 }
 
 fn trap_record(trap: Trap) -> ReplyRecord
-    ensures value { result ≡ records.trap_told trap }
-    ensures back { records.trap_numbered result.trap ≡ Some trap }
+    ensures { result ≡ records.trap_told trap }
 {
     ReplyRecord {
         trap: trap_number(trap),
@@ -111,10 +109,15 @@ fn trap_record(trap: Trap) -> ReplyRecord
 }
 
 /// The record of a reply; what it doesn't tell is 0.
-#[tactic(auto, unfolding(crate::specs::Records::reply_read))]
 pub fn reply_record(reply: Reply) -> ReplyRecord
     ensures value { result ≡ records.reply_told reply }
     ensures back { records.reply_read result ≡ Some reply }
+{
+    told(reply)
+}
+
+fn told(reply: Reply) -> ReplyRecord
+    ensures { result ≡ records.reply_told reply }
 {
     match reply {
         Reply::Block { base, top } => with_bounds(0, base, top),

@@ -17,5 +17,5 @@ returns-in-Ok-Agrees-clause-judged c = (
     revoked = c.in-Ok-Agrees.ensures.revoked (search rules);
   },
   room_after c.in_ok-machine.machine.state c.args.command c.in_ok-machine.machine.dirty c.follow_alone.new.self.dirty (length c.args.state.now)
-    (c.in-Ok-Agrees.ensures.dirty (search rules)) c.in_ok-machine.ensures.room,
+      (c.in-Ok-Agrees.ensures.dirty (search rules)) c.in_ok-machine.ensures.room,
 )
