@@ -6,7 +6,6 @@ use Rattle.trace_text.specs.declared.trace.Command.{Command}
 use Rattle.trace_text.specs.declared.trace.Command.TheVariants.{Malloc, Free, Copy, SetAddr, Narrow, AndPerm, StoreCap, LoadCap, Write, Show, Sweep, Begin, End}
 use Rattle.heap_reply.specs.declared.reply.Trap.{Trap}
 use Rattle.heap_machine.specs.Dirty.{dirty_after, dirty_by}
-use Rattle.heap_machine.specs.Parts.{MachineState}
 use Rattle.heap_machine.specs.State.{State, register}
 use Rattle.heap_machine.specs.Step.{checks, first_failed, index_in}
 use Rattle.state_bytes.specs.Text.{text_length}

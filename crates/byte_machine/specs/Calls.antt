@@ -15,7 +15,6 @@ use Rattle.heap_machine.specs.declared.followed.Why.{Why}
 use Rattle.heap_reply.specs.declared.reply.Reply.{Reply}
 use Rattle.state_bytes.specs.State.{IsState}
 use Rattle.state_bytes.specs.Text.{flag_byte, text_length, text_of}
-use Rattle.state_bytes.specs.declared.fault.BytesFault.{BytesFault}
 use Rattle.state_bytes.specs.declared.fault.BytesFault.TheVariants as bytes_fault
 use Rattle.tag_memory.specs.Cells.{register_at}
 use Rattle.tag_memory.specs.Extent.{is_base, is_size}

@@ -1,5 +1,5 @@
 -- Records of plain numbers, and what they tell.
-use Rattle.std.specs.Prelude.{◌≡◌, ◌+◌, ◌*◌, ◌/◌, ◌%◌, ◌^◌, ◌==◌, ℕ, Bool, true, false, List, Option, Some, None, nat_lt, if◌then◌else◌}
+use Rattle.std.specs.Prelude.{◌≡◌, ◌+◌, ◌*◌, ◌/◌, ◌%◌, ◌^◌, ◌==◌, ℕ, Bool, true, false, Option, Some, None, nat_lt, if◌then◌else◌}
 use Rattle.cap_codec.specs.Bytes.{bits_of_bytes, bytes_of}
 use Rattle.heap_core.specs.declared.block.Claim.{Claim}
 use Rattle.heap_core.specs.declared.block.Claim.TheVariants as claim
