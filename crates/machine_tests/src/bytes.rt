@@ -329,7 +329,7 @@ fn blocks_have_bounds_that_a_capability_can_hold(rt: HostRuntime) {
 fn changed_bytes_are_refused_or_are_another_state(rt: HostRuntime) {
     let alloc = rt.alloc();
     let machine = three_blocks(&rt, alloc);
-    let mut refused = 0;
+    let mut refused = 0u32;
     for k in 0..200usize {
         let mut bytes = bytes_of(&rt, alloc, &machine);
         let place = k * 37 % PAGE_BYTES;
@@ -337,7 +337,7 @@ fn changed_bytes_are_refused_or_are_another_state(rt: HostRuntime) {
         put_changed(&mut bytes, place, change);
         match decode(alloc, cutting(&rt), &bytes) {
             Ok(other) => assert!(rt; bytes_of(&rt, alloc, &other) == bytes, "byte {place}"),
-            Err(_) => refused += 1,
+            Err(_) => refused = refused.saturating_add(1),
         }
     }
     assert_eq!(rt; refused, 48);
