@@ -132,11 +132,7 @@ fn lengths_off_by_one_are_refused(rt: HostRuntime) {
         (LENGTH, LENGTH - 1, CallFault::Room),
         (LENGTH, LENGTH + 1, CallFault::Room),
         (LENGTH - 1, LENGTH, CallFault::Room),
-        (
-            LENGTH - 1,
-            LENGTH - 1,
-            CallFault::State(BytesFault::Length),
-        ),
+        (LENGTH - 1, LENGTH - 1, CallFault::State(BytesFault::Length)),
         (0, 0, CallFault::State(BytesFault::Length)),
     ];
     for (length, room, fault) in faults {
@@ -163,8 +159,14 @@ fn first_states_are_judged(rt: HostRuntime) {
     let alloc = rt.alloc();
     let mut out = room(&rt, alloc);
     assert_eq!(rt; first(alloc, BASE, 0, &mut out), Err(CallFault::BadSize));
-    assert_eq!(rt; first(alloc, BASE, 1_025, &mut out), Err(CallFault::BadSize));
-    assert_eq!(rt; first(alloc, BASE + 1, 1, &mut out), Err(CallFault::BadBase));
+    assert_eq!(rt;
+        first(alloc, BASE, 1_025, &mut out),
+        Err(CallFault::BadSize)
+    );
+    assert_eq!(rt;
+        first(alloc, BASE + 1, 1, &mut out),
+        Err(CallFault::BadBase)
+    );
     assert_eq!(rt; first(alloc, BASE, 2, &mut out), Err(CallFault::Room));
     assert!(rt; out.iter().all(|byte| *byte == 0x55));
 }
@@ -208,7 +210,10 @@ fn one_answer_is_told(rt: HostRuntime) {
         return;
     };
     let differs = Ok(Followed::Differs(Why::MustBe(Reply::Done)));
-    assert_eq!(rt; follow(alloc, &state, command, Reply::NoSpace, &mut out), differs);
+    assert_eq!(rt;
+        follow(alloc, &state, command, Reply::NoSpace, &mut out),
+        differs
+    );
     let short = follow(alloc, &state[1..], command, Reply::Done, &mut out);
     assert_eq!(rt; short, Err(CallFault::Room));
 }
@@ -233,10 +238,19 @@ fn other_lines_are_refused(rt: HostRuntime) {
     let mut out = room(&rt, alloc);
     let mut text = [b'.'; 200];
     let lines = [
-        (b"malloc c1".as_slice(), CallFault::Line(LineFault::BadCount)),
+        (
+            b"malloc c1".as_slice(),
+            CallFault::Line(LineFault::BadCount),
+        ),
         (b"frob".as_slice(), CallFault::Line(LineFault::BadCommand)),
-        (b"show c32".as_slice(), CallFault::Line(LineFault::BadRegister)),
-        (b"sweep\n".as_slice(), CallFault::Line(LineFault::BadCommand)),
+        (
+            b"show c32".as_slice(),
+            CallFault::Line(LineFault::BadRegister),
+        ),
+        (
+            b"sweep\n".as_slice(),
+            CallFault::Line(LineFault::BadCommand),
+        ),
         (b" # sweep".as_slice(), CallFault::PassedOver),
         (b"".as_slice(), CallFault::PassedOver),
     ];

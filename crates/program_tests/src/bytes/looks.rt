@@ -84,7 +84,8 @@ fn texts_are_run(rt: HostRuntime) {
     let wanted = "2 malloc block 0x40000000 0x40000020\nend live 32 held 0 free 4064 tags 1\n";
     assert_eq!(rt; report.as_slice(), wanted.as_bytes());
     let told = run_states(alloc, b"heap 0x40000000 1\n").expect(&rt, "it is a trace");
-    let wanted = "{\"heap\":{\"base\":\"0x40000000\",\"pages\":1}}\n{\"end\":{\"live\":0,\"held\":0,\"free\":4096,\"tags\":0}}\n";
+    let wanted =
+        "{\"heap\":{\"base\":\"0x40000000\",\"pages\":1}}\n{\"end\":{\"live\":0,\"held\":0,\"free\":4096,\"tags\":0}}\n";
     assert_eq!(rt; told.as_slice(), wanted.as_bytes());
 }
 

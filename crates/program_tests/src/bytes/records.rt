@@ -12,7 +12,10 @@ use trace_text::Command;
 fn commands_are_read(rt: HostRuntime) {
     let rows = [
         // A second register isn't looked at where there is none.
-        (record(0, 1, 255, 20), Some(Command::Malloc { rd: 1, size: 20 })),
+        (
+            record(0, 1, 255, 20),
+            Some(Command::Malloc { rd: 1, size: 20 }),
+        ),
         (record(0, 32, 0, 20), None),
         (record(2, 1, 32, 0), None),
         (
@@ -141,5 +144,8 @@ fn reasons_are_told(rt: HostRuntime) {
     };
     let told = why_record(Why::Refused(Claim::OverHeld(block)));
     assert_eq!(rt; (told.kind, told.claim), (5, 6));
-    assert_eq!(rt; (told.base, told.top, told.top_high), (0x4000_0100, 0x4000_0140, 0));
+    assert_eq!(rt;
+        (told.base, told.top, told.top_high),
+        (0x4000_0100, 0x4000_0140, 0)
+    );
 }
