@@ -46,13 +46,15 @@ impl Judge {
         ensures safe { IsSafe self.new.machine.state }
     {
         answers();
-        let Ok(reply) = self.machine.step(rt, alloc, command, &Open) else {
+        let stepped = self.machine.step(rt, alloc, command, &Open);
+        // Where it lies: a copy of a reply that was just written waits for the cache.
+        let Ok(reply) = &stepped else {
             return None;
         };
-        if !is_told(told, &reply, &mut self.text) {
+        if !is_told(told, reply, &mut self.text) {
             return None;
         }
-        count(&mut self.tally, &reply);
+        count(&mut self.tally, reply);
         Some(())
     }
 

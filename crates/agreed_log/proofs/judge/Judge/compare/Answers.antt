@@ -1,11 +1,14 @@
-use Rattle.std.proofs.Common.{rules}
+use Rattle.std.proofs.Common.{IfOk, rules, subst}
+use Rattle.heap_machine.specs.Step.{Step}
 use Rattle.agreed_log.proofs.AgreedLaws.{IsToldEvent-command}
 use Rattle.agreed_log.proofs.judge.Judge.compare.Goals as goal
 
 pub returns-clause-event : goal.returns-clause-event
 returns-clause-event g c =
     let old = c.args.self.now.machine.state in
-    let new = c.step.new.self.state in
-    let follows = c.answers.ensures.steps old c.args.command c.in-Ok.reply new c.requires.safe c.in-Ok.ensures.step in
-    IsToldEvent-command c.args.command c.args.told.now c.in-Ok.reply old new c.args.self.now.tally c.count.new.tally
+    let new = c.step-stepped.new.self.state in
+    let reply = c.in-Ok.reply in
+    let step = subst (λ r. IfOk r (λ reply. Step old c.args.command reply new)) c.in-Ok.is c.step-stepped.ensures.step in
+    let follows = c.answers.ensures.steps old c.args.command reply new c.requires.safe step in
+    IsToldEvent-command c.args.command c.args.told.now reply old new c.args.self.now.tally c.count.new.tally
     (c.is_told.ensures (search rules)) follows c.count.ensures.value
