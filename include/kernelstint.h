@@ -30,7 +30,7 @@ extern "C" {
 
 /* The version as one number, 8 bits for each part. */
 #define KERNELSTINT_VERSION \
-    ((uint32_t)(KERNELSTINT_VERSION_MAJOR << 16 | KERNELSTINT_VERSION_MINOR << 8 | KERNELSTINT_VERSION_PATCH))
+    (KERNELSTINT_VERSION_MAJOR * 0x10000u + KERNELSTINT_VERSION_MINOR * 0x100u + KERNELSTINT_VERSION_PATCH)
 
 /*
  * The version of the library that is linked or loaded: KERNELSTINT_VERSION of its own header. A program that loads a
