@@ -1,5 +1,6 @@
-//! The codec for C, C++ and Python, declared in `include/kernelstint.h`. Each function is one call of
-//! `cap_codec` over what crosses to C, and promises what that call promises.
+//! The codec and the machine for C, C++ and Python, declared in `include/kernelstint.h`. Each function is one
+//! call of `cap_codec` or of `byte_machine` over what crosses to C, and promises what that call promises. Those
+//! whose names begin with `kernelstint_proved_` are called by `bindings/c/machine.c`, which tests pointers first.
 #![tactic(auto)]
 
 ghost use Rattle.std.specs.Prelude.{◌≡◌};
@@ -8,6 +9,8 @@ ghost use Rattle.kernelstint.specs.Codes.{version};
 mod codes;
 mod crossing;
 mod decoding;
+mod looks;
+mod machine;
 mod making;
 mod words;
 
@@ -17,6 +20,13 @@ pub use crate::crossing::{
 pub use crate::decoding::{
     kernelstint_bounds_of, kernelstint_corrections_of, kernelstint_exponent_of,
     kernelstint_is_allowed, kernelstint_representable,
+};
+pub use crate::looks::{
+    kernelstint_proved_counts, kernelstint_proved_granule, kernelstint_proved_register,
+};
+pub use crate::machine::{
+    kernelstint_proved_first, kernelstint_proved_follow, kernelstint_proved_step,
+    kernelstint_proved_step_line, kernelstint_state_length,
 };
 pub use crate::making::{
     kernelstint_alignment_mask, kernelstint_and_perms, kernelstint_block_capability,

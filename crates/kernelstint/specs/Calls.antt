@@ -1,0 +1,83 @@
+-- Calls on the bytes of states, whose commands, replies and reasons are records, and which answer codes.
+use Rattle.std.specs.Prelude.{◌≡◌, ◌<◌, ◌++◌, ℕ, List, Some, Err, drop, length}
+use Rattle.byte_machine.specs.Calls.{IsStep, Leads, Refuses}
+use Rattle.byte_machine.specs.Records.{IsRead, reply_read, reply_told, why_told}
+use Rattle.byte_machine.specs.declared.commands.CommandRecord.{CommandRecord}
+use Rattle.byte_machine.specs.declared.fault.CallFault.{CallFault}
+use Rattle.byte_machine.specs.declared.fault.CallFault.TheVariants as fault
+use Rattle.byte_machine.specs.declared.reasons.WhyRecord.{WhyRecord}
+use Rattle.byte_machine.specs.declared.replies.ReplyRecord.{ReplyRecord}
+use Rattle.heap_machine.specs.Follow.{Follows}
+use Rattle.heap_machine.specs.declared.followed.Why.{Why}
+use Rattle.heap_reply.specs.declared.reply.Reply.{Reply}
+use Rattle.trace_text.specs.Reading.{trace_of}
+use Rattle.trace_text.specs.declared.fault.TraceFault.{TraceFault}
+use Rattle.trace_text.specs.declared.trace.Command.{Command}
+use Rattle.kernelstint.specs.Codes.{bad_address, bad_base, bad_line, bad_register, bad_room, bad_size, bad_state, no_memory, passed_over, short_text}
+
+-- The code of each reason for which a call gives no answer.
+abbrev pub call_code : CallFault → ℕ
+call_code fault.Memory = no_memory
+call_code fault.Room = bad_room
+call_code (fault.State why) = bad_state
+call_code fault.BadSize = bad_size
+call_code fault.BadBase = bad_base
+call_code fault.Register = bad_register
+call_code fault.Address = bad_address
+call_code fault.TextRoom = short_text
+call_code fault.PassedOver = passed_over
+call_code (fault.Line why) = bad_line
+
+-- A call gave no answer for a reason that holds and has this code.
+pub record HasFault (Holds : CallFault → Type 0) (code : ℕ) : Type 0 where
+  pub fault : CallFault
+  pub holds : Holds fault
+  pub code_is : code ≡ call_code fault
+
+-- The command of a record leads from the old bytes to the new ones, with the reply of a record.
+pub record IsHostStep (old : List ℕ) (given : CommandRecord) (told : ReplyRecord) (new : List ℕ) : Type 0 where
+  pub command : Command
+  pub reply : Reply
+  pub command_is : IsRead given (Some command)
+  pub reply_is : told ≡ reply_told reply
+  pub step : IsStep old command reply new
+
+-- The command and the answer of two records.
+pub record AreRead (given : CommandRecord) (answered : ReplyRecord) (command : Command) (answer : Reply) : Type 0 where
+  pub command_is : IsRead given (Some command)
+  pub answer_is : reply_read answered ≡ Some answer
+
+-- The command of a record may be answered by that of another, and then leads from the old bytes to the new ones.
+pub record IsHostFollow (old : List ℕ) (given : CommandRecord) (answered : ReplyRecord) (new : List ℕ) : Type 0 where
+  pub command : Command
+  pub answer : Reply
+  pub read : AreRead given answered command answer
+  pub follows : Leads Follows old command answer new
+
+-- It may not be, for the reason of a third.
+pub record IsHostRefusal (old : List ℕ) (given : CommandRecord) (answered : ReplyRecord) (told : WhyRecord) : Type 0 where
+  pub command : Command
+  pub answer : Reply
+  pub reason : Why
+  pub read : AreRead given answered command answer
+  pub refused : Refuses old command answer reason
+  pub told_is : told ≡ why_told reason
+
+-- All of a text was written where a room begins, in so many bytes.
+pub record IsWritten (IsText : List ℕ → Type 0) (before after : List ℕ) (count : ℕ) : Type 0 where
+  pub text : List ℕ
+  pub text_is : IsText text
+  pub count_is : count ≡ length text
+  pub after_is : after ≡ text ++ drop (length text) before
+
+-- A text has so many bytes, which are more than a room has.
+pub record IsTooLong (IsText : List ℕ → Type 0) (room count : ℕ) : Type 0 where
+  pub text : List ℕ
+  pub text_is : IsText text
+  pub count_is : count ≡ length text
+  pub longer : room < count
+
+-- A text is no trace.
+pub record IsFaulty (text : List ℕ) : Type 0 where
+  pub fault : TraceFault
+  pub fault_is : trace_of text ≡ Err fault
