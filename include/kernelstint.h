@@ -1,11 +1,12 @@
 /*
- * Kernelstint for C11 and C++: capability words of 64-bit CHERI-RISC-V (CHERI Concentrate).
+ * Kernelstint for C11 and C++: capability words of 64-bit CHERI-RISC-V (CHERI Concentrate), and a machine whose heap is safe
+ * in time, as calls on the bytes of its states.
  *
  * What is proved: each function below answers as its comment says, for every argument that C can pass by value, and
  * returns. The functions are the exports of the crate kernelstint of the repository, whose contracts say it in full.
- * What is trusted: that this header declares them as they are, which tests try; the compilers; and, once a function
- * takes memory, the ten lines of bindings/c/allocator.c and the program's malloc, realloc and free. No function of this
- * version takes memory.
+ * What is trusted: that this header declares them as they are, which tests try; the compilers; bindings/c/machine.c, which
+ * tests pointers before it calls an export; and, for the functions of the machine, which take memory, the ten lines of
+ * bindings/c/allocator.c and the program's malloc, realloc and free.
  *
  * No function keeps a state, waits or prints, and each may be called by any thread at any time.
  *
@@ -47,6 +48,38 @@ uint32_t kernelstint_version(void);
 #define KERNELSTINT_BAD_FIELDS 2u
 /* The bounds end before they begin, or past 2^64. */
 #define KERNELSTINT_BAD_BOUNDS 3u
+/* A pointer is null. */
+#define KERNELSTINT_NULL 4u
+/* The room for a state is not as long as that state. */
+#define KERNELSTINT_BAD_ROOM 5u
+/* The bytes are no state's. */
+#define KERNELSTINT_BAD_STATE 6u
+/* No heap has so many pages: 1 to 1,024. */
+#define KERNELSTINT_BAD_SIZE 7u
+/* The base is no multiple of 4,096, or the end of the heap is past 2^64. */
+#define KERNELSTINT_BAD_BASE 8u
+/* A register of 32 or more. */
+#define KERNELSTINT_BAD_REGISTER 9u
+/* No granule starts at the address. */
+#define KERNELSTINT_BAD_ADDRESS 10u
+/* The room for a text is too short. */
+#define KERNELSTINT_SHORT_TEXT 11u
+/* The line has no word, or is a comment. */
+#define KERNELSTINT_PASSED_OVER 12u
+/* The line is no command. */
+#define KERNELSTINT_BAD_LINE 13u
+/* malloc answered null. */
+#define KERNELSTINT_NO_MEMORY 14u
+/* No kind of command has this number, a register is 32 or more, or a mask has more than 16 bits. */
+#define KERNELSTINT_BAD_COMMAND 15u
+/* No kind of reply or no trap has this number, or a tag is above 1. */
+#define KERNELSTINT_BAD_REPLY 16u
+/* The answer is not allowed. */
+#define KERNELSTINT_DIFFERS 17u
+/* The text is no trace. */
+#define KERNELSTINT_BAD_TRACE 18u
+/* Two places lie over one another, of which one is written. */
+#define KERNELSTINT_OVERLAP 19u
 
 /* ---- Permissions, each by its bit ---- */
 
@@ -194,6 +227,202 @@ kernelstint_length kernelstint_representable_length(uint64_t length);
  * below 4,096.
  */
 uint64_t kernelstint_alignment_mask(uint64_t length);
+
+/* ---- The machine: states as bytes ---- */
+
+/*
+ * A state is plain bytes: a heap of 1 to 1,024 pages of 4,096 bytes, its blocks, 32 registers and its dirty pages. It holds no
+ * pointer, is written by these functions alone, and two states are the same exactly where their bytes are. A heap of so many
+ * pages has states of one length, kernelstint_state_length(pages).
+ *
+ *     at                          bytes  what
+ *     0                           8      the base of the heap, as all numbers here little endian
+ *     8                           4      how many pages it has
+ *     12                          1      1 where an epoch is open, else 0
+ *     KERNELSTINT_GRANULE_AT(i)   21     granule i, at base + 16 * i: its 16 bytes, its tag (0 or 1), and a number of 4 bytes, which
+ *                                        is 0 where no block starts there, else the block's length plus 1 (live), 2 (freed, and
+ *                                        not yet painted) or 3 (freed and painted)
+ *     KERNELSTINT_REGISTER_AT     17     register r: its 16 bytes, and its tag (0 or 1); register 0 is null
+ *     KERNELSTINT_PAGE_AT         1      page p: 1 where it is dirty, else 0
+ *
+ * A heap of n pages has the granules 0 to 256 * n - 1. These functions take any bytes, and answer KERNELSTINT_BAD_STATE for
+ * those that are no state's.
+ *
+ * Conditions, where a function is given pointers: at each can be read, or written where the function writes, as many bytes as
+ * the length beside it says, or one struct, and nothing else writes or reads there meanwhile. A null pointer is answered by
+ * KERNELSTINT_NULL, also beside a length of 0, and places that lie over one another, of which one is written, by
+ * KERNELSTINT_OVERLAP. Where the code is not 0, nothing is written but what the function's comment names. Each function takes
+ * memory from malloc while it runs, and answers KERNELSTINT_NO_MEMORY where it gets none.
+ */
+#define KERNELSTINT_GRANULES(pages) ((size_t)256 * (pages))
+#define KERNELSTINT_GRANULE_AT(i) ((size_t)13 + (size_t)21 * (i))
+#define KERNELSTINT_REGISTER_AT(pages, r) (KERNELSTINT_GRANULE_AT(KERNELSTINT_GRANULES(pages)) + (size_t)17 * (r))
+#define KERNELSTINT_PAGE_AT(pages, p) (KERNELSTINT_REGISTER_AT(pages, 32) + (p))
+/* Where in a granule or a register its tag is, and in a granule the number of the block that starts there. */
+#define KERNELSTINT_TAG_IN 16
+#define KERNELSTINT_BLOCK_IN 17
+
+/* The kinds of commands, with what each uses. */
+#define KERNELSTINT_MALLOC 0 /* malloc first, number: a block of `number` bytes, its capability to register `first` */
+#define KERNELSTINT_FREE 1 /* free first */
+#define KERNELSTINT_COPY 2 /* copy first, second: register `second` to register `first` */
+#define KERNELSTINT_SETADDR 3 /* setaddr first, second, number: an address */
+#define KERNELSTINT_NARROW 4 /* narrow first, second, number: a length */
+#define KERNELSTINT_ANDPERM 5 /* andperm first, second, number: a mask of 16 bits */
+#define KERNELSTINT_STORECAP 6 /* storecap first, second: register `second` to where `first` points */
+#define KERNELSTINT_LOADCAP 7 /* loadcap first, second: what lies where `second` points to register `first` */
+#define KERNELSTINT_WRITE 8 /* write first: the 16 bytes of low and high to where `first` points */
+#define KERNELSTINT_SHOW 9 /* show first */
+#define KERNELSTINT_SWEEP 10 /* sweep */
+#define KERNELSTINT_BEGIN 11 /* begin */
+#define KERNELSTINT_END 12 /* end */
+
+/* A command. The registers stand in the order of a trace's line; what a kind does not use is not looked at. */
+typedef struct kernelstint_command {
+    uint8_t kind;
+    uint8_t first;   /* a register */
+    uint8_t second;  /* a register */
+    uint64_t number; /* a size, an address, a length or a mask */
+    uint64_t low;    /* the first eight bytes of a write, little endian */
+    uint64_t high;   /* the last eight */
+} kernelstint_command;
+
+/* The kinds of replies, with what each tells. */
+#define KERNELSTINT_BLOCK 0 /* a block: base, top */
+#define KERNELSTINT_BLOCK_AFTER 1 /* the same after a sweep: base, top, cleared */
+#define KERNELSTINT_NO_SPACE 2 /* no space */
+#define KERNELSTINT_NO_SPACE_AFTER 3 /* no space after a sweep: cleared */
+#define KERNELSTINT_HELD 4 /* a block is held: bytes, how many are held now */
+#define KERNELSTINT_REPLY_DONE 5 /* done */
+#define KERNELSTINT_CLEARED 6 /* a tag was cleared */
+#define KERNELSTINT_SWEPT 7 /* a sweep: cleared, and bytes, how many were released */
+#define KERNELSTINT_BEGUN 8 /* an epoch is open: cleared */
+#define KERNELSTINT_SHOWN 9 /* a register: base, top, address, otype, perms, tag, exponent */
+#define KERNELSTINT_TRAP 10 /* a trap: trap */
+
+/* The traps. */
+#define KERNELSTINT_TRAP_TAG 0
+#define KERNELSTINT_TRAP_PERM 1
+#define KERNELSTINT_TRAP_BOUNDS 2
+#define KERNELSTINT_TRAP_ALIGN 3
+#define KERNELSTINT_TRAP_EMPTY 4
+#define KERNELSTINT_TRAP_INEXACT 5
+#define KERNELSTINT_TRAP_FREED 6
+#define KERNELSTINT_TRAP_NOT_BLOCK 7
+#define KERNELSTINT_TRAP_OPEN 8
+#define KERNELSTINT_TRAP_NOT_OPEN 9
+
+/* A reply; what its kind does not tell is 0. */
+typedef struct kernelstint_reply {
+    uint8_t kind;
+    uint8_t trap;
+    uint8_t tag; /* 1 or 0 */
+    uint8_t exponent;
+    uint16_t perms;
+    uint32_t cleared; /* how many tags a sweep cleared */
+    uint32_t otype;
+    uint64_t base;
+    uint64_t top;      /* the top's lower 64 bits */
+    uint64_t top_high; /* what is above: the top is top + 2^64 * top_high */
+    uint64_t address;
+    uint64_t bytes; /* held, or released */
+} kernelstint_reply;
+
+/* Why an answer is not allowed, with what each tells. */
+#define KERNELSTINT_WHY_MUST_BE 0 /* the answer must be `reply` */
+#define KERNELSTINT_WHY_NOT_OF_MALLOC 1 /* no malloc is answered so */
+#define KERNELSTINT_WHY_TOO_SHORT 2 /* the block is shorter than asked */
+#define KERNELSTINT_WHY_MAY_NOT_SWEEP 3 /* the allocator may not sweep now */
+#define KERNELSTINT_WHY_TAKES 4 /* the sweep takes `count` tags */
+#define KERNELSTINT_WHY_REFUSED 5 /* the block's place is refused, for the reason `claim` */
+
+/* Why a block's place is refused: for the last two, with the bounds of the block that is in the way. */
+#define KERNELSTINT_CLAIM_UNEVEN 1
+#define KERNELSTINT_CLAIM_EMPTY 2
+#define KERNELSTINT_CLAIM_OUTSIDE 3
+#define KERNELSTINT_CLAIM_INEXACT 4
+#define KERNELSTINT_CLAIM_OVER_LIVE 5
+#define KERNELSTINT_CLAIM_OVER_HELD 6
+
+typedef struct kernelstint_why {
+    uint8_t kind;
+    uint8_t claim;
+    uint32_t count;
+    uint64_t base; /* the block in the way */
+    uint64_t top;
+    uint64_t top_high;
+    kernelstint_reply reply;
+} kernelstint_why;
+
+/* How many bytes lie in live blocks, in freed ones that are held, and in none; and 1 where an epoch is open, else 0. */
+typedef struct kernelstint_counts_of {
+    uint64_t live;
+    uint64_t held;
+    uint64_t free;
+    uint8_t is_open;
+} kernelstint_counts_of;
+
+/* 16 bytes with a tag, as register and granule tell them: the numbers of the first eight and the last eight. */
+typedef struct kernelstint_tagged_word {
+    uint64_t low;
+    uint64_t high;
+    uint8_t tag;
+} kernelstint_tagged_word;
+
+/* How many bytes a state of so many pages has: 5,377 a page and 557. 0 where no heap has so many pages. */
+size_t kernelstint_state_length(uint32_t pages);
+
+/*
+ * Writes the first state of a heap of so many pages at `base`: zero, untagged, without a block. KERNELSTINT_BAD_SIZE,
+ * KERNELSTINT_BAD_BASE or KERNELSTINT_BAD_ROOM where it can't: the first of these that is so.
+ */
+uint32_t kernelstint_first(uint64_t base, uint32_t pages, uint8_t *out, size_t out_length);
+
+/*
+ * Does a command in a state, and writes the state that it leaves to `out`, which is as long, and the reply. A trap is a reply.
+ * KERNELSTINT_BAD_COMMAND, KERNELSTINT_BAD_ROOM or KERNELSTINT_BAD_STATE.
+ */
+uint32_t kernelstint_step(const uint8_t *state, size_t length, kernelstint_command command, uint8_t *out, size_t out_length,
+                          kernelstint_reply *reply);
+
+/*
+ * Judges what an allocator answered to a command, which may place blocks as it likes. Where that is allowed, the state that it
+ * leaves is written to `out`, which is as long as the state; else the answer is KERNELSTINT_DIFFERS, and the reason is written to
+ * `why` alone. KERNELSTINT_BAD_COMMAND, KERNELSTINT_BAD_REPLY, KERNELSTINT_BAD_ROOM or KERNELSTINT_BAD_STATE.
+ */
+uint32_t kernelstint_follow(const uint8_t *state, size_t length, kernelstint_command command, kernelstint_reply answer,
+                            uint8_t *out, size_t out_length, kernelstint_why *why);
+
+/* The most bytes that the text of a reply has, for which kernelstint_step_line wants room. */
+#define KERNELSTINT_LONGEST_REPLY 200
+
+/*
+ * Does the command of a line of a trace, without its line feed, as kernelstint_step does; writes the text of the reply, as a
+ * report has it, without an end, where `text` begins, and its length to `count`. KERNELSTINT_SHORT_TEXT where text_length is
+ * below KERNELSTINT_LONGEST_REPLY; KERNELSTINT_PASSED_OVER, KERNELSTINT_BAD_LINE, KERNELSTINT_BAD_ROOM or KERNELSTINT_BAD_STATE.
+ */
+uint32_t kernelstint_step_line(const uint8_t *state, size_t length, const uint8_t *line, size_t line_length, uint8_t *out,
+                               size_t out_length, uint8_t *text, size_t text_length, size_t *count);
+
+/* Writes the counts of a state. KERNELSTINT_BAD_STATE. */
+uint32_t kernelstint_counts(const uint8_t *state, size_t length, kernelstint_counts_of *counts);
+
+/* Writes what register `number` of a state holds. KERNELSTINT_BAD_REGISTER or KERNELSTINT_BAD_STATE. */
+uint32_t kernelstint_register(const uint8_t *state, size_t length, uint8_t number, kernelstint_tagged_word *word);
+
+/* Writes what the granule of a state holds that starts at this address. KERNELSTINT_BAD_ADDRESS or KERNELSTINT_BAD_STATE. */
+uint32_t kernelstint_granule(const uint8_t *state, size_t length, uint64_t address, kernelstint_tagged_word *word);
+
+/* ---- Whole traces ---- */
+
+/*
+ * Runs the trace that a text is, and writes its report where `out` begins and the report's length to `count`.
+ * KERNELSTINT_SHORT_TEXT where out_length is below that length, which alone is written. KERNELSTINT_BAD_TRACE.
+ */
+uint32_t kernelstint_run(const uint8_t *trace, size_t length, uint8_t *out, size_t out_length, size_t *count);
+
+/* The same of the states of a trace, as the JSON that heap_states prints. */
+uint32_t kernelstint_states(const uint8_t *trace, size_t length, uint8_t *out, size_t out_length, size_t *count);
 
 #ifdef __cplusplus
 }

@@ -1,4 +1,5 @@
-"""Capability words of 64-bit CHERI-RISC-V (CHERI Concentrate), decoded and made by the proved library libkernelstint.so.
+"""Capability words of 64-bit CHERI-RISC-V (CHERI Concentrate), and a machine whose heap is safe in time, by the proved library
+libkernelstint.so.
 
     >>> from kernelstint import Permission, block_capability
     >>> block = block_capability(0x40000000, 0x40000020)
@@ -20,11 +21,13 @@ import enum
 import operator
 import os
 import pathlib
-from typing import NamedTuple, Tuple
+from typing import NamedTuple, Tuple, Union
 
 __all__ = [
-    "BadBounds", "BadFields", "BadLength", "BadNumber", "Corrections", "Error", "Fields", "LibraryError", "NULL", "Permission",
-    "VERSION", "Word", "alignment_mask", "block_capability", "representable_length",
+    "BadAddress", "BadBase", "BadBounds", "BadCommand", "BadFields", "BadLength", "BadLine", "BadNumber", "BadRegister",
+    "BadReply", "BadSize", "BadState", "BadTrace", "Claim", "Command", "CommandKind", "Corrections", "Differs", "Error", "Fields",
+    "LibraryError", "NULL", "NoMemory", "PassedOver", "Permission", "Reply", "ReplyKind", "State", "TaggedWord", "Trap",
+    "VERSION", "Why", "WhyKind", "Word", "alignment_mask", "block_capability", "representable_length", "run", "states",
 ]  # fmt: skip
 
 #: The version of the library that this file is for: major, minor, patch.
@@ -55,6 +58,58 @@ class BadNumber(Error, ValueError):
     """A number is below 0, or has more bits than are passed of it."""
 
 
+class BadState(Error, ValueError):
+    """Bytes are no state's."""
+
+
+class BadSize(Error, ValueError):
+    """No heap has so many pages: 1 to 1,024."""
+
+
+class BadBase(Error, ValueError):
+    """The base is no multiple of 4,096, or the end of the heap is past 2^64."""
+
+
+class BadRegister(Error, ValueError):
+    """A register of 32 or more."""
+
+
+class BadAddress(Error, ValueError):
+    """No granule starts at the address."""
+
+
+class PassedOver(Error, ValueError):
+    """A line has no word, or is a comment, and so is no command."""
+
+
+class BadLine(Error, ValueError):
+    """A line is no command."""
+
+
+class NoMemory(Error, MemoryError):
+    """The library could get no memory."""
+
+
+class BadCommand(Error, ValueError):
+    """No kind of command has this number, a register is 32 or more, or a mask has more than 16 bits."""
+
+
+class BadReply(Error, ValueError):
+    """No kind of reply or no trap has this number."""
+
+
+class BadTrace(Error, ValueError):
+    """A text is no trace."""
+
+
+class Differs(Error):
+    """An answer is not allowed: `why` says for what reason."""
+
+    def __init__(self, why: Why) -> None:
+        super().__init__(f"the answer is not allowed: {why}")
+        self.why = why
+
+
 class Permission(enum.IntFlag):
     """Permissions of a word, each by its bit."""
 
@@ -63,6 +118,122 @@ class Permission(enum.IntFlag):
     STORE = 0x8
     LOAD_CAPABILITY = 0x10
     STORE_CAPABILITY = 0x20
+
+
+class CommandKind(enum.IntEnum):
+    """The kinds of commands."""
+
+    MALLOC, FREE, COPY, SETADDR, NARROW, ANDPERM, STORECAP, LOADCAP, WRITE, SHOW, SWEEP, BEGIN, END = range(13)
+
+
+class ReplyKind(enum.IntEnum):
+    """The kinds of replies."""
+
+    BLOCK, BLOCK_AFTER, NO_SPACE, NO_SPACE_AFTER, HELD, DONE, CLEARED, SWEPT, BEGUN, SHOWN, TRAP = range(11)
+
+
+class Trap(enum.IntEnum):
+    """The traps."""
+
+    TAG, PERM, BOUNDS, ALIGN, EMPTY, INEXACT, FREED, NOT_BLOCK, OPEN, NOT_OPEN = range(10)
+
+
+class WhyKind(enum.IntEnum):
+    """Why an answer is not allowed."""
+
+    MUST_BE, NOT_OF_MALLOC, TOO_SHORT, MAY_NOT_SWEEP, TAKES, REFUSED = range(6)
+
+
+class Claim(enum.IntEnum):
+    """Why a block's place is refused."""
+
+    UNEVEN, EMPTY, OUTSIDE, INEXACT, OVER_LIVE, OVER_HELD = range(1, 7)
+
+
+class Command(NamedTuple):
+    """A command: registers in the order of a trace's line, `number` as its size, address, length or mask, and the 16 bytes of a
+    write. What a kind does not use is not looked at."""
+
+    kind: CommandKind
+    first: int = 0
+    second: int = 0
+    number: int = 0
+    data: bytes = bytes(16)
+
+
+class Reply(NamedTuple):
+    """What a command was answered, as include/kernelstint.h has it: 0 where the kind does not tell it."""
+
+    kind: ReplyKind
+    base: int = 0
+    top: int = 0
+    cleared: int = 0
+    bytes: int = 0
+    trap: int = 0
+    address: int = 0
+    otype: int = 0
+    perms: int = 0
+    tag: bool = False
+    exponent: int = 0
+
+    @property
+    def text(self) -> str:
+        """The reply as a report has it."""
+        block = f"block {self.base:#x} {self.top:#x}"
+        shown = f"tag {int(self.tag)} address {self.address:#x} base {self.base:#x} top {self.top:#x} perms {self.perms:#x} type {self.otype:#x} exponent {self.exponent}"
+        return {
+            ReplyKind.BLOCK: block, ReplyKind.BLOCK_AFTER: f"{block} swept {self.cleared}", ReplyKind.NO_SPACE: "nospace",
+            ReplyKind.NO_SPACE_AFTER: f"nospace swept {self.cleared}", ReplyKind.HELD: f"held {self.bytes}", ReplyKind.DONE: "ok",
+            ReplyKind.CLEARED: "cleared", ReplyKind.SWEPT: f"cleared {self.cleared} released {self.bytes}",
+            ReplyKind.BEGUN: f"cleared {self.cleared}", ReplyKind.SHOWN: shown, ReplyKind.TRAP: f"trap {_TRAP_NAMES[self.trap]}",
+        }[self.kind]  # fmt: skip
+
+    @classmethod
+    def of_text(cls, text: str) -> Reply:
+        """The reply that a report has as this text."""
+        name, *words = text.split()
+        if name == "trap":
+            return cls(ReplyKind.TRAP, trap=_TRAP_NAMES.index(words[0]))
+        if name == "tag":
+            words = [name, *words]
+            told = {key: int(value, 0) for key, value in zip(words[::2], words[1::2])}
+            return cls(ReplyKind.SHOWN, tag=told.pop("tag") == 1, otype=told.pop("type"), **told)
+        numbers = [int(it, 0) for it in words if it[0].isdigit()]
+        kind = _KINDS[name, len(numbers)]
+        return cls(kind, **dict(zip(_TOLD[kind], numbers)))
+
+
+_TRAP_NAMES = [it.name.lower().replace("_", "") for it in Trap]
+# The kinds of the other replies, by their first word and how many numbers stand behind it, and what these numbers are.
+_KINDS = {
+    ("block", 2): ReplyKind.BLOCK, ("block", 3): ReplyKind.BLOCK_AFTER, ("nospace", 0): ReplyKind.NO_SPACE,
+    ("nospace", 1): ReplyKind.NO_SPACE_AFTER, ("held", 1): ReplyKind.HELD, ("ok", 0): ReplyKind.DONE,
+    ("cleared", 0): ReplyKind.CLEARED, ("cleared", 2): ReplyKind.SWEPT, ("cleared", 1): ReplyKind.BEGUN,
+}  # fmt: skip
+_TOLD = {
+    ReplyKind.BLOCK: ("base", "top"), ReplyKind.BLOCK_AFTER: ("base", "top", "cleared"), ReplyKind.NO_SPACE: (),
+    ReplyKind.NO_SPACE_AFTER: ("cleared",), ReplyKind.HELD: ("bytes",), ReplyKind.DONE: (), ReplyKind.CLEARED: (),
+    ReplyKind.SWEPT: ("cleared", "bytes"), ReplyKind.BEGUN: ("cleared",),
+}  # fmt: skip
+
+
+class Why(NamedTuple):
+    """Why an answer is not allowed: what it must be, how many tags a sweep takes, or why a block's place is refused, and the
+    bounds of the block that is in the way."""
+
+    kind: WhyKind
+    claim: int
+    count: int
+    base: int
+    top: int
+    reply: Reply
+
+
+class TaggedWord(NamedTuple):
+    """A word, and its tag."""
+
+    word: Word
+    tag: bool
 
 
 class Fields(NamedTuple):
@@ -119,7 +290,40 @@ class _NarrowedWord(ctypes.Structure):
     _fields_ = [("word", _Word), ("code", ctypes.c_uint32), ("exact", ctypes.c_bool)]
 
 
+class _Command(ctypes.Structure):
+    _fields_ = [
+        ("kind", ctypes.c_uint8), ("first", ctypes.c_uint8), ("second", ctypes.c_uint8), ("number", ctypes.c_uint64),
+        ("low", ctypes.c_uint64), ("high", ctypes.c_uint64),
+    ]  # fmt: skip
+
+
+class _Reply(ctypes.Structure):
+    _fields_ = [
+        ("kind", ctypes.c_uint8), ("trap", ctypes.c_uint8), ("tag", ctypes.c_uint8), ("exponent", ctypes.c_uint8),
+        ("perms", ctypes.c_uint16), ("cleared", ctypes.c_uint32), ("otype", ctypes.c_uint32), ("base", ctypes.c_uint64),
+        ("top", ctypes.c_uint64), ("top_high", ctypes.c_uint64), ("address", ctypes.c_uint64), ("bytes", ctypes.c_uint64),
+    ]  # fmt: skip
+
+
+class _Why(ctypes.Structure):
+    _fields_ = [
+        ("kind", ctypes.c_uint8), ("claim", ctypes.c_uint8), ("count", ctypes.c_uint32), ("base", ctypes.c_uint64),
+        ("top", ctypes.c_uint64), ("top_high", ctypes.c_uint64), ("reply", _Reply),
+    ]  # fmt: skip
+
+
+class _Counts(ctypes.Structure):
+    _fields_ = [("live", ctypes.c_uint64), ("held", ctypes.c_uint64), ("free", ctypes.c_uint64), ("is_open", ctypes.c_uint8)]
+
+
+class _TaggedWord(ctypes.Structure):
+    _fields_ = [("low", ctypes.c_uint64), ("high", ctypes.c_uint64), ("tag", ctypes.c_uint8)]
+
+
 _BYTES = ctypes.POINTER(ctypes.c_uint8)
+_READ = [ctypes.c_char_p, ctypes.c_size_t]
+_WRITTEN = [_BYTES, ctypes.c_size_t]
+_COUNT = ctypes.POINTER(ctypes.c_size_t)
 # Each function's name without its beginning, what it answers, and what it takes.
 _FUNCTIONS = [
     ("null_word", _Word, []),
@@ -138,9 +342,23 @@ _FUNCTIONS = [
     ("and_perms", _Word, [_Word, ctypes.c_uint16]),
     ("representable_length", _Length, [ctypes.c_uint64]),
     ("alignment_mask", ctypes.c_uint64, [ctypes.c_uint64]),
+    ("state_length", ctypes.c_size_t, [ctypes.c_uint32]),
+    ("first", ctypes.c_uint32, [ctypes.c_uint64, ctypes.c_uint32, *_WRITTEN]),
+    ("step", ctypes.c_uint32, [*_READ, _Command, *_WRITTEN, ctypes.POINTER(_Reply)]),
+    ("follow", ctypes.c_uint32, [*_READ, _Command, _Reply, *_WRITTEN, ctypes.POINTER(_Why)]),
+    ("step_line", ctypes.c_uint32, [*_READ, *_READ, *_WRITTEN, *_WRITTEN, _COUNT]),
+    ("counts", ctypes.c_uint32, [*_READ, ctypes.POINTER(_Counts)]),
+    ("register", ctypes.c_uint32, [*_READ, ctypes.c_uint8, ctypes.POINTER(_TaggedWord)]),
+    ("granule", ctypes.c_uint32, [*_READ, ctypes.c_uint64, ctypes.POINTER(_TaggedWord)]),
+    ("run", ctypes.c_uint32, [*_READ, *_WRITTEN, _COUNT]),
+    ("states", ctypes.c_uint32, [*_READ, *_WRITTEN, _COUNT]),
 ]
-# The codes of include/kernelstint.h.
-_ERRORS = {1: BadLength, 2: BadFields, 3: BadBounds}
+# The codes of include/kernelstint.h that are raised. Rooms and pointers are this file's own, and so never wrong.
+_ERRORS = {
+    1: BadLength, 2: BadFields, 3: BadBounds, 6: BadState, 7: BadSize, 8: BadBase, 9: BadRegister, 10: BadAddress, 12: PassedOver,
+    13: BadLine, 14: NoMemory, 15: BadCommand, 16: BadReply, 18: BadTrace,
+}  # fmt: skip
+_SHORT_TEXT, _DIFFERS, _LONGEST_REPLY = 11, 17, 200
 
 
 def _path_of_library() -> pathlib.Path:
@@ -333,3 +551,165 @@ def alignment_mask(length: int) -> int:
     """The mask of the addresses from which a word can hold the representable length of this one: those for which
     `address & ~mask` is 0. Raises BadNumber."""
     return _library.kernelstint_alignment_mask(_within(length, 64, "the length"))
+
+
+def _done(code: int, wrong: str) -> None:
+    if code != 0:
+        raise _ERRORS[code](wrong)
+
+
+def _reply_of(it: _Reply) -> Reply:
+    top = it.top + (it.top_high << 64)
+    return Reply(ReplyKind(it.kind), it.base, top, it.cleared, it.bytes, it.trap, it.address, it.otype, it.perms, it.tag == 1, it.exponent)
+
+
+def _passed_command(command: Command) -> _Command:
+    data = bytes(command.data)
+    if len(data) != 16:
+        raise BadCommand(f"{len(data)} bytes are not what a write writes: 16 are")
+    kind, first, second = (_within(it, 8, "the kind or register") for it in command[:3])
+    number = _within(command.number, 64, "the number")
+    return _Command(kind, first, second, number, int.from_bytes(data[:8], "little"), int.from_bytes(data[8:], "little"))
+
+
+def _passed_reply(reply: Reply) -> _Reply:
+    widths = (("kind", 8), ("base", 64), ("cleared", 32), ("bytes", 64), ("trap", 8), ("address", 64), ("otype", 32), ("perms", 16), ("tag", 8), ("exponent", 8))
+    top = _within(reply.top, 128, "the top")
+    passed = {name: _within(int(getattr(reply, name)), bits, f"the reply's {name}") for name, bits in widths}
+    return _Reply(top=top & (1 << 64) - 1, top_high=top >> 64, **passed)
+
+
+class State:
+    """A state of the machine: a heap, its blocks, 32 registers and its dirty pages. States never change; they are equal where
+    their bytes are, and can be keys and members of sets. Raises BadState where bytes are no state's."""
+
+    __slots__ = ("_bytes",)
+
+    def __init__(self, data: bytes) -> None:
+        data = bytes(data)
+        _done(_library.kernelstint_counts(data, len(data), _Counts()), f"{len(data)} bytes are no state's")
+        object.__setattr__(self, "_bytes", data)
+
+    def __setattr__(self, name: str, value: object) -> None:
+        raise AttributeError(f"a state's {name} can't be set")
+
+    def __eq__(self, other: object) -> bool:
+        return self._bytes == other._bytes if isinstance(other, State) else NotImplemented
+
+    def __hash__(self) -> int:
+        return hash(self._bytes)
+
+    def __bytes__(self) -> bytes:
+        return self._bytes
+
+    def __repr__(self) -> str:
+        return f"<State of {self.pages} pages at {self.base:#x}: live {self.live}, held {self.held}, free {self.free}>"
+
+    @classmethod
+    def _of(cls, data: bytes) -> State:
+        """A state of bytes that the library wrote."""
+        state = object.__new__(cls)
+        object.__setattr__(state, "_bytes", data)
+        return state
+
+    @classmethod
+    def first(cls, base: int, pages: int) -> State:
+        """The first state of a heap of so many pages at this base. Raises BadSize and BadBase."""
+        base, pages = _within(base, 64, "the base"), _within(pages, 32, "the number of pages")
+        room = (ctypes.c_uint8 * max(_library.kernelstint_state_length(pages), 1))()
+        _done(_library.kernelstint_first(base, pages, room, len(room)), f"no heap has {pages} pages at {base:#x}")
+        return cls._of(bytes(room))
+
+    def step(self, command: Union[str, Command]) -> Tuple[State, Reply]:
+        """The state after a command, which is a line of a trace or a Command, and the reply. Raises BadLine and PassedOver for a
+        line, BadCommand for a Command."""
+        room, told = (ctypes.c_uint8 * len(self._bytes))(), _Reply()
+        if isinstance(command, str):
+            line, written, count = command.encode(), (ctypes.c_uint8 * _LONGEST_REPLY)(), ctypes.c_size_t()
+            code = _library.kernelstint_step_line(self._bytes, len(self._bytes), line, len(line), room, len(room), written, len(written), count)
+            _done(code, f"no command: {command!r}")
+            return State._of(bytes(room)), Reply.of_text(bytes(written[: count.value]).decode())
+        code = _library.kernelstint_step(self._bytes, len(self._bytes), _passed_command(command), room, len(room), told)
+        _done(code, f"no command: {command}")
+        return State._of(bytes(room)), _reply_of(told)
+
+    def follow(self, command: Command, answer: Reply) -> State:
+        """The state after a command that an allocator answered so, which may place blocks as it likes. Raises Differs where that
+        is not allowed, BadCommand and BadReply."""
+        room, why = (ctypes.c_uint8 * len(self._bytes))(), _Why()
+        code = _library.kernelstint_follow(self._bytes, len(self._bytes), _passed_command(command), _passed_reply(answer), room, len(room), why)
+        if code == _DIFFERS:
+            raise Differs(Why(WhyKind(why.kind), why.claim, why.count, why.base, why.top + (why.top_high << 64), _reply_of(why.reply)))
+        _done(code, f"{command} and {answer} are not a command and a reply")
+        return State._of(bytes(room))
+
+    @property
+    def base(self) -> int:
+        """The address at which the heap begins."""
+        return int.from_bytes(self._bytes[:8], "little")
+
+    @property
+    def pages(self) -> int:
+        """How many pages of 4,096 bytes the heap has."""
+        return int.from_bytes(self._bytes[8:12], "little")
+
+    @property
+    def live(self) -> int:
+        """How many bytes lie in live blocks."""
+        return self._counts().live
+
+    @property
+    def held(self) -> int:
+        """How many bytes lie in freed blocks that are held."""
+        return self._counts().held
+
+    @property
+    def free(self) -> int:
+        """How many bytes lie in no block."""
+        return self._counts().free
+
+    @property
+    def is_open(self) -> bool:
+        """Whether an epoch is open."""
+        return self._counts().is_open == 1
+
+    def _counts(self) -> _Counts:
+        told = _Counts()
+        _done(_library.kernelstint_counts(self._bytes, len(self._bytes), told), "no state")
+        return told
+
+    def register(self, number: int) -> TaggedWord:
+        """What a register holds. Raises BadRegister."""
+        told = _TaggedWord()
+        _done(_library.kernelstint_register(self._bytes, len(self._bytes), _within(number, 8, "the register"), told), f"no register is {number}")
+        return TaggedWord(Word(told.high << 64 | told.low), told.tag == 1)
+
+    def granule(self, address: int) -> TaggedWord:
+        """What the granule holds that starts at this address. Raises BadAddress."""
+        told = _TaggedWord()
+        code = _library.kernelstint_granule(self._bytes, len(self._bytes), _within(address, 64, "the address"), told)
+        _done(code, f"no granule starts at {address:#x}")
+        return TaggedWord(Word(told.high << 64 | told.low), told.tag == 1)
+
+
+def _whole(call: ctypes._CFuncPtr, text: Union[str, bytes]) -> bytes:
+    """What a call writes of a text: into a room that is made longer where it is too short."""
+    text = text.encode() if isinstance(text, str) else bytes(text)
+    length = 64 * len(text) + 4096
+    while True:
+        room, count = (ctypes.c_uint8 * length)(), ctypes.c_size_t()
+        code = call(text, len(text), room, length, count)
+        if code != _SHORT_TEXT:
+            _done(code, "the text is no trace")
+            return bytes(room[: count.value])
+        length = count.value
+
+
+def run(text: Union[str, bytes]) -> str:
+    """The report of a trace. Raises BadTrace."""
+    return _whole(_library.kernelstint_run, text).decode()
+
+
+def states(text: Union[str, bytes]) -> str:
+    """The states of a trace as JSON. Raises BadTrace."""
+    return _whole(_library.kernelstint_states, text).decode()

@@ -12,6 +12,7 @@ mod decoding;
 mod looks;
 mod machine;
 mod making;
+mod texts;
 mod words;
 
 pub use crate::crossing::{
@@ -32,6 +33,7 @@ pub use crate::making::{
     kernelstint_alignment_mask, kernelstint_and_perms, kernelstint_block_capability,
     kernelstint_representable_length, kernelstint_set_address, kernelstint_with_bounds,
 };
+pub use crate::texts::{kernelstint_proved_run, kernelstint_proved_states};
 pub use crate::words::{
     kernelstint_fields_of, kernelstint_null_word, kernelstint_word_from_bytes,
     kernelstint_word_of_fields, kernelstint_word_to_bytes,

@@ -12,7 +12,11 @@ use std::alloc::Global;
 
 /// Writes the counts of the state that these bytes tell of.
 #[unsafe(no_mangle)]
-pub extern "C" fn kernelstint_proved_counts(alloc: Global, state: &[u8], told: &mut CountRecord) -> u32
+pub extern "C" fn kernelstint_proved_counts(
+    alloc: Global,
+    state: &[u8],
+    told: &mut CountRecord,
+) -> u32
     ensures counts { result ≡ done → AreCounts state.now told.new }
     ensures still { result ≢ done → told.new ≡ told.old }
     ensures fault { result ≢ done → HasFault (IsUnreadable state.now) result }
@@ -28,7 +32,12 @@ pub extern "C" fn kernelstint_proved_counts(alloc: Global, state: &[u8], told: &
 
 /// Writes what a register holds in the state that these bytes tell of.
 #[unsafe(no_mangle)]
-pub extern "C" fn kernelstint_proved_register(alloc: Global, state: &[u8], number: u8, word: &mut WordRecord) -> u32
+pub extern "C" fn kernelstint_proved_register(
+    alloc: Global,
+    state: &[u8],
+    number: u8,
+    word: &mut WordRecord,
+) -> u32
     ensures register { result ≡ done → IsRegister state.now number word.new }
     ensures still { result ≢ done → word.new ≡ word.old }
     ensures none { register_count ≤ number → result ≡ bad_register }
@@ -46,7 +55,12 @@ pub extern "C" fn kernelstint_proved_register(alloc: Global, state: &[u8], numbe
 
 /// Writes what the granule holds that starts at an address, in the state that these bytes tell of.
 #[unsafe(no_mangle)]
-pub extern "C" fn kernelstint_proved_granule(alloc: Global, state: &[u8], address: u64, word: &mut WordRecord) -> u32
+pub extern "C" fn kernelstint_proved_granule(
+    alloc: Global,
+    state: &[u8],
+    address: u64,
+    word: &mut WordRecord,
+) -> u32
     ensures granule { result ≡ done → IsGranule state.now address word.new }
     ensures still { result ≢ done → word.new ≡ word.old }
     ensures fault { result ≢ done → HasFault (IsNoGranule state.now address) result }

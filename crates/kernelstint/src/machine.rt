@@ -11,8 +11,8 @@ ghost use Rattle.kernelstint.specs.Codes.{bad_command, bad_reply, bad_room, diff
 
 use crate::codes::{BAD_COMMAND, BAD_REPLY, DIFFERS, DONE, code_of_fault};
 use byte_machine::{
-    CallFault, CommandRecord, ReplyRecord, WhyRecord, command_of, first, follow, reply_of, reply_record,
-    state_length, step, step_line, why_record,
+    CallFault, CommandRecord, ReplyRecord, WhyRecord, command_of, first, follow, reply_of,
+    reply_record, state_length, step, step_line, why_record,
 };
 use heap_machine::Followed;
 use std::alloc::Global;
@@ -31,7 +31,12 @@ pub extern "C" fn kernelstint_state_length(pages: u32) -> usize
 
 /// Writes the first state of a heap of so many pages at `base` into a room of its length.
 #[unsafe(no_mangle)]
-pub extern "C" fn kernelstint_proved_first(alloc: Global, base: u64, pages: u32, out: &mut [u8]) -> u32
+pub extern "C" fn kernelstint_proved_first(
+    alloc: Global,
+    base: u64,
+    pages: u32,
+    out: &mut [u8],
+) -> u32
     ensures first { result ≡ done → IsFirst base pages out.new }
     ensures still { result ≢ done → out.new ≡ out.old }
     ensures fault { result ≢ done → HasFault (IsNotFirst base pages (length out.old)) result }

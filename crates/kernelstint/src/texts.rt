@@ -14,7 +14,12 @@ use std::alloc::Global;
 /// Writes the report of the trace that a text is where a room begins, and how long it is; the length alone where the room is
 /// shorter.
 #[unsafe(no_mangle)]
-pub extern "C" fn kernelstint_proved_run(alloc: Global, trace: &[u8], out: &mut [u8], count: &mut usize) -> u32
+pub extern "C" fn kernelstint_proved_run(
+    alloc: Global,
+    trace: &[u8],
+    out: &mut [u8],
+    count: &mut usize,
+) -> u32
     ensures written { result ≡ done → IsWritten (IsReportOf trace.now) out.old out.new count.new }
     ensures short { result ≡ short_text → IsTooLong (IsReportOf trace.now) (length out.old) count.new }
     ensures fault { result ≡ bad_trace → IsFaulty trace.now }
@@ -40,7 +45,12 @@ pub extern "C" fn kernelstint_proved_run(alloc: Global, trace: &[u8], out: &mut 
 
 /// The same of the states of the trace that a text is, as data.
 #[unsafe(no_mangle)]
-pub extern "C" fn kernelstint_proved_states(alloc: Global, trace: &[u8], out: &mut [u8], count: &mut usize) -> u32
+pub extern "C" fn kernelstint_proved_states(
+    alloc: Global,
+    trace: &[u8],
+    out: &mut [u8],
+    count: &mut usize,
+) -> u32
     ensures written { result ≡ done → IsWritten (IsDataOf trace.now) out.old out.new count.new }
     ensures short { result ≡ short_text → IsTooLong (IsDataOf trace.now) (length out.old) count.new }
     ensures fault { result ≡ bad_trace → IsFaulty trace.now }
