@@ -1,0 +1,47 @@
+/*
+ * What the commands of an alphabet can do to a heap of one page: SPIN chooses each next command, the proved library does it, and
+ * safe reuse is asserted of every block that is handed out. How deep, `pan -m` says. ALPHABET is one of 1 to 6.
+ */
+#ifndef ALPHABET
+#define ALPHABET 1
+#endif
+
+c_decl {
+\#include "heap.h"
+}
+
+c_state "unsigned char heap[5934]" "Global"
+
+bit ok = 1;
+
+#define COMMAND(kind, first, second, number) \
+    d_step { c_code { now.ok = heap_do(now.heap, kind, first, second, number); }; assert(ok) }
+
+active proctype program() {
+    d_step { c_code { now.ok = heap_first(now.heap); }; assert(ok) };
+    do
+    :: COMMAND(KERNELSTINT_MALLOC, 1, 0, 16)
+    :: COMMAND(KERNELSTINT_FREE, 1, 0, 0)
+    :: COMMAND(KERNELSTINT_SWEEP, 0, 0, 0)
+#if ALPHABET == 2 || ALPHABET >= 4
+    :: COMMAND(KERNELSTINT_COPY, 2, 1, 0)
+#endif
+#if ALPHABET >= 3
+    :: COMMAND(KERNELSTINT_STORECAP, 1, 1, 0)
+    :: COMMAND(KERNELSTINT_LOADCAP, 2, 1, 0)
+#endif
+#if ALPHABET >= 4
+    :: COMMAND(KERNELSTINT_FREE, 2, 0, 0)
+#endif
+#if ALPHABET >= 5
+    :: COMMAND(KERNELSTINT_BEGIN, 0, 0, 0)
+    :: COMMAND(KERNELSTINT_END, 0, 0, 0)
+#endif
+#if ALPHABET >= 6
+    :: COMMAND(KERNELSTINT_MALLOC, 2, 0, 32)
+    :: COMMAND(KERNELSTINT_STORECAP, 1, 2, 0)
+    :: COMMAND(KERNELSTINT_STORECAP, 2, 1, 0)
+    :: COMMAND(KERNELSTINT_LOADCAP, 1, 2, 0)
+#endif
+    od
+}
