@@ -2,7 +2,7 @@
  * The machine by the header alone. It reads a trace from standard input, does it step by step, by records where a line is
  * one of those that it knows and else by lines, and prints the replies' texts as a report has them; then it tries arguments
  * that are refused, and reads a state by the header's macros. With the word "time" and a number of pages and of steps it
- * prints how many microseconds a step takes. It ends with status 1 where an answer is wrong.
+ * prints how many microseconds of processor time a step takes. It ends with status 1 where an answer is wrong.
  */
 #include "kernelstint.h"
 #include <inttypes.h>
@@ -195,10 +195,9 @@ static void refusals(void) {
     free(before);
 }
 
+/* Of the processor's time, which other work on the machine doesn't count. */
 static double seconds(void) {
-    struct timespec now;
-    timespec_get(&now, TIME_UTC);
-    return (double)now.tv_sec + (double)now.tv_nsec / 1e9;
+    return (double)clock() / CLOCKS_PER_SEC;
 }
 
 static void measure(uint32_t pages, int steps) {
