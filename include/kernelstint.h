@@ -4,7 +4,7 @@
  *
  * What is proved: each function below answers as its comment says, for every argument that C can pass by value, and
  * returns. The functions are the exports of the crate kernelstint of the repository, whose contracts say it in full.
- * What is trusted: that this header declares them as they are, which tests try; the compilers; bindings/c/machine.c, which
+ * What is trusted: that this header declares them as they are, which tests try; the compilers; bindings/c/pointers.c, which
  * tests pointers before it calls an export; and, for the functions of the machine, which take memory, the ten lines of
  * bindings/c/allocator.c and the program's malloc, realloc and free.
  *
@@ -155,15 +155,15 @@ typedef struct kernelstint_narrowed_word {
 kernelstint_word kernelstint_null_word(void);
 
 /*
- * The word that `length` bytes hold, as memory has them. KERNELSTINT_BAD_LENGTH where length is not 16. Condition:
- * `bytes` is not null, and so many bytes can be read there, which nothing writes meanwhile.
+ * The word that `length` bytes hold, as memory has them. KERNELSTINT_BAD_LENGTH where length is not 16, KERNELSTINT_NULL where
+ * `bytes` is null. Condition: so many bytes can be read there, which nothing writes meanwhile.
  */
 kernelstint_coded_word kernelstint_word_from_bytes(const uint8_t *bytes, size_t length);
 
 /*
- * Writes the 16 bytes of a word, and answers 0. KERNELSTINT_BAD_LENGTH, and nothing is written, where length is not 16.
- * Condition: `bytes` is not null, and so many bytes can be read and written there, which nothing else reads or writes
- * meanwhile.
+ * Writes the 16 bytes of a word, and answers 0. KERNELSTINT_BAD_LENGTH, and nothing is written, where length is not 16;
+ * KERNELSTINT_NULL where `bytes` is null. Condition: so many bytes can be read and written there, which nothing else reads or
+ * writes meanwhile.
  */
 uint32_t kernelstint_word_to_bytes(kernelstint_word word, uint8_t *bytes, size_t length);
 

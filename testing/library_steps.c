@@ -129,6 +129,8 @@ static void refusals(void) {
     const uint8_t *line = (const uint8_t *)"show c0", *blank = (const uint8_t *)"  # show c0", *faulty = (const uint8_t *)"show c32";
     memset(&reply, 7, sizeof reply);
     memset(&answer, 0, sizeof answer);
+    want(kernelstint_word_from_bytes(NULL, 16).code == KERNELSTINT_NULL, "word_from_bytes: null");
+    want(kernelstint_word_to_bytes(kernelstint_null_word(), NULL, 16) == KERNELSTINT_NULL, "word_to_bytes: null");
     want(kernelstint_first(0, 0, out, length) == KERNELSTINT_BAD_SIZE, "first: no pages");
     want(kernelstint_first(0, 1025, out, length) == KERNELSTINT_BAD_SIZE, "first: 1,025 pages");
     want(kernelstint_first(16, 1, out, length) == KERNELSTINT_BAD_BASE, "first: a base inside a page");

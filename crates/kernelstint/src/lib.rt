@@ -1,6 +1,6 @@
 //! The codec and the machine for C, C++ and Python, declared in `include/kernelstint.h`. Each function is one
 //! call of `cap_codec` or of `byte_machine` over what crosses to C, and promises what that call promises. Those
-//! whose names begin with `kernelstint_proved_` are called by `bindings/c/machine.c`, which tests pointers first.
+//! whose names begin with `kernelstint_proved_` are called by `bindings/c/pointers.c`, which tests pointers first.
 #![tactic(auto)]
 
 ghost use Rattle.std.specs.Prelude.{◌≡◌};
@@ -35,8 +35,8 @@ pub use crate::making::{
 };
 pub use crate::texts::{kernelstint_proved_run, kernelstint_proved_states};
 pub use crate::words::{
-    kernelstint_fields_of, kernelstint_null_word, kernelstint_word_from_bytes,
-    kernelstint_word_of_fields, kernelstint_word_to_bytes,
+    kernelstint_fields_of, kernelstint_null_word, kernelstint_proved_word_from_bytes,
+    kernelstint_proved_word_to_bytes, kernelstint_word_of_fields,
 };
 
 /// The version of this library, 8 bits for each of its three parts.

@@ -61,7 +61,8 @@ pub extern "C" fn kernelstint_proved_step(
     ensures still { result ≢ done → out.new ≡ out.old }
     ensures untold { result ≢ done → reply.new ≡ reply.old }
     ensures command { (result ≡ bad_command) ↔ IsRead command None }
-    ensures room { (result ≡ bad_room) → length out.old ≢ length state.now }
+    ensures room { result ≡ bad_room → length out.old ≢ length state.now }
+    ensures measured { length out.old ≢ length state.now → result ≢ bad_command → result ≡ bad_room }
     ensures fits { result ≡ done → length out.old ≡ length state.now }
     ensures fault { result ≢ done → result ≢ bad_command → HasFault (λ fault. fault ≢ CallFault.Room → IsUnreadable state.now fault) result }
 {
@@ -95,6 +96,7 @@ pub extern "C" fn kernelstint_proved_follow(
     ensures command { (result ≡ bad_command) ↔ IsRead command None }
     ensures reply { result ≡ bad_reply → reply_read answer ≡ None }
     ensures room { result ≡ bad_room → length out.old ≢ length state.now }
+    ensures measured { length out.old ≢ length state.now → result ≢ bad_command → result ≢ bad_reply → result ≡ bad_room }
     ensures fault { result ≢ done → result ≢ differs → result ≢ bad_command → result ≢ bad_reply
         → HasFault (λ fault. fault ≢ CallFault.Room → IsUnreadable state.now fault) result }
 {

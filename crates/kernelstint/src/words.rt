@@ -24,7 +24,7 @@ pub extern "C" fn kernelstint_null_word() -> HostWord
 
 /// The word that these 16 bytes hold; for another number of bytes the null word and a code.
 #[unsafe(no_mangle)]
-pub extern "C" fn kernelstint_word_from_bytes(bytes: &[u8]) -> CodedWord
+pub extern "C" fn kernelstint_proved_word_from_bytes(bytes: &[u8]) -> CodedWord
     ensures code { result.code ≡ code_of (nat_eq (length bytes.now) 16) bad_length }
     ensures value { result.code ≡ done → (word_from result.word).bits ≡ bits_of_bytes bytes.now }
     ensures back { result.code ≡ done → bytes_of (word_from result.word).bits ≡ bytes.now }
@@ -40,7 +40,7 @@ pub extern "C" fn kernelstint_word_from_bytes(bytes: &[u8]) -> CodedWord
 
 /// Writes the 16 bytes of a word; into another number of bytes nothing, which a code tells.
 #[unsafe(no_mangle)]
-pub extern "C" fn kernelstint_word_to_bytes(word: HostWord, bytes: &mut [u8]) -> u32
+pub extern "C" fn kernelstint_proved_word_to_bytes(word: HostWord, bytes: &mut [u8]) -> u32
     ensures code { result ≡ code_of (nat_eq (length bytes.old) 16) bad_length }
     ensures value { result ≡ done → bytes.new ≡ bytes_of (word_from word).bits }
     ensures back { result ≡ done → bits_of_bytes bytes.new ≡ (word_from word).bits }

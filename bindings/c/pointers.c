@@ -1,5 +1,5 @@
 /*
- * The machine's functions of kernelstint.h that are given pointers: each tests them, and then calls the proved export of
+ * The functions of kernelstint.h that are given pointers: each tests them, and then calls the proved export of
  * the crate kernelstint. It is trusted: nothing proves it. A pointer that is null is answered by KERNELSTINT_NULL, and places
  * of which one is written and that lie over one another by KERNELSTINT_OVERLAP; nothing is written then.
  */
@@ -7,6 +7,8 @@
 
 #define PUBLIC __attribute__((visibility("default")))
 
+kernelstint_coded_word kernelstint_proved_word_from_bytes(const uint8_t *bytes, size_t length);
+uint32_t kernelstint_proved_word_to_bytes(kernelstint_word word, uint8_t *bytes, size_t length);
 uint32_t kernelstint_proved_first(uint64_t base, uint32_t pages, uint8_t *out, size_t out_length);
 uint32_t kernelstint_proved_step(const uint8_t *state, size_t length, kernelstint_command command, uint8_t *out, size_t out_length,
                                  kernelstint_reply *reply);
@@ -51,6 +53,16 @@ static uint32_t code_of(const place *places, size_t count) {
         uint32_t code = code_of(places, sizeof places / sizeof places[0]);      \
         if (code != KERNELSTINT_DONE) return code;                              \
     } while (0)
+
+PUBLIC kernelstint_coded_word kernelstint_word_from_bytes(const uint8_t *bytes, size_t length) {
+    if (bytes == NULL) return (kernelstint_coded_word){{0, 0}, KERNELSTINT_NULL};
+    return kernelstint_proved_word_from_bytes(bytes, length);
+}
+
+PUBLIC uint32_t kernelstint_word_to_bytes(kernelstint_word word, uint8_t *bytes, size_t length) {
+    TEST_PLACES(WRITTEN(bytes, length));
+    return kernelstint_proved_word_to_bytes(word, bytes, length);
+}
 
 PUBLIC uint32_t kernelstint_first(uint64_t base, uint32_t pages, uint8_t *out, size_t out_length) {
     TEST_PLACES(WRITTEN(out, out_length));
