@@ -29,7 +29,6 @@ abbrev cell : ℕ → ℕ → ℕ → ℕ → ℕ → ℕ → Bool → ShownCell
 cell top address base otype perms exponent tag =
     record { top = top; address = address; base = base; otype = otype; perms = perms; exponent = exponent; tag = tag }
 
-
 shown_back : (top address base otype perms exponent : ℕ) (tag : Bool)
     → reply_read (shown_told (cell top address base otype perms exponent tag)) ≡ Some (reply.Shown (cell top address base otype perms exponent tag))
 unfolding reply_read

@@ -57,7 +57,10 @@ fn a_heap_alone_is_found(rt: HostRuntime) {
         passes: 0,
     };
     assert_eq!(rt; found(&rt, rt.alloc(), "heap 0x40000000 1"), Some(none));
-    assert_eq!(rt; found(&rt, rt.alloc(), "heap 0x40000000 1\n# end\n"), Some(none));
+    assert_eq!(rt;
+        found(&rt, rt.alloc(), "heap 0x40000000 1\n# end\n"),
+        Some(none)
+    );
 }
 
 // Logs that lack something, one thing each, and those that are spelled unusually.
