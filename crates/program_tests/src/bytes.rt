@@ -214,7 +214,7 @@ fn one_answer_is_told(rt: HostRuntime) {
         follow(alloc, &state, command, Reply::NoSpace, &mut out),
         differs
     );
-    let short = follow(alloc, &state[1..], command, Reply::Done, &mut out);
+    let short = follow(alloc, &state, command, Reply::Done, &mut [0; 8]);
     assert_eq!(rt; short, Err(CallFault::Room));
 }
 
@@ -226,7 +226,7 @@ fn lines_are_stepped(rt: HostRuntime) {
     let mut text = [b'.'; 200];
     let count = step_line(alloc, &state, b"malloc c1 20", &mut out, &mut text);
     assert_eq!(rt; count, Ok(27));
-    assert_eq!(rt; &text[..29], b"block 0x40000000 0x40000020..".as_slice());
+    assert!(rt; text.starts_with(b"block 0x40000000 0x40000020.."));
     let wanted = with_block(&rt, alloc);
     assert_eq!(rt; out.as_slice(), wanted.as_slice());
 }
@@ -258,7 +258,7 @@ fn other_lines_are_refused(rt: HostRuntime) {
         let told = step_line(alloc, &state, line, &mut out, &mut text);
         assert_eq!(rt; told, Err(fault));
     }
-    let short = step_line(alloc, &state, b"sweep", &mut out, &mut text[..199]);
+    let short = step_line(alloc, &state, b"sweep", &mut out, &mut [b'.'; 199]);
     assert_eq!(rt; short, Err(CallFault::TextRoom));
     assert!(rt; out.iter().all(|byte| *byte == 0x55));
     assert!(rt; text.iter().all(|byte| *byte == b'.'));
