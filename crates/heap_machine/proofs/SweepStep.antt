@@ -14,22 +14,17 @@ use Rattle.heap_machine.proofs.ClearedRegisters.{registers-swept}
 use Rattle.heap_machine.proofs.CountLaws.{ones-masks, ones-registers}
 use Rattle.heap_machine.proofs.SweptState.{granules_taken-untouched, swept_granules-untouched, without_tags-swept}
 
-pub AreTaken-masks : (held : List Span) (old new : MemoryState) (registers left : List Cell) (tags : RevokedTags) (cleared : ℕ)
+pub AreTaken-masks : (held : List Span) (old new : MemoryState) (registers left : List Cell) (tags : RevokedTags)
     → AreRevoked held old registers tags → new.base ≡ old.base → new.dirty ≡ old.dirty → new.cells ≡ without_tags tags.masks.items old.cells
     → length left ≡ 32 → get_or left 0 null_cell ≡ null_cell
     → ((r : ℕ) → r < 32 → get_or left r null_cell ≡ without_tag_if (is_set tags.registers r) (get_or registers r null_cell))
-    → ((w : ℕ) → get_or tags.masks.items w 0 < 2 ^ 64) → tags.registers < 2 ^ 32
-    → cleared ≡ sum_by count_ones tags.masks.items + count_ones tags.registers
-    → AreTaken held old registers new left cleared
-AreTaken-masks held old new registers left tags cleared revoked same still cells_are long zero each fits below told =
-    let of_memory = ones-masks (λ (g : Granule). takes_tag held (cell_of g)) tags.masks.items old.cells (0, false) revoked.granules.count fits revoked.granules.bits in
-    let of_registers = ones-registers held registers tags.registers revoked.count revoked.zero below revoked.bits in
+    → AreTaken held old registers new left
+AreTaken-masks held old new registers left tags revoked same still cells_are long zero each =
     record {
       base = same;
       dirty = still;
       cells = cells_are ∙ without_tags-swept held old tags.masks.items revoked.granules;
       registers_are = registers-swept held registers left tags.registers revoked.count revoked.zero revoked.bits long (zero ∙ sym revoked.zero) (λ r some lt. each r lt);
-      cleared_is = told ∙ (λ k. of_memory k + of_registers k);
     }
 
 -- How many tags the masks take.
@@ -47,22 +42,18 @@ pub AreTaken-clean : (held : List Span) (memory : MemoryState) (registers left :
     → length registers ≡ 32 → get_or registers 0 null_cell ≡ null_cell → ((r : ℕ) → r < 32 → is_set mask r ≡ takes_tag held (register_at registers r))
     → length left ≡ 32 → get_or left 0 null_cell ≡ null_cell
     → ((r : ℕ) → r < 32 → get_or left r null_cell ≡ without_tag_if (is_set mask r) (get_or registers r null_cell))
-    → mask < 2 ^ 32
-    → AreTaken held memory registers memory left (count_ones mask)
-AreTaken-clean held memory registers left mask stand clean count null bits long zero each below =
+    → AreTaken held memory registers memory left
+AreTaken-clean held memory registers left mask stand clean count null bits long zero each =
     let untouched : (i : ℕ) → takes_tag held (cell_of (get_or memory.cells i (0, false))) ≡ false =
     λ i. elim (cases_Bool (takes_tag held (cell_of (get_or memory.cells i (0, false))))) [
       | inl is ↦ absurd (true≢false (sym (stand i is) ∙ clean (i / 256)))
       | inr none ↦ none
     ] in
-    let of_memory = granules_taken-untouched held memory.cells untouched in
-    let of_registers = ones-registers held registers mask count null below bits in
     record {
       base = refl;
       cells = sym (swept_granules-untouched held memory.cells untouched);
       dirty = refl;
       registers_are = registers-swept held registers left mask count null bits long (zero ∙ sym null) (λ r some lt. each r lt);
-      cleared_is = omega (arith, of_memory, of_registers);
     }
 
 -- How many tags that takes.

@@ -1,7 +1,7 @@
 -- The tags that a sweep takes, as masks of bits, and what is left once they are taken.
 use Rattle.std.specs.Prelude.{◌≡◌, ◌<◌, ℕ, List, length, slice_index_or}
 use Rattle.heap_core.specs.Blocks.{Span}
-use Rattle.sweep_pool.specs.Sweep.{TakeTags, swept_cells, swept_granules, tags_taken, takes_tag}
+use Rattle.sweep_pool.specs.Sweep.{TakeTags, swept_cells, swept_granules, takes_tag}
 use Rattle.tag_memory.specs.Cells.{Cell, MemoryState, null_cell, register_at, register_count}
 use Rattle.tag_memory.specs.Tags.{is_set}
 use Rattle.heap_machine.specs.declared.parts.revocation.RevokedTags.{RevokedTags}
@@ -13,10 +13,9 @@ pub record AreRevoked (held : List Span) (memory : MemoryState) (registers : Lis
   pub count : length registers ≡ register_count
   pub zero : slice_index_or registers 0 null_cell ≡ null_cell
 
--- They are taken, and so many they were. The pages that are dirty stay so.
-pub record AreTaken (held : List Span) (memory : MemoryState) (registers : List Cell) (new : MemoryState) (left : List Cell) (cleared : ℕ) : Type 0 where
+-- They are taken. The pages that are dirty stay so.
+pub record AreTaken (held : List Span) (memory : MemoryState) (registers : List Cell) (new : MemoryState) (left : List Cell) : Type 0 where
   pub base : new.base ≡ memory.base
   pub cells : new.cells ≡ swept_granules held memory.cells
   pub dirty : new.dirty ≡ memory.dirty
   pub registers_are : left ≡ swept_cells held registers
-  pub cleared_is : cleared ≡ tags_taken held memory.cells registers

@@ -38,7 +38,8 @@ impl Parts {
         let Ok((found, _)) = self.heap.give_back_and_reserve(size) else {
             return Err(MachineFault::Memory);
         };
-        let cleared = revoked.take(&mut self.memory, &mut self.registers);
+        let cleared = revoked.count();
+        revoked.take(&mut self.memory, &mut self.registers);
         let Some(block) = found else {
             self.registers.set(rd, Word::NULL, false);
             return Ok(Reply::NoSpaceAfter { cleared });

@@ -58,18 +58,16 @@ impl RevokedTags {
         granules + self.registers.count_ones()
     }
 
-    /// Takes them, and tells how many they are.
-    pub fn take(&self, memory: &mut Memory, registers: &mut Registers) -> u32
+    /// Takes them.
+    pub fn take(&self, memory: &mut Memory, registers: &mut Registers)
         requires masks { 64 * length self.now.masks.items ≡ length memory.old.cells }
-        requires few { length memory.old.cells < 2 ^ 31 }
         ensures taken { (held : List Span) → AreRevoked held memory.old registers.old self.now
-            → AreTaken held memory.old registers.old memory.new registers.new result }
+            → AreTaken held memory.old registers.old memory.new registers.new }
         ensures base { memory.new.base ≡ memory.old.base }
         ensures dirty { memory.new.dirty ≡ memory.old.dirty }
     {
         memory.clear_tags(&self.masks);
         registers.clear_tags(self.registers);
-        ones_in(&self.masks) + self.registers.count_ones()
     }
 }
 

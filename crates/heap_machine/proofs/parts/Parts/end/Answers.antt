@@ -23,7 +23,7 @@ returns-clause-step g c = λ _.
     let opened : c.args.self.now.heap.is_open ≡ true = sym c.is_open.ensures ∙ c.if-not-is_open.false in
     let blocks : due c.args.self.now.heap ≡ c.args.self.now.heap.painted = due-open m.heap opened in
     let revoked : AreRevoked m.heap.painted m.memory m.registers c.in_ok-revoked.revoked = rw blocks at c.in_ok-revoked.ensures.revoked in
-    let taken : AreTaken m.heap.painted m.memory m.registers c.take.new.memory c.take.new.registers c.take.result = c.take.ensures.taken m.heap.painted revoked in
+    let taken : AreTaken m.heap.painted m.memory m.registers c.take.new.memory c.take.new.registers = c.take.ensures.taken m.heap.painted revoked in
     let free : c.give_back.new.self ≡ without_epoch m.heap = c.give_back.ensures.free ∙ ap without_due c.prepare.ensures.unchanged ∙ without_due-open m.heap opened in
     let bytes : c.due_bytes.result ≡ bytes_in m.heap.painted = c.due_bytes.ensures ∙ ap bytes_in blocks in
     rw (opened, c.count.ensures m.heap.painted m.memory m.registers revoked, bytes, free, taken.cells, taken.registers_are) (refl, refl)

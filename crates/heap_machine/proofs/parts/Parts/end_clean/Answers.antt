@@ -28,13 +28,16 @@ returns-clause-step c = λ _.
     let blocks : due c.args.self.now.heap ≡ c.args.self.now.heap.painted = due-open m.heap c.requires.opened in
     let bits = c.due_registers-revoked.ensures in
     let mask = c.due_registers-revoked.result in
-    let taken : AreTaken m.heap.painted m.memory m.registers m.memory c.clear_tags.new.self (count_ones c.due_registers-revoked.result) =
+    let count : count_ones mask ≡ tags_taken m.heap.painted m.memory.cells m.registers =
+    count-clean m.heap.painted m.memory m.registers mask c.requires.parts.dirtied c.requires.clean
+    c.requires.parts.sound.count c.requires.parts.sound.zero (rw blocks at bits) (omega arith) in
+    let taken : AreTaken m.heap.painted m.memory m.registers m.memory c.clear_tags.new.self =
     AreTaken-clean m.heap.painted m.memory m.registers c.clear_tags.new.self mask c.requires.parts.dirtied c.requires.clean
     c.requires.parts.sound.count c.requires.parts.sound.zero (rw blocks at bits)
-    c.clear_tags.ensures.count c.clear_tags.ensures.zero c.clear_tags.ensures.cells (omega arith) in
+    c.clear_tags.ensures.count c.clear_tags.ensures.zero c.clear_tags.ensures.cells in
     let free : c.give_back.new.self ≡ without_epoch m.heap = c.give_back.ensures.free ∙ without_due-open m.heap c.requires.opened in
     let bytes : c.due_bytes.result ≡ bytes_in m.heap.painted = c.due_bytes.ensures ∙ ap bytes_in blocks in
-    rw (c.requires.opened, taken.cleared_is, bytes, free, taken.registers_are)
+    rw (c.requires.opened, count, bytes, free, taken.registers_are)
     (refl, λ i. record { heap = without_epoch m.heap; cells = taken.cells i; registers = swept_cells m.heap.painted m.registers })
 
 pub returns-clause-base : goal.returns-clause-base

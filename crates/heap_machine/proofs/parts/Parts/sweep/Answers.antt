@@ -48,7 +48,7 @@ returns-clause-step g c = λ _.
     let closed : c.args.self.now.heap.is_open ≡ false = sym c.is_open.ensures ∙ c.if-is_open.false in
     let blocks : due c.args.self.now.heap ≡ c.args.self.now.heap.waiting = due-closed m.heap closed in
     let revoked : AreRevoked m.heap.waiting m.memory m.registers c.in_ok-revoked.revoked = rw blocks at c.in_ok-revoked.ensures.revoked in
-    let taken : AreTaken m.heap.waiting m.memory m.registers c.take.new.memory c.take.new.registers c.take.result = c.take.ensures.taken m.heap.waiting revoked in
+    let taken : AreTaken m.heap.waiting m.memory m.registers c.take.new.memory c.take.new.registers = c.take.ensures.taken m.heap.waiting revoked in
     let free : c.give_back.new.self ≡ without_waiting m.heap = c.give_back.ensures.free ∙ ap without_due c.prepare.ensures.unchanged ∙ without_due-closed m.heap closed in
     let bytes : c.due_bytes.result ≡ bytes_in m.heap.waiting = c.due_bytes.ensures ∙ ap bytes_in blocks in
     Step-passed s Sweep (Swept c.count.result c.due_bytes.result) (record { heap = c.give_back.new.self; cells = c.take.new.memory.cells; registers = c.take.new.registers }) (sweep_passes s closed)

@@ -3,19 +3,19 @@ use Rattle.heap_core.specs.Laws.{due-closed}
 use Rattle.heap_core.specs.Place.{IsPlace, block_length, with_live}
 use Rattle.heap_core.specs.Quarantine.{without_waiting}
 use Rattle.heap_machine.specs.Parts.{state_of}
-use Rattle.heap_machine.specs.Revoked.{AreTaken}
+use Rattle.heap_machine.specs.Revoked.{AreRevoked, AreTaken}
 use Rattle.heap_machine.proofs.SoundLaws.{FitsAddresses-state}
-use Rattle.heap_machine.proofs.SweptMalloc.{HandsOut-swept, HandsOutNone-swept, SweepsFirst-taken}
+use Rattle.heap_machine.proofs.SweptMalloc.{HandsOut-swept, HandsOutNone-swept}
 use Rattle.heap_machine.proofs.parts.Parts.sweep_and_malloc.Goals as goal
 
 pub returns-in_default-found-clause-step : goal.returns-in_default-found-clause-step
 returns-in_default-found-clause-step g c =
     let m = c.args.self.now in
     let s = state_of m in
-    let taken : AreTaken m.heap.waiting m.memory m.registers c.take-cleared.new.memory c.take-cleared.new.registers c.take-cleared.result =
-    c.take-cleared.ensures.taken m.heap.waiting (rw (due-closed m.heap c.requires.may.closed) at c.in_ok-revoked.ensures.revoked) in (
-      SweepsFirst-taken s c.args.size m.memory c.take-cleared.new.memory c.take-cleared.new.registers c.take-cleared.result refl c.requires.none c.requires.may taken,
-      HandsOutNone-swept s c.args.rd c.args.size c.give_back_and_reserve.new.self m.memory c.take-cleared.new.memory c.take-cleared.new.registers c.set.new.self c.take-cleared.result
+    let revoked : AreRevoked m.heap.waiting m.memory m.registers c.in_ok-revoked.revoked = rw (due-closed m.heap c.requires.may.closed) at c.in_ok-revoked.ensures.revoked in
+    let taken : AreTaken m.heap.waiting m.memory m.registers c.take.new.memory c.take.new.registers = c.take.ensures.taken m.heap.waiting revoked in (
+      record { none = c.requires.none; may = c.requires.may; cleared_is = c.count-cleared.ensures m.heap.waiting m.memory m.registers revoked },
+      HandsOutNone-swept s c.args.rd c.args.size c.give_back_and_reserve.new.self m.memory c.take.new.memory c.take.new.registers c.set.new.self
           refl (c.in-Ok.ensures.none.0 c.in_default-found.is) (c.in-Ok.ensures.free c.in_default-found.is) taken c.set.ensures,
     )
 
@@ -35,9 +35,9 @@ returns-clause-step g c =
     let place : IsPlace (without_waiting m.heap) c.args.size block.base = rw c.in-Some.is at c.in-Ok.ensures.place in
     let top : block.top ≡ block.base + block_length c.args.size = rw c.in-Some.is at c.in-Ok.ensures.top in
     let live : c.give_back_and_reserve.new.self ≡ with_live (without_waiting m.heap) c.args.size block.base = rw c.in-Some.is at c.in-Ok.ensures.live in
-    let taken : AreTaken m.heap.waiting m.memory m.registers c.take-cleared.new.memory c.take-cleared.new.registers c.take-cleared.result =
-    c.take-cleared.ensures.taken m.heap.waiting (rw (due-closed m.heap c.requires.may.closed) at c.in_ok-revoked.ensures.revoked) in (
-      SweepsFirst-taken s c.args.size m.memory c.take-cleared.new.memory c.take-cleared.new.registers c.take-cleared.result refl c.requires.none c.requires.may taken,
-      HandsOut-swept s c.args.rd c.args.size block.base block.top c.give_back_and_reserve.new.self m.memory c.take-cleared.new.memory c.take-cleared.new.registers c.set-2.new.self c.take-cleared.result
+    let revoked : AreRevoked m.heap.waiting m.memory m.registers c.in_ok-revoked.revoked = rw (due-closed m.heap c.requires.may.closed) at c.in_ok-revoked.ensures.revoked in
+    let taken : AreTaken m.heap.waiting m.memory m.registers c.take.new.memory c.take.new.registers = c.take.ensures.taken m.heap.waiting revoked in (
+      record { none = c.requires.none; may = c.requires.may; cleared_is = c.count-cleared.ensures m.heap.waiting m.memory m.registers revoked },
+      HandsOut-swept s c.args.rd c.args.size block.base block.top c.give_back_and_reserve.new.self m.memory c.take.new.memory c.take.new.registers c.set-2.new.self
           refl place top live taken (rw c.block_capability.ensures.value at c.set-2.ensures),
     )

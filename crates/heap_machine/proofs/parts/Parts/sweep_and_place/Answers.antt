@@ -49,9 +49,9 @@ returns-clause-followed g c =
     let may : MaySweep (state_of c.args.self.now) = c.may_sweep.ensures.may c.if-not-may_sweep.false in
     let revoked : AreRevoked m.heap.waiting m.memory m.registers c.in_ok-revoked.revoked = rw (due-closed m.heap may.closed) at c.in_ok-revoked.ensures.revoked in
     let counted : c.count-count.result ≡ taken (state_of c.args.self.now) = c.count-count.ensures m.heap.waiting m.memory m.registers revoked in
-    let done : AreTaken m.heap.waiting m.memory m.registers c.take.new.memory c.take.new.registers c.take.result = c.take.ensures.taken m.heap.waiting revoked in
+    let done : AreTaken m.heap.waiting m.memory m.registers c.take.new.memory c.take.new.registers = c.take.ensures.taken m.heap.waiting revoked in
     let claim = c.in-Claimed.ensures.claim in (
       record { may = may; cleared_is = sym c.if-count-cleared.false ∙ counted },
-      Places-swept s c.args.rd c.args.size c.args.base c.args.top c.give_back_and_claim.new.self m.memory c.take.new.memory c.take.new.registers c.set.new.self c.take.result
+      Places-swept s c.args.rd c.args.size c.args.base c.args.top c.give_back_and_claim.new.self m.memory c.take.new.memory c.take.new.registers c.set.new.self
           refl claim.0 (omega (arith, c.least_top.ensures, c.if-top-least_top.false)) claim.1 done (rw c.block_capability.ensures.value at c.set.ensures),
     )

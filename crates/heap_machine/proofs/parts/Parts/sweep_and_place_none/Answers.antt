@@ -26,10 +26,10 @@ returns-clause-followed g c =
     let may : MaySweep (state_of c.args.self.now) = c.may_sweep.ensures.may c.if-not-may_sweep.false in
     let revoked : AreRevoked m.heap.waiting m.memory m.registers c.in_ok-revoked.revoked = rw (due-closed m.heap may.closed) at c.in_ok-revoked.ensures.revoked in
     let counted : c.count-taken.result ≡ taken (state_of c.args.self.now) = c.count-taken.ensures m.heap.waiting m.memory m.registers revoked in
-    let done : AreTaken m.heap.waiting m.memory m.registers c.take.new.memory c.take.new.registers c.take.result = c.take.ensures.taken m.heap.waiting revoked in
+    let done : AreTaken m.heap.waiting m.memory m.registers c.take.new.memory c.take.new.registers = c.take.ensures.taken m.heap.waiting revoked in
     let free : c.give_back.new.self ≡ without_waiting m.heap = c.give_back.ensures.free ∙ without_due-closed m.heap may.closed in (
       record { may = may; cleared_is = sym c.if-taken-cleared.false ∙ counted },
-      PlacesNone-swept s c.args.rd c.give_back.new.self m.memory c.take.new.memory c.take.new.registers c.set.new.self c.take.result refl free done c.set.ensures,
+      PlacesNone-swept s c.args.rd c.give_back.new.self m.memory c.take.new.memory c.take.new.registers c.set.new.self refl free done c.set.ensures,
     )
 
 pub returns-clause-base : goal.returns-clause-base
