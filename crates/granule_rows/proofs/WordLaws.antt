@@ -10,7 +10,7 @@ use Rattle.granule_rows.specs.Starts.{AreStarts, IsNearLongest}
 use Rattle.granule_rows.specs.Tree.{IsLeaf}
 use Rattle.granule_rows.specs.declared.summary.Summary.{Summary}
 use Rattle.granule_rows.specs.declared.word.Starts.{Starts}
-use Rattle.tag_memory.specs.Laws.{is_set-and, is_set_zero, same_test}
+use Rattle.tag_memory.specs.Laws.{clear_from_not, is_set-and, is_set_zero, same_test, set_from_not}
 use Rattle.tag_memory.specs.Tags.{is_set}
 
 -- ---- bits
@@ -174,13 +174,6 @@ IsLeaf-full word fits none =
       };
     }
 
--- the bits of a word, from those of its zeros
-set_from_not : (word k : ℕ) → word < 2 ^ 64 → k < 64 → bit_at (bit_not w64 word) k ≡ 0 → is_set word k ≡ true
-set_from_not word k fits lt none = same_test _ 1 (omega (arith, bit_at_not w64 word k fits lt, bit_at-lt word k))
-
-clear_from_not : (word k : ℕ) → word < 2 ^ 64 → k < 64 → bit_at (bit_not w64 word) k ≡ 1 → is_set word k ≡ false
-clear_from_not word k fits lt one = same_test _ 0 (omega (arith, bit_at_not w64 word k fits lt, bit_at-lt word k))
-
 -- the highest one of a number that has m digits
 highest : (a m : ℕ) → a < 2 ^ suc m → 2 ^ suc m ≤ 2 * a + 1 → bit_at a m ≡ 1
 highest a m lt le =
@@ -206,14 +199,14 @@ IsLeaf-part word longest fits some has most =
       length = refl;
       summary = record {
         prefix_within = omega (arith, low.0);
-        prefix_set = λ k le lt. set_from_not word k fits (omega (arith, low.0)) (low.2 k (omega arith));
+        prefix_set = λ k le lt. set_from_not word k fits (omega (arith, low.0)) (same_test _ 0 (low.2 k (omega arith)));
         prefix_ends = λ lt. (let e : trailing_zeros w64 (bit_not w64 word) ≡ 0 + trailing_zeros w64 (bit_not w64 word) = omega arith in
-            subst (λ (k : ℕ). is_set word k ≡ false) e (clear_from_not word _ fits low.0 low.1));
+            subst (λ (k : ℕ). is_set word k ≡ false) e (clear_from_not word _ fits low.0 (same_test _ 1 low.1)));
         suffix_within = omega (arith, high.1);
-        suffix_set = λ k le lt. set_from_not word k fits (omega arith) (bit_at_above (bit_not w64 word) high.0 k high.2 (omega (arith, high.1)));
+        suffix_set = λ k le lt. set_from_not word k fits (omega arith) (same_test _ 0 (bit_at_above (bit_not w64 word) high.0 k high.2 (omega (arith, high.1))));
         suffix_ends = λ k le e. (let m : high.0 ≡ suc k = omega (arith, high.1) in
             clear_from_not word k fits (omega arith)
-            (highest (bit_not w64 word) k (subst (λ (n : ℕ). bit_not w64 word < 2 ^ n) m high.2) (subst (λ (n : ℕ). 2 ^ n ≤ 2 * bit_not w64 word + 1) m high.3)));
+            (same_test _ 1 (highest (bit_not w64 word) k (subst (λ (n : ℕ). bit_not w64 word < 2 ^ n) m high.2) (subst (λ (n : ℕ). 2 ^ n ≤ 2 * bit_not w64 word + 1) m high.3))));
         longest_at = place.0;
         longest_from = place.1;
         longest_end = place.2;

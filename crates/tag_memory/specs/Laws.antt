@@ -61,11 +61,27 @@ other_bit zero hb = refl
 other_bit (suc zero) hb = refl
 other_bit (suc (suc b)) hb = absurd (omega arith)
 
+-- The bits of the opposite word, and a bit from the opposite one.
+is_set-not : (word j : ℕ) → word < 2 ^ 64 → j < 64 → is_set (bit_not w64 word) j ≡ not (is_set word j)
+is_set-not word j fits below = same_test _ _ (bit_at_not w64 word j fits below) ∙ other_bit (bit_at word j) (bit_at-lt word j)
+
+pub set_from_not : (word j : ℕ) → word < 2 ^ 64 → j < 64 → is_set (bit_not w64 word) j ≡ false → is_set word j ≡ true
+set_from_not word j fits below e = flip (is_set word j) (sym (is_set-not word j fits below) ∙ e) where
+  flip : (t : Bool) → not t ≡ false → t ≡ true
+  flip true e = refl
+  flip false e = absurd cc
+
+pub clear_from_not : (word j : ℕ) → word < 2 ^ 64 → j < 64 → is_set (bit_not w64 word) j ≡ true → is_set word j ≡ false
+clear_from_not word j fits below e = flip (is_set word j) (sym (is_set-not word j fits below) ∙ e) where
+  flip : (t : Bool) → not t ≡ true → t ≡ false
+  flip false e = refl
+  flip true e = absurd cc
+
 -- And without them.
 pub is_set-cleared : (word mask j : ℕ) → mask < 2 ^ 64 → j < 64 → is_set (bit_and word (bit_not w64 mask)) j ≡ (is_set word j && not (is_set mask j))
 is_set-cleared word mask j fits below =
     is_set-and word (bit_not w64 mask) j
-    ∙ ap (λ (b : Bool). is_set word j && b) (same_test _ _ (bit_at_not w64 mask j fits below) ∙ other_bit (bit_at mask j) (bit_at-lt mask j))
+    ∙ ap (λ (b : Bool). is_set word j && b) (is_set-not mask j fits below)
 
 pub is_set_zero : (i : ℕ) → is_set 0 i ≡ false
 is_set_zero i = same_test _ 0 (bit_at-zero i)
