@@ -1,5 +1,6 @@
 pub mod CommandLines
 pub mod Digits
+pub mod FirstByte
 pub mod FirstLine
 pub mod FirstWord
 pub mod HeapLines

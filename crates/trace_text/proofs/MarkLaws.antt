@@ -1,10 +1,10 @@
 -- What the bits of a line's stops tell.
-use Rattle.std.proofs.Common.{◌≡◌, ◌==◌, ℕ, zero, suc, ◌+◌, ◌-◌, ◌/◌, ◌%◌, ◌<◌, ◌≤◌, ◌*◌, ◌^◌, ◌≢◌, max, Bool, true, false, not, List, length, take, drop, get_or, bit_or, w64, refl, sym, ap, ◌∙◌, arith}
+use Rattle.std.proofs.Common.{◌≡◌, ◌==◌, ℕ, zero, suc, ◌+◌, ◌-◌, ◌/◌, ◌%◌, ◌<◌, ◌≤◌, ◌*◌, ◌^◌, ◌≢◌, max, true, false, List, length, take, drop, get_or, bit_or, w64, refl, sym, ap, ◌∙◌, arith}
 use Rattle.std.specs.Int.{bit_at}
 use Rattle.std.proofs.Math.Nat.{mod-eq_of_lt}
 use Rattle.std.proofs.lemmas.List.{get_or-drop, get_or-take, length-drop, length-take-le, take_rest}
 use Rattle.std.proofs.lemmas.Nat.{shr-shr}
-use Rattle.std.proofs.lemmas.Nat.Bits.{bit_at-lt, bit_at_not, bit_at_or, bit_at_set_other, bit_at_set_same}
+use Rattle.std.proofs.lemmas.Nat.Bits.{bit_at-lt, bit_at_or, bit_at_set_other, bit_at_set_same}
 use Rattle.tag_memory.specs.Laws.{same_test}
 use Rattle.tag_memory.specs.Tags.{is_set}
 use Rattle.trace_text.specs.Lines.{is_blank}
@@ -25,27 +25,6 @@ or_set (suc zero) (suc zero) k lm ln e set = rw e refl
 or_set (suc (suc m)) n k lm ln e set = absurd (omega (arith, lm))
 or_set m zero k lm ln e set = absurd cc
 or_set m (suc (suc n)) k lm ln e set = absurd (omega (arith, ln))
-
-flipped : (m n : ℕ) → m < 2 → n ≡ 1 - m → (n == 1) ≡ not (m == 1)
-flipped zero n lt e = rw e refl
-flipped (suc zero) n lt e = rw e refl
-flipped (suc (suc m)) n lt e = absurd (omega (arith, lt))
-
-is_set-not : (mask j : ℕ) → mask < 2 ^ 64 → j < 64 → is_set (2 ^ 64 - 1 - mask) j ≡ not (is_set mask j)
-is_set-not mask j fits lt = flipped (bit_at mask j) (bit_at (2 ^ 64 - 1 - mask) j) (bit_at-lt mask j) (bit_at_not w64 mask j fits lt)
-
--- a bit of the opposite mask gives back the bit
-pub set_from_not : (mask j : ℕ) → mask < 2 ^ 64 → j < 64 → is_set (2 ^ 64 - 1 - mask) j ≡ false → is_set mask j ≡ true
-set_from_not mask j fits lt e = flip (is_set mask j) (sym (is_set-not mask j fits lt) ∙ e) where
-  flip : (t : Bool) → not t ≡ false → t ≡ true
-  flip true e = refl
-  flip false e = absurd cc
-
-pub clear_from_not : (mask j : ℕ) → mask < 2 ^ 64 → j < 64 → is_set (2 ^ 64 - 1 - mask) j ≡ true → is_set mask j ≡ false
-clear_from_not mask j fits lt e = flip (is_set mask j) (sym (is_set-not mask j fits lt) ∙ e) where
-  flip : (t : Bool) → not t ≡ true → t ≡ false
-  flip false e = refl
-  flip true e = absurd cc
 
 -- ---- stops
 

@@ -1,7 +1,6 @@
 use Rattle.std.proofs.Common.{ap, ◌∙◌, arith}
-use Rattle.tag_memory.specs.Laws.{is_set_zero}
+use Rattle.tag_memory.specs.Laws.{clear_from_not, is_set_zero, set_from_not}
 use Rattle.tag_memory.specs.Tags.{is_set}
-use Rattle.trace_text.proofs.MarkLaws.{clear_from_not, set_from_not}
 use Rattle.trace_text.proofs.marked.first_zero.Goals as goal
 
 pub returns-then-zeros-eq0-clause-before : goal.returns-then-zeros-eq0-clause-before
