@@ -3,7 +3,7 @@
 use crate::devices::Digest;
 use crate::draws::Draws;
 use crate::text::BASE;
-use heap_machine::{Machine, Reply};
+use heap_machine::{Machine, Reply, Shown};
 use std::alloc::{AllocError, Global};
 use std::thread::Threads;
 use sweep_pool::{Cutting, Open};
@@ -97,11 +97,13 @@ fn any_command(draws: &mut Draws) -> Command {
     }
 }
 
-// A number for a reply: its kind, and what it says.
+// A number for a reply: its kind, and all that it says.
 fn number_of(reply: Reply) -> u64 {
     match reply {
-        Reply::Block { base, .. } => base.wrapping_mul(16),
-        Reply::BlockAfter { base, cleared, .. } => base.wrapping_mul(32) ^ u64::from(cleared),
+        Reply::Block { base, top } => base.wrapping_mul(16) ^ number_of_top(top),
+        Reply::BlockAfter { base, top, cleared } => {
+            base.wrapping_mul(32) ^ number_of_top(top) ^ u64::from(cleared)
+        }
         Reply::NoSpace => 1,
         Reply::NoSpaceAfter { cleared } => u64::from(cleared) << 8 | 2,
         Reply::Held(bytes) => bytes << 8 | 3,
@@ -109,7 +111,18 @@ fn number_of(reply: Reply) -> u64 {
         Reply::Cleared => 5,
         Reply::Swept { cleared, released } => released << 16 | u64::from(cleared) << 8 | 6,
         Reply::Begun { cleared } => u64::from(cleared) << 8 | 7,
-        Reply::Shown(shown) => shown.address ^ shown.base << 8 ^ u64::from(shown.perms) << 48,
+        Reply::Shown(shown) => number_of_shown(shown),
         Reply::Trap(trap) => (trap as u64) << 8 | 9,
     }
+}
+
+// A top, whose bit 64 counts too.
+fn number_of_top(top: u128) -> u64 {
+    (top as u64).rotate_left(36) ^ (top >> 64) as u64
+}
+
+fn number_of_shown(shown: Shown) -> u64 {
+    let bounds = shown.base << 8 ^ number_of_top(shown.top);
+    let kind = u64::from(shown.otype) << 30 ^ u64::from(shown.exponent) << 24 ^ u64::from(shown.tag);
+    shown.address ^ bounds ^ kind ^ u64::from(shown.perms) << 48
 }
