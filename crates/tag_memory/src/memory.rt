@@ -40,7 +40,7 @@ pub struct Memory {
     base: u64,
     pages: u32,
     bits: Vec<u128>,
-    // In which granule the base of each granule's word lies, so that a sweep needs to decode none.
+    // In which granule the base of each granule's word lies, so that a sweep decodes far bases alone.
     granules_of_bases: Vec<u32>,
     tags: Vec<u64>,
     may_hold: Vec<bool>,
