@@ -8,7 +8,8 @@ import hashlib
 import os
 import pathlib
 import re
-import subprocess
+
+import limited
 
 ROOT = pathlib.Path(__file__).resolve().parent.parent
 RECORD = ROOT / "testing" / "refused_edits"
@@ -34,7 +35,9 @@ def below(crate, uses):
 
 @functools.lru_cache(maxsize=None)
 def logic():
-    return subprocess.run(["rt", "version"], capture_output=True, text=True, check=True).stdout.split("logic")[-1].strip()
+    ran = limited.run(["rt", "version"], limited.SMALL)
+    ran.check_returncode()
+    return ran.stdout.split("logic")[-1].strip()
 
 
 def sum_of(*parts):
