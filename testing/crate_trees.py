@@ -2,7 +2,8 @@
 
 import pathlib
 import shutil
-import subprocess
+
+import limited
 
 
 def rows_of(folder):
@@ -14,12 +15,18 @@ def rows_of(folder):
 def copy_crate(crate, to):
     """Copies a crate's folder; once more where that failed, and then what was said of it is raised."""
     for is_last in (False, True):
-        ran = subprocess.run(["cp", "-a", str(crate), str(to)], capture_output=True, text=True, errors="replace")
+        ran = limited.run(["cp", "-a", str(crate), str(to)], limited.SMALL)
         if ran.returncode == 0:
             return
         shutil.rmtree(to / crate.name, ignore_errors=True)
         if is_last:
             raise OSError(f"{crate.name} can't be copied, with {shutil.disk_usage(to).free >> 20} MiB free: {ran.stderr[-300:]}")
+
+
+def seconds_over(over, crates):
+    """How long a check may take that stands on these crates as they are in the folder `over`."""
+    is_built = all((over / "crates" / it / "out").is_dir() for it in crates)
+    return limited.CHECK if is_built else limited.CHECK_FROM_NOTHING
 
 
 def lay_crates(over, tree, crates):

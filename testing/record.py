@@ -5,9 +5,11 @@ import datetime
 import fcntl
 import functools
 import hashlib
+import os
 import pathlib
 import re
-import subprocess
+
+import limited
 
 ROOT = pathlib.Path(__file__).resolve().parent.parent
 RECORD = ROOT / "testing" / "refused_edits"
@@ -33,7 +35,9 @@ def below(crate, uses):
 
 @functools.lru_cache(maxsize=None)
 def logic():
-    return subprocess.run(["rt", "version"], capture_output=True, text=True, check=True).stdout.split("logic")[-1].strip()
+    ran = limited.run(["rt", "version"], limited.SMALL)
+    ran.check_returncode()
+    return ran.stdout.split("logic")[-1].strip()
 
 
 def sum_of(*parts):
@@ -84,12 +88,16 @@ def read():
 
 def add(sums, is_known):
     """Adds these sums to the record, and leaves out of it what isn't known any more."""
-    with RECORD.open("a", encoding="utf-8") as file:
-        # runs for different crates may end at once
-        fcntl.flock(file, fcntl.LOCK_EX)
+    # Runs for different crates may end at once, and one may be ended here. The folder is locked, since the file is replaced.
+    folder = os.open(RECORD.parent, os.O_RDONLY)
+    try:
+        fcntl.flock(folder, fcntl.LOCK_EX)
         kept = {name: it for name, it in read().items() if is_known(name)} | sums
-        file.truncate(0)
-        file.write(HEAD + "".join(f"{name} {kept[name]}\n" for name in sorted(kept)))
+        new = RECORD.with_suffix(".new")
+        new.write_text(HEAD + "".join(f"{name} {kept[name]}\n" for name in sorted(kept)), encoding="utf-8")
+        os.replace(new, RECORD)
+    finally:
+        os.close(folder)
 
 
 def is_to_be_tried(known, name, now):
