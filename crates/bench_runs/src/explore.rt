@@ -118,7 +118,7 @@ fn number_of(reply: Reply) -> u64 {
 
 // A top, whose bit 64 counts too.
 fn number_of_top(top: u128) -> u64 {
-    (top as u64).rotate_left(36) ^ (top >> 64) as u64
+    ((top % (1 << 64)) as u64).rotate_left(36) ^ (top >> 64) as u64
 }
 
 fn number_of_shown(shown: Shown) -> u64 {
