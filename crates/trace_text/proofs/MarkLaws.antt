@@ -1,7 +1,7 @@
 -- What the bits of a line's stops tell.
 use Rattle.std.proofs.Common.{◌≡◌, ◌==◌, ℕ, zero, suc, ◌+◌, ◌-◌, ◌/◌, ◌%◌, ◌<◌, ◌≤◌, ◌*◌, ◌^◌, ◌≢◌, max, min, inl, inr, Bool, true, false, not, List, length, take, drop, get_or, bit_or, w64, refl, sym, ap, subst, ◌∙◌, arith}
 use Rattle.std.specs.Int.{bit_at}
-use Rattle.std.proofs.lemmas.Bool.{cases_lt}
+use Rattle.std.proofs.lemmas.Bool.{cases_lt, true≢false}
 use Rattle.std.proofs.lemmas.List.{get_or-drop, get_or-take, length-drop, length-take-le, take_rest}
 use Rattle.std.proofs.lemmas.Nat.{shr-shr}
 use Rattle.std.proofs.lemmas.Nat.Bits.{bit_at-lt, bit_at_or, bit_at_set_other, bit_at_set_same}
@@ -114,10 +114,23 @@ blank_in bytes seen stops count are lt one below =
       here = λ _. sym (are.blanks count lt) ∙ one;
     }
 
-pub blank_behind : (bytes : List ℕ) (seen stops count more : ℕ) → AreStops bytes seen stops → seen ≤ count → ((j : ℕ) → j < count → is_set stops j ≡ false)
+-- where all bytes are seen
+pub blank_of_all : (bytes : List ℕ) (seen stops count : ℕ) → AreStops bytes seen stops → seen ≡ length bytes → is_set stops count ≡ true
+    → ((j : ℕ) → j < count → is_set stops j ≡ false) → Ends is_blank bytes count
+blank_of_all bytes seen stops count are all one below =
+    elim (cases_lt seen count) [
+      | inl past ↦ absurd (true≢false (sym are.end ∙ below seen past))
+      | inr le ↦ record {
+          within = omega (arith, le, all);
+          before = λ k less. sym (are.blanks k (omega (arith, less, le))) ∙ below k less;
+          here = λ lt. sym (are.blanks count (omega (arith, lt, all))) ∙ one;
+        }
+    ]
+
+pub blank_behind : (bytes : List ℕ) (seen stops more : ℕ) → AreStops bytes seen stops → ((j : ℕ) → j < seen → is_set stops j ≡ false)
     → Ends is_blank (drop seen bytes) more → Ends is_blank bytes (seen + more)
-blank_behind bytes seen stops count more are le below found =
-    ends_behind is_blank bytes seen more are.within (λ j lt. sym (are.blanks j lt) ∙ below j (omega (arith, lt, le))) found
+blank_behind bytes seen stops more are below found =
+    ends_behind is_blank bytes seen more are.within (λ j lt. sym (are.blanks j lt) ∙ below j lt) found
 
 word_test : (t : Bool) → t ≡ true → not t ≡ false
 word_test true e = refl
@@ -136,8 +149,19 @@ word_in bytes seen stops count are lt clear below =
       here = λ _. word_here (is_blank (get_or bytes count 0)) (sym (are.blanks count lt) ∙ clear);
     }
 
-pub word_behind : (bytes : List ℕ) (seen stops count more : ℕ) → AreStops bytes seen stops → seen ≤ count → ((j : ℕ) → j < count → is_set stops j ≡ true)
+-- where all bytes are seen
+pub word_of_all : (bytes : List ℕ) (seen stops count : ℕ) → AreStops bytes seen stops → seen ≡ length bytes → (count < 64 → is_set stops count ≡ false)
+    → ((j : ℕ) → j < count → is_set stops j ≡ true) → Ends (λ byte. not (is_blank byte)) bytes (min count (length bytes))
+word_of_all bytes seen stops count are all clear below =
+    record {
+      within = omega arith;
+      before = λ k less. word_test (is_blank (get_or bytes k 0)) (sym (are.blanks k (omega (arith, less, all))) ∙ below k (omega (arith, less)));
+      here = λ lt. (let this : min count (length bytes) ≡ count = omega (arith, lt) in
+          rw this (word_here (is_blank (get_or bytes count 0)) (sym (are.blanks count (omega (arith, lt, all))) ∙ clear (omega (arith, lt, all, are.few)))));
+    }
+
+pub word_behind : (bytes : List ℕ) (seen stops more : ℕ) → AreStops bytes seen stops → ((j : ℕ) → j < seen → is_set stops j ≡ true)
     → Ends (λ byte. not (is_blank byte)) (drop seen bytes) more → Ends (λ byte. not (is_blank byte)) bytes (seen + more)
-word_behind bytes seen stops count more are le below found =
+word_behind bytes seen stops more are below found =
     ends_behind (λ byte. not (is_blank byte)) bytes seen more are.within
-    (λ j lt. word_test (is_blank (get_or bytes j 0)) (sym (are.blanks j lt) ∙ below j (omega (arith, lt, le)))) found
+    (λ j lt. word_test (is_blank (get_or bytes j 0)) (sym (are.blanks j lt) ∙ below j lt)) found

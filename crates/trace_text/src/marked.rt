@@ -155,9 +155,22 @@ impl<'a> Line<'a> {
     fn before_blank(&self) -> usize
         ensures { Ends is_blank self.now result }
     {
-        let count = lowest_bit(self.stops);
-        if count < self.seen {
-            return count;
+        if self.seen == self.bytes.len() {
+            lowest_bit(self.stops)
+        } else {
+            self.before_far_blank()
+        }
+    }
+
+    // The same where not all bytes are seen.
+    fn before_far_blank(&self) -> usize
+        ensures { Ends is_blank self.now result }
+    {
+        if self.seen > 0 {
+            let count = lowest_bit(self.stops);
+            if count < self.seen {
+                return count;
+            }
         }
         self.seen + bytes_before_blank(&self.bytes[self.seen..])
     }
@@ -167,9 +180,23 @@ impl<'a> Line<'a> {
     fn before_word(&self) -> usize
         ensures { Ends (λ byte. not (is_blank byte)) self.now result }
     {
-        let count = first_zero(self.stops);
-        if count < self.seen {
-            return count;
+        if self.seen == self.bytes.len() {
+            first_zero(self.stops).min(self.bytes.len())
+        } else {
+            self.before_far_word()
+        }
+    }
+
+    // The same where not all bytes are seen.
+    #[inline(always)]
+    fn before_far_word(&self) -> usize
+        ensures { Ends (λ byte. not (is_blank byte)) self.now result }
+    {
+        if self.seen > 0 {
+            let count = first_zero(self.stops);
+            if count < self.seen {
+                return count;
+            }
         }
         self.seen + bytes_before_word(&self.bytes[self.seen..])
     }
