@@ -1,9 +1,9 @@
 -- The first line of a text ends at the first line feed.
-use Rattle.std.proofs.Common.{◌≡◌, ℕ, zero, suc, ◌+◌, ◌-◌, ◌<◌, ◌≤◌, min, inl, inr, true, false, eqb, List, [], ◌∷◌, length, take, drop, get_or, refl, sym, ap, ◌∙◌, subst, length-drop, arith}
+use Rattle.std.proofs.Common.{◌≡◌, ℕ, zero, suc, ◌+◌, ◌<◌, min, inl, inr, true, false, eqb, List, [], ◌∷◌, length, take, drop, get_or, refl, ap, arith}
 use Rattle.std.specs.List.{onto_first}
 use Rattle.std.proofs.Math.ListN.{drop_of_length-le}
 use Rattle.std.proofs.lemmas.Bool.{cases_lt}
-use Rattle.std.proofs.lemmas.List.{get_or-drop, take_all}
+use Rattle.std.proofs.lemmas.List.{take_all}
 use Rattle.trace_text.specs.Lines.{lines_of}
 use Rattle.trace_text.specs.Marked.{Ends}
 
@@ -23,29 +23,17 @@ lines_without_feed (b ∷ []) some none = rw (none 0 (omega arith)) refl
 lines_without_feed (b ∷ c ∷ bs) some none =
     rw (none 0 (omega arith)) (ap (onto_first b) (lines_without_feed (c ∷ bs) (omega arith) (λ k h. none (suc k) (omega arith))))
 
--- the first line, whose feed is looked for from a place on
-pub lines_from : (text : List ℕ) (place more after : ℕ) → 0 < length text → place ≤ length text → ((k : ℕ) → k < place → eqb (get_or text k 0) 10 ≡ false)
-    → Ends (λ byte. eqb byte 10) (drop place text) more → after ≡ min (place + more + 1) (length text)
-    → lines_of text ≡ take (place + more) text ∷ lines_of (drop after text)
-lines_from text place more after some within none found past =
-    let left : length (drop place text) ≡ length text - place = length-drop place text in
-    let before : (k : ℕ) → k < place + more → eqb (get_or text k 0) 10 ≡ false =
-    λ k below. elim (cases_lt k place) [
-      | inl early ↦ none k early
-      | inr late ↦
-          let there : place + (k - place) ≡ k = omega arith in
-          subst (λ (i : ℕ). eqb (get_or text i 0) 10 ≡ false) there
-          (ap (λ (b : ℕ). eqb b 10) (sym (get_or-drop place text (k - place) 0)) ∙ found.before (k - place) (omega (arith, below, late)))
-    ] in
-    elim (cases_lt (place + more) (length text)) [
+-- the first line, and the text from a place behind it on
+pub lines_to : (text : List ℕ) (count after : ℕ) → 0 < length text → Ends (λ byte. eqb byte 10) text count → after ≡ min (count + 1) (length text)
+    → lines_of text ≡ take count text ∷ lines_of (drop after text)
+lines_to text count after some found past =
+    elim (cases_lt count (length text)) [
       | inl lt ↦
-          let here : eqb (get_or text (place + more) 0) 10 ≡ true = ap (λ (b : ℕ). eqb b 10) (sym (get_or-drop place text more 0)) ∙ found.here (omega (arith, left, lt)) in
-          let next : after ≡ suc (place + more) = omega (arith, past, lt) in
-          rw next (lines_at_feed text (place + more) lt here before)
+          let next : after ≡ suc count = omega (arith, past, lt) in
+          rw next (lines_at_feed text count lt (found.here lt) found.before)
       | inr all ↦
-          let end : place + more ≡ length text = omega (arith, left, all, found.within, within) in
+          let end : count ≡ length text = omega (arith, all, found.within) in
           let last : after ≡ length text = omega (arith, past, end) in
           let nothing : drop (length text) text ≡ [] = drop_of_length-le text (omega arith) in
-          rw (last, end, take_all (length text) text (omega arith), nothing)
-          (lines_without_feed text some (λ k lt. before k (omega (arith, lt, end))))
+          rw (last, end, take_all (length text) text (omega arith), nothing) (lines_without_feed text some (λ k lt. found.before k (omega (arith, lt, end))))
     ]

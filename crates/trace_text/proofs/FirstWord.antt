@@ -1,9 +1,9 @@
 -- The first word of a line stands from its first byte that is no blank up to the next blank.
-use Rattle.std.proofs.Common.{◌≡◌, ℕ, zero, suc, ◌<◌, ◌≤◌, Bool, true, false, not, cond, List, [], ◌∷◌, Option, Some, None, length, take, drop, get_or, filter, unwrap_or, refl, sym, ap, ◌∙◌, length-drop, add-zero, arith}
+use Rattle.std.proofs.Common.{◌≡◌, ℕ, zero, suc, ◌+◌, ◌-◌, ◌<◌, ◌≤◌, inl, inr, Bool, true, false, not, cond, List, [], ◌∷◌, Option, Some, None, length, take, drop, get_or, filter, unwrap_or, refl, sym, ap, subst, ◌∙◌, length-drop, add-zero, arith}
 use Rattle.std.specs.List.{slice_split, onto_first, position, position_or_len, starts_with}
 use Rattle.std.specs.Prelude.{codes, nat_eq, nat_lt}
 use Rattle.std.proofs.Math.ListN.{drop_of_length-le}
-use Rattle.std.proofs.lemmas.Bool.{not-true}
+use Rattle.std.proofs.lemmas.Bool.{cases_lt, not-true}
 use Rattle.std.proofs.lemmas.Bool.Decides.{nat_tests}
 use Rattle.std.proofs.lemmas.List.{get_or-drop}
 use Rattle.std.proofs.lemmas.List.Quantifiers.{position-Some}
@@ -26,6 +26,23 @@ ends p xs (Some i) e =
     let first = position-Some p xs i 0 (sym e) in
     record { within = omega arith; before = first.2; here = λ _. first.1 }
 ends p xs None e = record { within = omega arith; before = λ k lt. position-None p xs k (sym e) lt; here = λ lt. absurd (omega arith) }
+
+-- behind so many bytes, if it passes at none of these
+pub ends_behind : (p : ℕ → Bool) (bytes : List ℕ) (seen more : ℕ) → seen ≤ length bytes → ((j : ℕ) → j < seen → p (get_or bytes j 0) ≡ false)
+    → Ends p (drop seen bytes) more → Ends p bytes (seen + more)
+ends_behind p bytes seen more within none found =
+    let left : length (drop seen bytes) ≡ length bytes - seen = length-drop seen bytes in
+    record {
+      within = omega (arith, left, found.within, within);
+      before = λ k lt. elim (cases_lt k seen) [
+        | inl early ↦ none k early
+        | inr late ↦
+            let there : seen + (k - seen) ≡ k = omega (arith, late) in
+            subst (λ (i : ℕ). p (get_or bytes i 0) ≡ false) there
+            (ap p (sym (get_or-drop seen bytes (k - seen) 0)) ∙ found.before (k - seen) (omega (arith, lt, late)))
+      ];
+      here = λ lt. ap p (sym (get_or-drop seen bytes more 0)) ∙ found.here (omega (arith, left, lt));
+    }
 
 -- ---- blanks before the word
 

@@ -3,12 +3,11 @@ use Rattle.std.specs.Prelude.{◌≡◌, ◌<◌, ◌≤◌, ◌-◌, ℕ, Bool,
 use Rattle.tag_memory.specs.Tags.{is_set}
 use Rattle.trace_text.specs.Lines.{is_blank}
 
--- Of these bits those of the bytes that are seen are 1 where a blank is, and the one behind them is 1.
-pub record AreStops (bytes : List ℕ) (seen stops : ℕ) : Type 0 where
-  pub within : seen ≤ length bytes
-  pub few : seen < 64
-  pub blanks : (j : ℕ) → j < seen → is_set stops j ≡ is_blank (slice_index bytes j)
-  pub end : is_set stops seen ≡ true
+-- Of these bits those before the end are 1 where a blank is, and the one at the end is 1.
+pub record AreStops (bytes : List ℕ) (stops : ℕ) : Type 0 where
+  pub short : length bytes < 64
+  pub blanks : (j : ℕ) → j < length bytes → is_set stops j ≡ is_blank (slice_index bytes j)
+  pub end : is_set stops (length bytes) ≡ true
 
 -- A place up to which a test fails, and at which it passes unless the list ends there.
 pub record Ends (p : ℕ → Bool) (xs : List ℕ) (i : ℕ) : Type 0 where

@@ -1,6 +1,6 @@
 //! A line of a text, and where its words end.
 
-ghost use Rattle.std.specs.Prelude.{◌≡◌, ◌<◌, ◌≤◌, ◌==◌, ℕ, [], ◌∷◌, drop, false, length, min, not, slice_index, take, true, IfNone, IfSome};
+ghost use Rattle.std.specs.Prelude.{◌≡◌, ◌<◌, ◌≤◌, ◌==◌, ℕ, [], ◌∷◌, drop, false, length, not, slice_index, take, true, IfNone, IfSome};
 ghost use Rattle.std.specs.Option.{option_map};
 ghost use Rattle.tag_memory.specs.Tags.{is_set};
 ghost use Rattle.trace_text.specs.Lines.{is_blank, is_passed_over, split_at_first, words_of};
@@ -13,17 +13,17 @@ use tag_memory::lowest_bit;
 /// How many bytes one look takes in.
 pub const LANES: usize = 64;
 
-/// A line, and where words end among those of its first bytes that a look took in.
+/// A line, and where its words end, if one look took it in with the feed after it.
 #[derive(Drop)]
 pub struct Line<'a> {
     bytes: &'a [u8],
-    seen: usize,
-    // Bit `j` is 1 where byte `j` is a blank, of those that are seen; that behind them is 1 too.
+    is_seen: bool,
+    // Where it is seen: bit `j` is 1 where byte `j` is a blank, and where the line ends.
     stops: u64,
 }
 
 impl<'a> Model for Line<'a> {
-    ghost use Rattle.std.specs.Prelude.{ℕ, List};
+    ghost use Rattle.std.specs.Prelude.{◌≡◌, ℕ, List, true};
 
     ghost Value = { List ℕ };
 
@@ -31,7 +31,7 @@ impl<'a> Model for Line<'a> {
 
     ghost use Rattle.trace_text.specs.Marked.{AreStops};
 
-    ghost invariant = { λ line. AreStops line.bytes.now line.seen line.stops };
+    ghost invariant = { λ line. line.is_seen ≡ true → AreStops line.bytes.now line.stops };
 }
 
 /// Which of the first 64 bytes of a text are line feeds: bit `j` is that of byte `j`.
@@ -96,20 +96,19 @@ fn bytes_before_word(bytes: &[u8]) -> usize
 }
 
 impl<'a> Line<'a> {
-    /// The first `count` bytes of a text as a line, of which a look takes in up to 63. The lowest of these marks is behind
-    /// what it takes in.
+    /// The line before the first feed of a text, which stands at `count`. These are the feeds of 64 bytes.
     #[inline(always)]
-    pub fn of_text(text: &'a [u8], marks: u64, count: usize) -> Line<'a>
+    pub fn of_text(text: &'a [u8], feeds: u64, count: usize) -> Line<'a>
         requires room { 64 ≤ length text.now }
-        requires within { count ≤ length text.now }
-        requires mark { is_set marks (min count 63) ≡ true }
-        requires first { (j : ℕ) → j < min count 63 → is_set marks j ≡ false }
+        requires within { count < 64 }
+        requires feed { is_set feeds count ≡ true }
+        requires first { (j : ℕ) → j < count → is_set feeds j ≡ false }
         ensures { result ≡ take count text.now }
     {
         Line {
             bytes: &text[..count],
-            seen: count.min(LANES - 1),
-            stops: blanks_of(text) | marks,
+            is_seen: true,
+            stops: blanks_of(text) | feeds,
         }
     }
 
@@ -120,8 +119,8 @@ impl<'a> Line<'a> {
     {
         Line {
             bytes,
-            seen: 0,
-            stops: 1,
+            is_seen: false,
+            stops: 0,
         }
     }
 
@@ -139,14 +138,10 @@ impl<'a> Line<'a> {
         requires { count ≤ length self.now }
         ensures { result ≡ drop count self.now }
     {
-        let bytes = &self.bytes[count..];
-        if count > self.seen {
-            return Line::of_bytes(bytes);
-        }
         Line {
-            bytes,
-            seen: self.seen - count,
-            stops: self.stops >> count,
+            bytes: &self.bytes[count..],
+            is_seen: self.is_seen,
+            stops: self.stops >> (count % LANES),
         }
     }
 
@@ -155,24 +150,11 @@ impl<'a> Line<'a> {
     fn before_blank(&self) -> usize
         ensures { Ends is_blank self.now result }
     {
-        if self.seen == self.bytes.len() {
+        if self.is_seen {
             lowest_bit(self.stops)
         } else {
-            self.before_far_blank()
+            bytes_before_blank(self.bytes)
         }
-    }
-
-    // The same where not all bytes are seen.
-    fn before_far_blank(&self) -> usize
-        ensures { Ends is_blank self.now result }
-    {
-        if self.seen > 0 {
-            let count = lowest_bit(self.stops);
-            if count < self.seen {
-                return count;
-            }
-        }
-        self.seen + bytes_before_blank(&self.bytes[self.seen..])
     }
 
     // How many bytes stand before the first that is no blank.
@@ -180,25 +162,11 @@ impl<'a> Line<'a> {
     fn before_word(&self) -> usize
         ensures { Ends (λ byte. not (is_blank byte)) self.now result }
     {
-        if self.seen == self.bytes.len() {
+        if self.is_seen {
             first_zero(self.stops).min(self.bytes.len())
         } else {
-            self.before_far_word()
+            bytes_before_word(self.bytes)
         }
-    }
-
-    // The same where not all bytes are seen.
-    #[inline(always)]
-    fn before_far_word(&self) -> usize
-        ensures { Ends (λ byte. not (is_blank byte)) self.now result }
-    {
-        if self.seen > 0 {
-            let count = first_zero(self.stops);
-            if count < self.seen {
-                return count;
-            }
-        }
-        self.seen + bytes_before_word(&self.bytes[self.seen..])
     }
 
     /// The line from its first word on.
@@ -243,24 +211,16 @@ impl<'a> Line<'a> {
         Some(self.from_word()?.split_front())
     }
 
-    // The first `count` bytes. Where these are seen, the last word now ends there too.
+    // The first `count` bytes. Where the line is seen, its last word now ends there too.
     #[inline(always)]
     fn before(&self, count: usize) -> Line<'a>
         requires { count ≤ length self.now }
         ensures { result ≡ take count self.now }
     {
-        let bytes = &self.bytes[..count];
-        if count > self.seen {
-            return Line {
-                bytes,
-                seen: self.seen,
-                stops: self.stops,
-            };
-        }
         Line {
-            bytes,
-            seen: count,
-            stops: self.stops | (1 << count),
+            bytes: &self.bytes[..count],
+            is_seen: self.is_seen,
+            stops: self.stops | (1 << (count % LANES)),
         }
     }
 

@@ -28,10 +28,10 @@ fn line_of(text: &[u8], count: usize) -> Line<'_>
     requires { count ≤ length text.now }
     ensures { result ≡ take count text.now }
 {
-    if count < LEAST_SEEN || text.len() < LANES || text.starts_with(b"#") {
+    if count < LEAST_SEEN || count >= LANES || text.len() < LANES || text.starts_with(b"#") {
         return Line::of_bytes(&text[..count]);
     }
-    Line::of_text(text, 1 << count.min(LANES - 1), count)
+    Line::of_text(text, 1 << count, count)
 }
 
 // The first line of a text that isn't empty, which ends at the first feed from a place on, and what follows it.

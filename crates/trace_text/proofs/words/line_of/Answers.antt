@@ -7,6 +7,5 @@ use Rattle.trace_text.proofs.words.line_of.Goals as goal
 pub of_text-requires-clause-first : goal.of_text-requires-clause-first
 of_text-requires-clause-first c =
     λ j lt.
-    let seen = c.min.result in
-    ap (λ mask. is_set mask j) (sym (or_zero_l (1 * 2 ^ seen % 2 ^ 64)))
-    ∙ is_set-other w64 0 seen (omega (arith, c.min.ensures)) j (omega (arith, lt, c.min.ensures)) ∙ is_set_zero j
+    let count = c.args.count in
+    ap (λ mask. is_set mask j) (sym (or_zero_l (1 * 2 ^ count % 2 ^ 64))) ∙ is_set-other w64 0 count (omega (arith, c.if-count-ge-LANES.false)) j (omega (arith, lt)) ∙ is_set_zero j
