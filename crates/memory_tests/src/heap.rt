@@ -198,6 +198,24 @@ fn a_held_block_is_not_used_again(rt: HostRuntime) {
     assert_eq!(rt; sums, (2080, 0, 2016));
 }
 
+// The first page and the third, of which a row of pages has bits in one word.
+#[test]
+fn pages_are_given_back_together(rt: HostRuntime) {
+    let mut heap = Heap::new(rt.alloc(), BASE, 3).expect(&rt, "a heap");
+    let pages = [
+        (4096, Some((0x4000_0000, 0x4000_1000))),
+        (4096, Some((0x4000_1000, 0x4000_2000))),
+        (4096, Some((0x4000_2000, 0x4000_3000))),
+    ];
+    blocks_lie(&rt, &mut heap, &pages);
+    for base in [0x4000_0000, 0x4000_2000] {
+        let freed = heap.release(base, u128::from(base) + 4096);
+        assert_eq!(rt; freed, Ok(Freed::Held), "at {base:x}");
+    }
+    assert_eq!(rt; heap.give_back(), 8192);
+    blocks_lie(&rt, &mut heap, &[pages[0], pages[2], (16, None)]);
+}
+
 // Free extents on both sides of a block that is given back become one with it.
 #[test]
 fn extents_are_joined(rt: HostRuntime) {

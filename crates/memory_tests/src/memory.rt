@@ -1,7 +1,7 @@
 //! What no contract says: that these calls succeed where memory serves.
 
-use cap_codec::Word;
-use tag_memory::{Memory, MemoryFault, Registers};
+use cap_codec::{Word, set_address, with_bounds};
+use tag_memory::{FAR, Memory, MemoryFault, Registers, lowest_bit, without_lowest};
 
 #[test]
 fn spans_are_judged(rt: HostRuntime) {
@@ -81,6 +81,58 @@ fn a_page_is_dirty_once_a_tagged_word_was_written(rt: HostRuntime) {
     memory.mark_clean();
     assert!(rt; !memory.dirty(1));
     assert!(rt; !memory.has_dirty());
+}
+
+#[test]
+fn bases_are_told_by_their_granules(rt: HostRuntime) {
+    assert_eq!(rt; FAR, 0xffff_ffff);
+    // Where a memory of one page starts, the base of a word in it, whose address lies elsewhere, and the granule of that base:
+    // before the memory, in it, past it, and about the greatest number that is told.
+    let rows = [
+        (0x1000, 0, FAR),
+        (0x1000, 0xfff, FAR),
+        (0x1000, 0x1000, 0),
+        (0x1000, 0x102f, 2),
+        (0x1000, 0x1fff, 255),
+        (0x1000, 0x2000, 256),
+        (0x1000, 0x10_0000_0fef, 0xffff_fffe),
+        (0x1000, 0x10_0000_0ff0, FAR),
+        (0x1000, 0xffff_ffff_ffff_ffff, FAR),
+        (0xffff_ffff_ffff_f000, 0xffff_ffff_ffff_efff, FAR),
+        (0xffff_ffff_ffff_f000, 0xffff_ffff_ffff_ffff, 255),
+    ];
+    for (start, base, granule) in rows {
+        let mut memory = Memory::new(rt.alloc(), start, 1).expect(&rt, "there is memory");
+        let (word, _) = with_bounds(Word::NULL, base, u128::from(base) + 1);
+        let word = set_address(word, base.saturating_sub(0x800));
+        memory.put(7, word.bits, false);
+        assert_eq!(rt; memory.base_granule(7), granule, "{base:x} from {start:x}");
+    }
+}
+
+// The base of a word that was never written is 0.
+#[test]
+fn bases_of_a_new_memory_are_0(rt: HostRuntime) {
+    for (start, granule) in [(0, 0), (0x1000, FAR)] {
+        let memory = Memory::new(rt.alloc(), start, 1).expect(&rt, "there is memory");
+        assert_eq!(rt; memory.base_granule(255), granule);
+    }
+}
+
+#[test]
+fn the_lowest_bit_is_found_and_left_out(rt: HostRuntime) {
+    let rows = [
+        (1, 0, 0),
+        (0b1010, 1, 0b1000),
+        (u64::MAX, 0, u64::MAX - 1),
+        (0xf000_0000_0000_0100, 8, 0xf000_0000_0000_0000),
+        (1 << 63, 63, 0),
+    ];
+    for (word, place, rest) in rows {
+        assert!(rt; word > 0);
+        assert_eq!(rt; lowest_bit(word), place, "{word:x}");
+        assert_eq!(rt; without_lowest(word), rest, "{word:x}");
+    }
 }
 
 #[test]

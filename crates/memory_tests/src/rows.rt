@@ -8,7 +8,7 @@ fn runs_in_one_word_are_found(rt: HostRuntime) {
     let words = [
         (0b0111_0110, 3, 4, 4),
         (0xf000_0000_0000_0007, 4, 60, 5),
-        (0x8000_0ff0_0000_0001, 8, 36, 9),
+        (0x8001_ff00_0000_00ff, 9, 40, 10),
         (u64::MAX, 64, 0, 65),
     ];
     for (word, longest, place, longer) in words {
@@ -44,9 +44,11 @@ fn runs_are_found(rt: HostRuntime) {
     assert_eq!(rt; row.next_run(2, 69), Some(120));
     assert_eq!(rt; row.next_run(64, 250), Some(250));
     assert_eq!(rt; row.next_run(64, 257), None);
+    assert_eq!(rt; row.next_run(200, 60), Some(120));
     assert_eq!(rt; row.next_run(1, 600), None);
     assert_eq!(rt; row.first_multiple(16, 0, 32), Some(128));
     assert_eq!(rt; row.first_multiple(16, 5, 32), Some(123));
+    assert_eq!(rt; row.first_multiple(1, 0, 5), Some(60));
     assert_eq!(rt; row.first_multiple(200, 0, 32), None);
     row.take(128, 64);
     assert_eq!(rt; row.first_run(11), Some(192));

@@ -7,7 +7,7 @@ use heap_core::{Heap, HeapFault, Shadow};
 use std::alloc::Global;
 use sweep_pool::{
     CutFault, Cutting, Gate, GatherFault, Open, SweepFault, due_registers, sweep_masks,
-    swept_registers,
+    sweep_masks_alone, swept_registers,
 };
 use tag_memory::{Memory, Registers};
 
@@ -119,4 +119,56 @@ fn memory_is_swept_by_bases(rt: HostRuntime) {
     )
     .expect(&rt, "there is memory");
     assert_eq!(rt; masks.as_slice(), [0, 1, 0, 1 << 63].as_slice());
+}
+
+// A base before the heap, with an address in a held granule; one that lies 2^32 granules behind the first, which is held; and
+// one in the second granule.
+#[test]
+fn far_bases_are_not_swept(rt: HostRuntime) {
+    let shadow = held_shadow(rt.alloc()).expect(&rt, "there is memory");
+    let mut memory = Memory::new(rt.alloc(), BASE, 1).expect(&rt, "there is memory");
+    let (before, _) = with_bounds(Word::NULL, 0, 1 << 64);
+    let (behind, _) = with_bounds(
+        Word::NULL,
+        BASE + (1 << 36),
+        u128::from(BASE) + (1 << 36) + 16,
+    );
+    memory.put(0, set_address(before, BASE).bits, true);
+    memory.put(1, behind.bits, true);
+    memory.put(2, word(16, 32, 16).bits, true);
+    let cutting = Cutting::new(1, 16).expect(&rt, "it is a cutting");
+    let masks = sweep_masks_alone(rt.alloc(), &memory, &shadow, &cutting, &Open).expect(
+        &rt,
+        "there is memory",
+    );
+    assert_eq!(rt; masks.as_slice(), [4, 0, 0, 0].as_slice());
+}
+
+const LAST_BASE: u64 = 0xffff_ffff_ffff_f000;
+
+// A heap whose page ends at 2^64, of which the last granule is held.
+fn last_heap(alloc: Global) -> Result<Heap, HeapFault> {
+    let mut heap = Heap::new(alloc, LAST_BASE, 1)?;
+    let _ = heap.reserve(4080)?;
+    let _ = heap.reserve(16)?;
+    let _ = heap.release(LAST_BASE + 4080, 1 << 64)?;
+    Ok(heap)
+}
+
+#[test]
+fn a_base_in_the_last_granule_of_all_is_swept(rt: HostRuntime) {
+    let heap = last_heap(rt.alloc()).expect(&rt, "there is memory");
+    let shadow = heap.shadow(rt.alloc()).expect(&rt, "there is memory");
+    let mut memory = Memory::new(rt.alloc(), LAST_BASE, 1).expect(&rt, "there is memory");
+    let (last, _) = with_bounds(Word::NULL, LAST_BASE + 4080, 1 << 64);
+    let (first, _) = with_bounds(Word::NULL, LAST_BASE, u128::from(LAST_BASE) + 4080);
+    memory.put(0, Word::NULL.bits, true);
+    memory.put(70, last.bits, true);
+    memory.put(71, first.bits, true);
+    let cutting = Cutting::new(1, 16).expect(&rt, "it is a cutting");
+    let masks = sweep_masks_alone(rt.alloc(), &memory, &shadow, &cutting, &Open).expect(
+        &rt,
+        "there is memory",
+    );
+    assert_eq!(rt; masks.as_slice(), [0, 1 << 6, 0, 0].as_slice());
 }

@@ -149,7 +149,8 @@ impl Memory {
         ensures near { result < bases.far → self.now.base ≤ base_of (cell_of (slice_index_or self.now.cells i (0, false))).0 }
         ensures place { result < bases.far → (base_of (cell_of (slice_index_or self.now.cells i (0, false))).0 - self.now.base) / 16 ≡ result }
     {
-        self.granules_of_bases[i]
+        let granules = &self.granules_of_bases;
+        granules[i]
     }
 
     /// Writes a granule's bytes and its tag. With one, its page may hold tags from then on, and is dirty.

@@ -3,6 +3,17 @@
 use crate::derived;
 use cap_codec::{Word, and_perms, block_capability};
 use heap_reply::{Reply, Shown, Trap};
+use reply_text::{ShortText, put_reply, put_reply_of};
+
+// Whether this is the text that is put of a reply, both of one that stays where it is and of a copy.
+fn is_put_as(reply: Reply, text: &str) -> bool {
+    let mut put = ShortText::new();
+    put_reply_of(&mut put, &reply);
+    let is_same = put.as_str() == text;
+    put.clear();
+    put_reply(&mut put, reply);
+    is_same && put.as_str() == text
+}
 
 #[test]
 fn replies_by_their_texts(rt: HostRuntime) {
@@ -38,6 +49,7 @@ fn replies_by_their_texts(rt: HostRuntime) {
     for (reply, text) in texts {
         let printed = format!(in rt.alloc(); "{reply}").expect(&rt, "there is memory");
         assert_eq!(rt; printed.as_str(), text);
+        assert!(rt; is_put_as(reply, text), "{text}");
     }
 }
 
@@ -59,6 +71,7 @@ fn traps_by_their_names(rt: HostRuntime) {
         let reply = Reply::Trap(trap);
         let printed = format!(in rt.alloc(); "{reply}").expect(&rt, "there is memory");
         assert_eq!(rt; printed.as_str(), text);
+        assert!(rt; is_put_as(reply, text), "{text}");
     }
 }
 
@@ -83,6 +96,7 @@ fn registers_are_shown(rt: HostRuntime) {
         let reply = Reply::Shown(shown);
         let printed = format!(in rt.alloc(); "{reply}").expect(&rt, "there is memory");
         assert_eq!(rt; printed.as_str(), text);
+        assert!(rt; is_put_as(reply, text), "{text}");
     }
 }
 

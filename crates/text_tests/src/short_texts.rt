@@ -16,10 +16,12 @@ fn each_piece_stands_before_the_earlier_ones(rt: HostRuntime) {
 }
 
 // Numbers with their texts.
-const NUMBERS: [(u128, &str); 7] = [
+const NUMBERS: [(u128, &str); 9] = [
     (0, "0x0"),
     (0xf, "0xf"),
     (0x10, "0x10"),
+    (0x123, "0x123"),
+    (0x1234, "0x1234"),
     (0xfedc_ba98_7654_3210, "0xfedcba9876543210"),
     (1 << 64, "0x10000000000000000"),
     ((1 << 64) + 0xab, "0x100000000000000ab"),

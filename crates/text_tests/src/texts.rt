@@ -163,6 +163,7 @@ fn words_that_are_no_number(rt: HostRuntime) {
         "0x+1",
         "1a",
         "0xg",
+        "0x1g",
     ];
     for word in cases {
         let line = format!(in rt.alloc(); "malloc c1 {word}").expect(&rt, "there is memory");
@@ -290,28 +291,38 @@ fn lines_about_as_long_as_a_look(rt: HostRuntime) {
     }
 }
 
+// Bytes 0, 8, 11 and 12, and those that would be blanks, feeds or digits without their highest bit.
 #[test]
 fn bytes_that_are_no_text(rt: HostRuntime) {
-    let comment = after_heap(rt.alloc(), b"# \xff\x00\n")
-        .expect(&rt, "there is memory")
-        .expect(&rt, "it is a trace");
-    assert!(rt; comment.commands.is_empty());
-    let name = after_heap(rt.alloc(), b"sh\xffow c1\n")
-        .expect(&rt, "there is memory")
-        .err();
-    assert_eq!(rt; name, Some(TraceFault::BadCommand(2)));
-    let operand = after_heap(rt.alloc(), b"show c\xff\n")
-        .expect(&rt, "there is memory")
-        .err();
-    assert_eq!(rt; operand, Some(TraceFault::BadRegister(2)));
-    let no_blank = after_heap(rt.alloc(), b"show\x0bc1\n")
-        .expect(&rt, "there is memory")
-        .err();
-    assert_eq!(rt; no_blank, Some(TraceFault::BadCommand(2)));
-    let word = after_heap(rt.alloc(), b"sweep \xff\n")
-        .expect(&rt, "there is memory")
-        .err();
-    assert_eq!(rt; word, Some(TraceFault::BadCount(2)));
+    let cases: [(&[u8], Option<TraceFault>); 19] = [
+        (b"# \xff\x00\x0b\x8a", None),
+        (b"sh\xffow c1", Some(TraceFault::BadCommand(2))),
+        (b"show\x0bc1", Some(TraceFault::BadCommand(2))),
+        (b"show\x00c1", Some(TraceFault::BadCommand(2))),
+        (b"show\x08c1", Some(TraceFault::BadCommand(2))),
+        (b"show\x0cc1", Some(TraceFault::BadCommand(2))),
+        (b"show\xa0c1", Some(TraceFault::BadCommand(2))),
+        (b"show\x89c1", Some(TraceFault::BadCommand(2))),
+        (b"show\x8dc1", Some(TraceFault::BadCommand(2))),
+        (b"show\x8ashow c1", Some(TraceFault::BadCommand(2))),
+        (b"\x0bsweep", Some(TraceFault::BadCommand(2))),
+        (b"sweep \x0b", Some(TraceFault::BadCount(2))),
+        (b"sweep \x00", Some(TraceFault::BadCount(2))),
+        (b"sweep \xff", Some(TraceFault::BadCount(2))),
+        (b"show c\xff", Some(TraceFault::BadRegister(2))),
+        (b"show c\xb1", Some(TraceFault::BadRegister(2))),
+        (b"show c1\x0b", Some(TraceFault::BadRegister(2))),
+        (b"malloc c1 \xb1", Some(TraceFault::BadNumber(2))),
+        (b"malloc c1 0x\xb1", Some(TraceFault::BadNumber(2))),
+    ];
+    for (line, fault) in cases {
+        let at_end = after_heap(rt.alloc(), line);
+        let before = before_more_text(rt.alloc(), line);
+        for read in [at_end, before] {
+            let answer = read.expect(&rt, "there is memory").err();
+            assert_eq!(rt; answer.as_ref(), fault.as_ref(), "{line:?}");
+        }
+    }
 }
 
 const SMALL: &[u8] =
