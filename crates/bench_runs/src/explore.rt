@@ -123,6 +123,8 @@ fn number_of_top(top: u128) -> u64 {
 
 fn number_of_shown(shown: Shown) -> u64 {
     let bounds = shown.base << 8 ^ number_of_top(shown.top);
-    let kind = u64::from(shown.otype) << 30 ^ u64::from(shown.exponent) << 24 ^ u64::from(shown.tag);
+    let kind = u64::from(shown.otype) << 30
+        ^ u64::from(shown.exponent) << 24
+        ^ u64::from(shown.tag);
     shown.address ^ bounds ^ kind ^ u64::from(shown.perms) << 48
 }

@@ -1,4 +1,4 @@
-use Rattle.std.proofs.Common.{◌+◌, ◌*◌, ◌%◌, ◌^◌, sym, ap, ◌∙◌, arith, w64}
+use Rattle.std.proofs.Common.{◌*◌, ◌%◌, ◌^◌, sym, ap, ◌∙◌, arith, w64}
 use Rattle.std.specs.Int.Bits.{or_zero_l}
 use Rattle.tag_memory.specs.Laws.{is_set-other, is_set_zero}
 use Rattle.tag_memory.specs.Tags.{is_set}
