@@ -261,7 +261,7 @@ uint64_t kernelstint_alignment_mask(uint64_t length);
  * KERNELSTINT_NULL, also beside a length of 0, and places that lie over one another, of which one is written, by
  * KERNELSTINT_OVERLAP. States and texts may begin at any address: no alignment is asked. Where the code is not 0, nothing is
  * written but what the function's comment names. Each function takes memory from malloc while it runs, and answers
- * KERNELSTINT_NO_MEMORY where it gets none; a step on a heap of one page makes some fourteen allocations.
+ * KERNELSTINT_NO_MEMORY where it gets none; a step on a heap of one page makes 14 to 16 allocations.
  */
 #define KERNELSTINT_GRANULES(pages) ((size_t)256 * (pages))
 #define KERNELSTINT_GRANULE_AT(i) ((size_t)13 + (size_t)21 * (i))
