@@ -72,7 +72,7 @@ uint32_t kernelstint_version(void);
 #define KERNELSTINT_NO_MEMORY 14u
 /* No kind of command has this number, a register is 32 or more, or a mask has more than 16 bits. */
 #define KERNELSTINT_BAD_COMMAND 15u
-/* No kind of reply or no trap has this number, or a tag is above 1. */
+/* No kind of reply or no trap has this number, or a tag that is shown is above 1. */
 #define KERNELSTINT_BAD_REPLY 16u
 /* The answer is not allowed. */
 #define KERNELSTINT_DIFFERS 17u
@@ -246,13 +246,22 @@ uint64_t kernelstint_alignment_mask(uint64_t length);
  *     KERNELSTINT_PAGE_AT         1      page p: 1 where it is dirty, else 0
  *
  * A heap of n pages has the granules 0 to 256 * n - 1. These functions take any bytes, and answer KERNELSTINT_BAD_STATE for
- * those that are no state's.
+ * those that are no state's. Bytes of the length and form above are a state's where all of this holds, and only there:
+ *
+ * - there are 1 to 1,024 pages, the base is a multiple of 4,096, and the heap ends at 2^64 at most
+ * - register 0 is zero and untagged
+ * - each block is one granule or more, ends within the heap, and has bounds that a capability can hold as they are; no two
+ *   blocks, live or freed, share a byte; and none is painted unless an epoch is open
+ * - the bounds of each tagged word, in a register or a granule, have a byte or more, and lie in one block, live or freed: so no
+ *   tagged word points to free bytes
+ * - each tagged granule whose word has its base in a painted block stands in a dirty page
  *
  * Conditions, where a function is given pointers: at each can be read, or written where the function writes, as many bytes as
  * the length beside it says, or one struct, and nothing else writes or reads there meanwhile. A null pointer is answered by
  * KERNELSTINT_NULL, also beside a length of 0, and places that lie over one another, of which one is written, by
- * KERNELSTINT_OVERLAP. Where the code is not 0, nothing is written but what the function's comment names. Each function takes
- * memory from malloc while it runs, and answers KERNELSTINT_NO_MEMORY where it gets none.
+ * KERNELSTINT_OVERLAP. States and texts may begin at any address: no alignment is asked. Where the code is not 0, nothing is
+ * written but what the function's comment names. Each function takes memory from malloc while it runs, and answers
+ * KERNELSTINT_NO_MEMORY where it gets none; a step on a heap of one page makes 14 to 16 allocations.
  */
 #define KERNELSTINT_GRANULES(pages) ((size_t)256 * (pages))
 #define KERNELSTINT_GRANULE_AT(i) ((size_t)13 + (size_t)21 * (i))
@@ -292,10 +301,10 @@ typedef struct kernelstint_command {
 #define KERNELSTINT_BLOCK_AFTER 1 /* the same after a sweep: base, top, cleared */
 #define KERNELSTINT_NO_SPACE 2 /* no space */
 #define KERNELSTINT_NO_SPACE_AFTER 3 /* no space after a sweep: cleared */
-#define KERNELSTINT_HELD 4 /* a block is held: bytes, how many are held now */
+#define KERNELSTINT_HELD 4 /* a block is held: bytes, how many went into quarantine by this free */
 #define KERNELSTINT_REPLY_DONE 5 /* done */
-#define KERNELSTINT_CLEARED 6 /* a tag was cleared */
-#define KERNELSTINT_SWEPT 7 /* a sweep: cleared, and bytes, how many were released */
+#define KERNELSTINT_CLEARED 6 /* done, and the tag was cleared, since this address would change the bounds */
+#define KERNELSTINT_SWEPT 7 /* a sweep, or the end of an epoch: cleared, and bytes, how many were released by it */
 #define KERNELSTINT_BEGUN 8 /* an epoch is open: cleared */
 #define KERNELSTINT_SHOWN 9 /* a register: base, top, address, otype, perms, tag, exponent */
 #define KERNELSTINT_TRAP 10 /* a trap: trap */
@@ -319,21 +328,21 @@ typedef struct kernelstint_reply {
     uint8_t tag; /* 1 or 0 */
     uint8_t exponent;
     uint16_t perms;
-    uint32_t cleared; /* how many tags a sweep cleared */
+    uint32_t cleared; /* how many tags the sweep, or the pass of an epoch, cleared */
     uint32_t otype;
     uint64_t base;
     uint64_t top;      /* the top's lower 64 bits */
     uint64_t top_high; /* what is above: the top is top + 2^64 * top_high */
     uint64_t address;
-    uint64_t bytes; /* held, or released */
+    uint64_t bytes; /* how many this free put into quarantine, or this pass released */
 } kernelstint_reply;
 
 /* Why an answer is not allowed, with what each tells. */
 #define KERNELSTINT_WHY_MUST_BE 0 /* the answer must be `reply` */
 #define KERNELSTINT_WHY_NOT_OF_MALLOC 1 /* no malloc is answered so */
 #define KERNELSTINT_WHY_TOO_SHORT 2 /* the block is shorter than asked */
-#define KERNELSTINT_WHY_MAY_NOT_SWEEP 3 /* the allocator may not sweep now */
-#define KERNELSTINT_WHY_TAKES 4 /* the sweep takes `count` tags */
+#define KERNELSTINT_WHY_MAY_NOT_SWEEP 3 /* no sweep may come first: an epoch is open, or no block waits */
+#define KERNELSTINT_WHY_TAKES 4 /* the sweep of the malloc takes `count` tags */
 #define KERNELSTINT_WHY_REFUSED 5 /* the block's place is refused, for the reason `claim` */
 
 /* Why a block's place is refused: for the last two, with the bounds of the block that is in the way. */

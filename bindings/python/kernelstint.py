@@ -15,13 +15,16 @@ cut them."""
 
 from __future__ import annotations
 
-import ctypes
-import dataclasses
-import enum
-import operator
-import os
-import pathlib
-from typing import NamedTuple, Tuple, Union
+import ctypes as _ctypes
+import dataclasses as _dataclasses
+import enum as _enum
+import operator as _operator
+import os as _os
+import pathlib as _pathlib
+from typing import NamedTuple as _NamedTuple
+
+# What is imported is no part of the interface.
+del annotations
 
 __all__ = [
     "BadAddress", "BadBase", "BadBounds", "BadCommand", "BadFields", "BadLength", "BadLine", "BadNumber", "BadRegister",
@@ -34,7 +37,18 @@ __all__ = [
 VERSION = (0, 1, 0)
 
 
-class Error(Exception):
+# Of an exception and of a list of names `dir`, and so `help`, tells what stands here, and not what each number and exception has.
+class _OwnNames(type):
+    def __dir__(cls) -> list[str]:
+        return [name for it in cls.__mro__ if it.__module__ == __name__ for name in vars(it)]
+
+
+class _OwnMembers(_enum.EnumMeta):
+    def __dir__(cls) -> list[str]:
+        return [*cls.__members__]
+
+
+class Error(Exception, metaclass=_OwnNames):
     """What this module raises, by one of its subclasses."""
 
 
@@ -95,7 +109,7 @@ class BadCommand(Error, ValueError):
 
 
 class BadReply(Error, ValueError):
-    """No kind of reply or no trap has this number."""
+    """No kind of reply or no trap has this number, a tag that is shown is above 1, or a text is no reply's."""
 
 
 class BadTrace(Error, ValueError):
@@ -106,11 +120,14 @@ class Differs(Error):
     """An answer is not allowed: `why` says for what reason."""
 
     def __init__(self, why: Why) -> None:
-        super().__init__(f"the answer is not allowed: {why}")
+        super().__init__(why)
         self.why = why
 
+    def __str__(self) -> str:
+        return f"the answer is not allowed: {self.why}"
 
-class Permission(enum.IntFlag):
+
+class Permission(_enum.IntFlag, metaclass=_OwnMembers):
     """Permissions of a word, each by its bit."""
 
     GLOBAL = 0x1
@@ -120,39 +137,39 @@ class Permission(enum.IntFlag):
     STORE_CAPABILITY = 0x20
 
 
-class CommandKind(enum.IntEnum):
+class CommandKind(_enum.IntEnum, metaclass=_OwnMembers):
     """The kinds of commands."""
 
     MALLOC, FREE, COPY, SETADDR, NARROW, ANDPERM, STORECAP, LOADCAP, WRITE, SHOW, SWEEP, BEGIN, END = range(13)
 
 
-class ReplyKind(enum.IntEnum):
+class ReplyKind(_enum.IntEnum, metaclass=_OwnMembers):
     """The kinds of replies."""
 
     BLOCK, BLOCK_AFTER, NO_SPACE, NO_SPACE_AFTER, HELD, DONE, CLEARED, SWEPT, BEGUN, SHOWN, TRAP = range(11)
 
 
-class Trap(enum.IntEnum):
+class Trap(_enum.IntEnum, metaclass=_OwnMembers):
     """The traps."""
 
     TAG, PERM, BOUNDS, ALIGN, EMPTY, INEXACT, FREED, NOT_BLOCK, OPEN, NOT_OPEN = range(10)
 
 
-class WhyKind(enum.IntEnum):
+class WhyKind(_enum.IntEnum, metaclass=_OwnMembers):
     """Why an answer is not allowed."""
 
     MUST_BE, NOT_OF_MALLOC, TOO_SHORT, MAY_NOT_SWEEP, TAKES, REFUSED = range(6)
 
 
-class Claim(enum.IntEnum):
+class Claim(_enum.IntEnum, metaclass=_OwnMembers):
     """Why a block's place is refused."""
 
     UNEVEN, EMPTY, OUTSIDE, INEXACT, OVER_LIVE, OVER_HELD = range(1, 7)
 
 
-class Command(NamedTuple):
+class Command(_NamedTuple):
     """A command: registers in the order of a trace's line, `number` as its size, address, length or mask, and the 16 bytes of a
-    write. What a kind does not use is not looked at."""
+    write. What a kind does not use may have any value of its type."""
 
     kind: CommandKind
     first: int = 0
@@ -161,7 +178,7 @@ class Command(NamedTuple):
     data: bytes = bytes(16)
 
 
-class Reply(NamedTuple):
+class Reply(_NamedTuple):
     """What a command was answered, as include/kernelstint.h has it: 0 where the kind does not tell it."""
 
     kind: ReplyKind
@@ -178,19 +195,38 @@ class Reply(NamedTuple):
 
     @property
     def text(self) -> str:
-        """The reply as a report has it."""
+        """The reply as a report has it. Raises BadReply and BadNumber."""
+        _passed_reply(self)
+        is_trap, is_shown = self.kind == ReplyKind.TRAP, self.kind == ReplyKind.SHOWN
+        if self.kind not in _REPLY_KINDS or is_trap and self.trap >= len(_TRAP_NAMES) or is_shown and self.tag > 1:
+            raise BadReply(f"no reply is {tuple(self)}")
+        if is_trap:
+            return f"trap {_TRAP_NAMES[self.trap]}"
         block = f"block {self.base:#x} {self.top:#x}"
         shown = f"tag {int(self.tag)} address {self.address:#x} base {self.base:#x} top {self.top:#x} perms {self.perms:#x} type {self.otype:#x} exponent {self.exponent}"
         return {
             ReplyKind.BLOCK: block, ReplyKind.BLOCK_AFTER: f"{block} swept {self.cleared}", ReplyKind.NO_SPACE: "nospace",
             ReplyKind.NO_SPACE_AFTER: f"nospace swept {self.cleared}", ReplyKind.HELD: f"held {self.bytes}", ReplyKind.DONE: "ok",
             ReplyKind.CLEARED: "cleared", ReplyKind.SWEPT: f"cleared {self.cleared} released {self.bytes}",
-            ReplyKind.BEGUN: f"cleared {self.cleared}", ReplyKind.SHOWN: shown, ReplyKind.TRAP: f"trap {_TRAP_NAMES[self.trap]}",
+            ReplyKind.BEGUN: f"cleared {self.cleared}", ReplyKind.SHOWN: shown,
         }[self.kind]  # fmt: skip
 
     @classmethod
     def of_text(cls, text: str) -> Reply:
-        """The reply that a report has as this text."""
+        """The reply that a report has as this text, to the letter. Raises BadReply."""
+        _instance(text, str, "the text of a reply")
+        try:
+            told = cls._told_by(text)
+            is_text = told.text == text
+        except (ValueError, LookupError, TypeError) as wrong:
+            raise BadReply(f"no reply has the text {text!r}") from wrong
+        if not is_text:
+            raise BadReply(f"no reply has the text {text!r}, though one has {told.text!r}")
+        return told
+
+    @classmethod
+    def _told_by(cls, text: str) -> Reply:
+        """The reply of the text of one."""
         name, *words = text.split()
         if name == "trap":
             return cls(ReplyKind.TRAP, trap=_TRAP_NAMES.index(words[0]))
@@ -203,6 +239,7 @@ class Reply(NamedTuple):
         return cls(kind, **dict(zip(_TOLD[kind], numbers)))
 
 
+_REPLY_KINDS = {*ReplyKind}
 _TRAP_NAMES = [it.name.lower().replace("_", "") for it in Trap]
 # The kinds of the other replies, by their first word and how many numbers stand behind it, and what these numbers are.
 _KINDS = {
@@ -217,7 +254,7 @@ _TOLD = {
 }  # fmt: skip
 
 
-class Why(NamedTuple):
+class Why(_NamedTuple):
     """Why an answer is not allowed: what it must be, how many tags a sweep takes, or why a block's place is refused, and the
     bounds of the block that is in the way."""
 
@@ -229,14 +266,14 @@ class Why(NamedTuple):
     reply: Reply
 
 
-class TaggedWord(NamedTuple):
+class TaggedWord(_NamedTuple):
     """A word, and its tag."""
 
     word: Word
     tag: bool
 
 
-class Fields(NamedTuple):
+class Fields(_NamedTuple):
     """The fields of a word, in register form, in the order of their bits, and the address."""
 
     perms: int
@@ -249,7 +286,7 @@ class Fields(NamedTuple):
     address: int
 
 
-class Corrections(NamedTuple):
+class Corrections(_NamedTuple):
     """By how many windows base and top lie apart from what the address's upper bits say: -1, 0 or 1 each."""
 
     base: int
@@ -259,99 +296,99 @@ class Corrections(NamedTuple):
 # ---- What the library is passed, as include/kernelstint.h has it.
 
 
-class _Word(ctypes.Structure):
-    _fields_ = [("address", ctypes.c_uint64), ("metadata", ctypes.c_uint64)]
+class _Word(_ctypes.Structure):
+    _fields_ = [("address", _ctypes.c_uint64), ("metadata", _ctypes.c_uint64)]
 
 
-class _Fields(ctypes.Structure):
+class _Fields(_ctypes.Structure):
     _fields_ = [
-        ("address", ctypes.c_uint64), ("otype", ctypes.c_uint32), ("perms", ctypes.c_uint16), ("top12", ctypes.c_uint16),
-        ("base14", ctypes.c_uint16), ("reserved", ctypes.c_uint8), ("flag", ctypes.c_uint8), ("internal", ctypes.c_uint8),
+        ("address", _ctypes.c_uint64), ("otype", _ctypes.c_uint32), ("perms", _ctypes.c_uint16), ("top12", _ctypes.c_uint16),
+        ("base14", _ctypes.c_uint16), ("reserved", _ctypes.c_uint8), ("flag", _ctypes.c_uint8), ("internal", _ctypes.c_uint8),
     ]  # fmt: skip
 
 
-class _Bounds(ctypes.Structure):
-    _fields_ = [("base", ctypes.c_uint64), ("top", ctypes.c_uint64), ("top_64", ctypes.c_uint8)]
+class _Bounds(_ctypes.Structure):
+    _fields_ = [("base", _ctypes.c_uint64), ("top", _ctypes.c_uint64), ("top_64", _ctypes.c_uint8)]
 
 
-class _Length(ctypes.Structure):
-    _fields_ = [("length", ctypes.c_uint64), ("length_64", ctypes.c_uint8)]
+class _Length(_ctypes.Structure):
+    _fields_ = [("length", _ctypes.c_uint64), ("length_64", _ctypes.c_uint8)]
 
 
-class _Corrections(ctypes.Structure):
-    _fields_ = [("base", ctypes.c_int8), ("top", ctypes.c_int8)]
+class _Corrections(_ctypes.Structure):
+    _fields_ = [("base", _ctypes.c_int8), ("top", _ctypes.c_int8)]
 
 
-class _CodedWord(ctypes.Structure):
-    _fields_ = [("word", _Word), ("code", ctypes.c_uint32)]
+class _CodedWord(_ctypes.Structure):
+    _fields_ = [("word", _Word), ("code", _ctypes.c_uint32)]
 
 
-class _NarrowedWord(ctypes.Structure):
-    _fields_ = [("word", _Word), ("code", ctypes.c_uint32), ("exact", ctypes.c_bool)]
+class _NarrowedWord(_ctypes.Structure):
+    _fields_ = [("word", _Word), ("code", _ctypes.c_uint32), ("exact", _ctypes.c_bool)]
 
 
-class _Command(ctypes.Structure):
+class _Command(_ctypes.Structure):
     _fields_ = [
-        ("kind", ctypes.c_uint8), ("first", ctypes.c_uint8), ("second", ctypes.c_uint8), ("number", ctypes.c_uint64),
-        ("low", ctypes.c_uint64), ("high", ctypes.c_uint64),
+        ("kind", _ctypes.c_uint8), ("first", _ctypes.c_uint8), ("second", _ctypes.c_uint8), ("number", _ctypes.c_uint64),
+        ("low", _ctypes.c_uint64), ("high", _ctypes.c_uint64),
     ]  # fmt: skip
 
 
-class _Reply(ctypes.Structure):
+class _Reply(_ctypes.Structure):
     _fields_ = [
-        ("kind", ctypes.c_uint8), ("trap", ctypes.c_uint8), ("tag", ctypes.c_uint8), ("exponent", ctypes.c_uint8),
-        ("perms", ctypes.c_uint16), ("cleared", ctypes.c_uint32), ("otype", ctypes.c_uint32), ("base", ctypes.c_uint64),
-        ("top", ctypes.c_uint64), ("top_high", ctypes.c_uint64), ("address", ctypes.c_uint64), ("bytes", ctypes.c_uint64),
+        ("kind", _ctypes.c_uint8), ("trap", _ctypes.c_uint8), ("tag", _ctypes.c_uint8), ("exponent", _ctypes.c_uint8),
+        ("perms", _ctypes.c_uint16), ("cleared", _ctypes.c_uint32), ("otype", _ctypes.c_uint32), ("base", _ctypes.c_uint64),
+        ("top", _ctypes.c_uint64), ("top_high", _ctypes.c_uint64), ("address", _ctypes.c_uint64), ("bytes", _ctypes.c_uint64),
     ]  # fmt: skip
 
 
-class _Why(ctypes.Structure):
+class _Why(_ctypes.Structure):
     _fields_ = [
-        ("kind", ctypes.c_uint8), ("claim", ctypes.c_uint8), ("count", ctypes.c_uint32), ("base", ctypes.c_uint64),
-        ("top", ctypes.c_uint64), ("top_high", ctypes.c_uint64), ("reply", _Reply),
+        ("kind", _ctypes.c_uint8), ("claim", _ctypes.c_uint8), ("count", _ctypes.c_uint32), ("base", _ctypes.c_uint64),
+        ("top", _ctypes.c_uint64), ("top_high", _ctypes.c_uint64), ("reply", _Reply),
     ]  # fmt: skip
 
 
-class _Counts(ctypes.Structure):
-    _fields_ = [("live", ctypes.c_uint64), ("held", ctypes.c_uint64), ("free", ctypes.c_uint64), ("is_open", ctypes.c_uint8)]
+class _Counts(_ctypes.Structure):
+    _fields_ = [("live", _ctypes.c_uint64), ("held", _ctypes.c_uint64), ("free", _ctypes.c_uint64), ("is_open", _ctypes.c_uint8)]
 
 
-class _TaggedWord(ctypes.Structure):
-    _fields_ = [("low", ctypes.c_uint64), ("high", ctypes.c_uint64), ("tag", ctypes.c_uint8)]
+class _TaggedWord(_ctypes.Structure):
+    _fields_ = [("low", _ctypes.c_uint64), ("high", _ctypes.c_uint64), ("tag", _ctypes.c_uint8)]
 
 
-_BYTES = ctypes.POINTER(ctypes.c_uint8)
-_READ = [ctypes.c_char_p, ctypes.c_size_t]
-_WRITTEN = [_BYTES, ctypes.c_size_t]
-_COUNT = ctypes.POINTER(ctypes.c_size_t)
+_BYTES = _ctypes.POINTER(_ctypes.c_uint8)
+_READ = [_ctypes.c_char_p, _ctypes.c_size_t]
+_WRITTEN = [_BYTES, _ctypes.c_size_t]
+_COUNT = _ctypes.POINTER(_ctypes.c_size_t)
 # Each function's name without its beginning, what it answers, and what it takes.
 _FUNCTIONS = [
     ("null_word", _Word, []),
-    ("word_from_bytes", _CodedWord, [ctypes.c_char_p, ctypes.c_size_t]),
-    ("word_to_bytes", ctypes.c_uint32, [_Word, _BYTES, ctypes.c_size_t]),
+    ("word_from_bytes", _CodedWord, [_ctypes.c_char_p, _ctypes.c_size_t]),
+    ("word_to_bytes", _ctypes.c_uint32, [_Word, _BYTES, _ctypes.c_size_t]),
     ("fields_of", _Fields, [_Word]),
     ("word_of_fields", _CodedWord, [_Fields]),
-    ("exponent_of", ctypes.c_uint8, [_Word]),
+    ("exponent_of", _ctypes.c_uint8, [_Word]),
     ("bounds_of", _Bounds, [_Word]),
     ("corrections_of", _Corrections, [_Word]),
-    ("representable", ctypes.c_bool, [_Word, ctypes.c_uint64]),
-    ("is_allowed", ctypes.c_bool, [_Word, ctypes.c_uint16]),
+    ("representable", _ctypes.c_bool, [_Word, _ctypes.c_uint64]),
+    ("is_allowed", _ctypes.c_bool, [_Word, _ctypes.c_uint16]),
     ("with_bounds", _NarrowedWord, [_Word, _Bounds]),
     ("block_capability", _CodedWord, [_Bounds]),
-    ("set_address", _Word, [_Word, ctypes.c_uint64]),
-    ("and_perms", _Word, [_Word, ctypes.c_uint16]),
-    ("representable_length", _Length, [ctypes.c_uint64]),
-    ("alignment_mask", ctypes.c_uint64, [ctypes.c_uint64]),
-    ("state_length", ctypes.c_size_t, [ctypes.c_uint32]),
-    ("first", ctypes.c_uint32, [ctypes.c_uint64, ctypes.c_uint32, *_WRITTEN]),
-    ("step", ctypes.c_uint32, [*_READ, _Command, *_WRITTEN, ctypes.POINTER(_Reply)]),
-    ("follow", ctypes.c_uint32, [*_READ, _Command, _Reply, *_WRITTEN, ctypes.POINTER(_Why)]),
-    ("step_line", ctypes.c_uint32, [*_READ, *_READ, *_WRITTEN, *_WRITTEN, _COUNT]),
-    ("counts", ctypes.c_uint32, [*_READ, ctypes.POINTER(_Counts)]),
-    ("register", ctypes.c_uint32, [*_READ, ctypes.c_uint8, ctypes.POINTER(_TaggedWord)]),
-    ("granule", ctypes.c_uint32, [*_READ, ctypes.c_uint64, ctypes.POINTER(_TaggedWord)]),
-    ("run", ctypes.c_uint32, [*_READ, *_WRITTEN, _COUNT]),
-    ("states", ctypes.c_uint32, [*_READ, *_WRITTEN, _COUNT]),
+    ("set_address", _Word, [_Word, _ctypes.c_uint64]),
+    ("and_perms", _Word, [_Word, _ctypes.c_uint16]),
+    ("representable_length", _Length, [_ctypes.c_uint64]),
+    ("alignment_mask", _ctypes.c_uint64, [_ctypes.c_uint64]),
+    ("state_length", _ctypes.c_size_t, [_ctypes.c_uint32]),
+    ("first", _ctypes.c_uint32, [_ctypes.c_uint64, _ctypes.c_uint32, *_WRITTEN]),
+    ("step", _ctypes.c_uint32, [*_READ, _Command, *_WRITTEN, _ctypes.POINTER(_Reply)]),
+    ("follow", _ctypes.c_uint32, [*_READ, _Command, _Reply, *_WRITTEN, _ctypes.POINTER(_Why)]),
+    ("step_line", _ctypes.c_uint32, [*_READ, *_READ, *_WRITTEN, *_WRITTEN, _COUNT]),
+    ("counts", _ctypes.c_uint32, [*_READ, _ctypes.POINTER(_Counts)]),
+    ("register", _ctypes.c_uint32, [*_READ, _ctypes.c_uint8, _ctypes.POINTER(_TaggedWord)]),
+    ("granule", _ctypes.c_uint32, [*_READ, _ctypes.c_uint64, _ctypes.POINTER(_TaggedWord)]),
+    ("run", _ctypes.c_uint32, [*_READ, *_WRITTEN, _COUNT]),
+    ("states", _ctypes.c_uint32, [*_READ, *_WRITTEN, _COUNT]),
 ]
 # The codes of include/kernelstint.h that are raised. Rooms and pointers are this file's own, and so never wrong.
 _ERRORS = {
@@ -361,16 +398,16 @@ _ERRORS = {
 _SHORT_TEXT, _DIFFERS, _LONGEST_REPLY = 11, 17, 200
 
 
-def _path_of_library() -> pathlib.Path:
-    named = os.environ.get("KERNELSTINT_LIBRARY")
-    return pathlib.Path(named) if named else pathlib.Path(__file__).resolve().parents[2] / "out" / "libkernelstint.so"
+def _path_of_library() -> _pathlib.Path:
+    named = _os.environ.get("KERNELSTINT_LIBRARY")
+    return _pathlib.Path(named) if named else _pathlib.Path(__file__).resolve().parents[2] / "out" / "libkernelstint.so"
 
 
-def _load(path: pathlib.Path) -> ctypes.CDLL:
+def _load(path: _pathlib.Path) -> _ctypes.CDLL:
     """The library at this path, whose functions know what they take."""
     try:
-        library = ctypes.CDLL(str(path))
-        library.kernelstint_version.restype = ctypes.c_uint32
+        library = _ctypes.CDLL(str(path))
+        library.kernelstint_version.restype = _ctypes.c_uint32
         library.kernelstint_version.argtypes = []
         packed = library.kernelstint_version()
     except (OSError, AttributeError) as wrong:
@@ -391,20 +428,47 @@ def _load(path: pathlib.Path) -> ctypes.CDLL:
 _library = _load(_path_of_library())
 
 
+def _instance(value: object, kind: type, what: str) -> None:
+    if not isinstance(value, kind):
+        raise TypeError(f"{what} is a {kind.__name__}, and no {type(value).__name__}")
+
+
+def _integer(number: int, what: str) -> int:
+    try:
+        return int(_operator.index(number))
+    except TypeError:
+        raise TypeError(f"{what} is an integer, and no {type(number).__name__}") from None
+
+
 def _within(number: int, bits: int, what: str) -> int:
     """The number, which has so many bits."""
-    if not 0 <= operator.index(number) < 1 << bits:
+    number = _integer(number, what)
+    if not 0 <= number < 1 << bits:
         raise BadNumber(f"{what} {number:#x} is no number of {bits} bits")
     return number
 
 
+def _bytes_in(data: bytes, what: str) -> bytes:
+    """The bytes of an object that holds some, as bytes, bytearray and memoryview do. `bytes` would make 16 of the number 16."""
+    try:
+        return bytes(memoryview(data))
+    except TypeError:
+        raise TypeError(f"{what} are bytes, and no {type(data).__name__}") from None
+
+
+def _text_in(text: str | bytes, what: str) -> bytes:
+    """The bytes of a text, which may be given as such; what no UTF-8 can hold stays, since comments have any bytes."""
+    return text.encode("utf-8", "surrogatepass") if isinstance(text, str) else _bytes_in(text, what)
+
+
 def _bounds(base: int, top: int) -> _Bounds:
+    base, top = _integer(base, "the base"), _integer(top, "the top")
     if not 0 <= base <= top <= 1 << 64 or base == 1 << 64:
         raise BadBounds(f"no word can be asked for the bounds from {base:#x} to {top:#x}")
     return _Bounds(base, top & (1 << 64) - 1, top >> 64)
 
 
-@dataclasses.dataclass(frozen=True, repr=False)
+@_dataclasses.dataclass(frozen=True, repr=False)
 class Word:
     """The 128 bits of a capability word in memory form, without its tag: the address in the lower 64, the metadata in the
     upper 64. Words are equal where their bits are, and never change."""
@@ -412,7 +476,7 @@ class Word:
     bits: int = 0
 
     def __post_init__(self) -> None:
-        _within(self.bits, 128, "the word")
+        object.__setattr__(self, "bits", _within(self.bits, 128, "the word"))
 
     def __repr__(self) -> str:
         return f"Word({self.bits:#034x})"
@@ -426,20 +490,22 @@ class Word:
     @classmethod
     def from_bytes(cls, data: bytes) -> Word:
         """The word that these 16 bytes hold, as memory has them. Raises BadLength."""
-        return _made(_library.kernelstint_word_from_bytes(bytes(data), len(data)), f"{len(data)} bytes are no word: 16 are")
+        data = _bytes_in(data, "a word's")
+        return _made(_library.kernelstint_word_from_bytes(data, len(data)), f"{len(data)} bytes are no word: 16 are")
 
     @classmethod
     def from_fields(cls, fields: Fields) -> Word:
         """The one word with these fields. Raises BadFields."""
-        widths = zip(fields, (16, 8, 1, 32, 1, 16, 16, 64))
-        if not all(0 <= int(it) < 1 << bits for it, bits in widths):
+        _instance(fields, Fields, "what a word is made of")
+        numbers = {name: _integer(it, f"the field {name}") for name, it in fields._asdict().items()}
+        if not all(0 <= it < 1 << bits for it, bits in zip(numbers.values(), (16, 8, 1, 32, 1, 16, 16, 64))):
             raise BadFields(f"a field is past its width: {fields}")
-        passed = _Fields(**{name: int(it) for name, it in fields._asdict().items()})
+        passed = _Fields(**numbers)
         return _made(_library.kernelstint_word_of_fields(passed), f"a field is past its width: {fields}")
 
     def to_bytes(self) -> bytes:
         """The 16 bytes of the word, as memory has them."""
-        room = (ctypes.c_uint8 * 16)()
+        room = (_ctypes.c_uint8 * 16)()
         _library.kernelstint_word_to_bytes(self._passed, room, 16)
         return bytes(room)
 
@@ -470,7 +536,7 @@ class Word:
         return _library.kernelstint_exponent_of(self._passed)
 
     @property
-    def bounds(self) -> Tuple[int, int]:
+    def bounds(self) -> tuple[int, int]:
         """The base and the top: the bytes from the base on, before the top. Of bits that nothing made for bounds the top may
         lie below the base, and up to 2^65 - 1."""
         it = _library.kernelstint_bounds_of(self._passed)
@@ -500,7 +566,7 @@ class Word:
         """Whether the word has this permission; of several bits, any of them. Raises BadNumber."""
         return _library.kernelstint_is_allowed(self._passed, _within(permission, 16, "the permission"))
 
-    def set_bounds(self, base: int, top: int) -> Tuple[Word, bool]:
+    def set_bounds(self, base: int, top: int) -> tuple[Word, bool]:
         """The word with these bounds, rounded outward where no word holds them as they are, and its address at their base; and
         whether it holds them exactly. It does not ask whether they lie within the word's own. Raises BadBounds."""
         made = _library.kernelstint_with_bounds(self._passed, _bounds(base, top))
@@ -523,7 +589,7 @@ def _taken(word: _Word) -> Word:
     return Word(word.metadata << 64 | word.address)
 
 
-def _made(answer: ctypes.Structure, wrong: str) -> Word:
+def _made(answer: _ctypes.Structure, wrong: str) -> Word:
     """The word of an answer with the code 0; else the code's error, which says what is wrong."""
     if answer.code != 0:
         raise _ERRORS[answer.code](wrong)
@@ -564,7 +630,8 @@ def _reply_of(it: _Reply) -> Reply:
 
 
 def _passed_command(command: Command) -> _Command:
-    data = bytes(command.data)
+    _instance(command, Command, "a command")
+    data = _bytes_in(command.data, "what a write writes")
     if len(data) != 16:
         raise BadCommand(f"{len(data)} bytes are not what a write writes: 16 are")
     kind, first, second = (_within(it, 8, "the kind or register") for it in command[:3])
@@ -574,8 +641,9 @@ def _passed_command(command: Command) -> _Command:
 
 def _passed_reply(reply: Reply) -> _Reply:
     widths = (("kind", 8), ("base", 64), ("cleared", 32), ("bytes", 64), ("trap", 8), ("address", 64), ("otype", 32), ("perms", 16), ("tag", 8), ("exponent", 8))
-    top = _within(reply.top, 128, "the top")
-    passed = {name: _within(int(getattr(reply, name)), bits, f"the reply's {name}") for name, bits in widths}
+    _instance(reply, Reply, "a reply")
+    top = _within(reply.top, 128, "the reply's top")
+    passed = {name: _within(getattr(reply, name), bits, f"the reply's {name}") for name, bits in widths}
     return _Reply(top=top & (1 << 64) - 1, top_high=top >> 64, **passed)
 
 
@@ -586,12 +654,25 @@ class State:
     __slots__ = ("_bytes",)
 
     def __init__(self, data: bytes) -> None:
-        data = bytes(data)
+        data = _bytes_in(data, "a state's")
         _done(_library.kernelstint_counts(data, len(data), _Counts()), f"{len(data)} bytes are no state's")
         object.__setattr__(self, "_bytes", data)
 
     def __setattr__(self, name: str, value: object) -> None:
         raise AttributeError(f"a state's {name} can't be set")
+
+    def __delattr__(self, name: str) -> None:
+        raise AttributeError(f"a state's {name} can't be deleted")
+
+    def __reduce__(self) -> tuple[type, tuple[bytes]]:
+        return type(self), (self._bytes,)
+
+    # A state never changes, so it is its own copy.
+    def __copy__(self) -> State:
+        return self
+
+    def __deepcopy__(self, memo: dict) -> State:
+        return self
 
     def __eq__(self, other: object) -> bool:
         return self._bytes == other._bytes if isinstance(other, State) else NotImplemented
@@ -616,19 +697,19 @@ class State:
     def first(cls, base: int, pages: int) -> State:
         """The first state of a heap of so many pages at this base. Raises BadSize and BadBase."""
         base, pages = _within(base, 64, "the base"), _within(pages, 32, "the number of pages")
-        room = (ctypes.c_uint8 * max(_library.kernelstint_state_length(pages), 1))()
+        room = (_ctypes.c_uint8 * max(_library.kernelstint_state_length(pages), 1))()
         _done(_library.kernelstint_first(base, pages, room, len(room)), f"no heap has {pages} pages at {base:#x}")
         return cls._of(bytes(room))
 
-    def step(self, command: Union[str, Command]) -> Tuple[State, Reply]:
-        """The state after a command, which is a line of a trace or a Command, and the reply. Raises BadLine and PassedOver for a
-        line, BadCommand for a Command."""
-        room, told = (ctypes.c_uint8 * len(self._bytes))(), _Reply()
+    def step(self, command: str | Command) -> tuple[State, Reply]:
+        """The state after a command, which is a line of a trace or a Command, and the reply. A line may end with its line feed, as
+        those that a file is read by do. Raises BadLine and PassedOver for a line, BadCommand for a Command."""
+        room, told = (_ctypes.c_uint8 * len(self._bytes))(), _Reply()
         if isinstance(command, str):
-            line, written, count = command.encode(), (ctypes.c_uint8 * _LONGEST_REPLY)(), ctypes.c_size_t()
+            line, written, count = _text_in(command[:-1] if command.endswith("\n") else command, "a line"), (_ctypes.c_uint8 * _LONGEST_REPLY)(), _ctypes.c_size_t()
             code = _library.kernelstint_step_line(self._bytes, len(self._bytes), line, len(line), room, len(room), written, len(written), count)
             _done(code, f"no command: {command!r}")
-            return State._of(bytes(room)), Reply.of_text(bytes(written[: count.value]).decode())
+            return State._of(bytes(room)), Reply._told_by(bytes(written[: count.value]).decode())
         code = _library.kernelstint_step(self._bytes, len(self._bytes), _passed_command(command), room, len(room), told)
         _done(code, f"no command: {command}")
         return State._of(bytes(room)), _reply_of(told)
@@ -636,7 +717,7 @@ class State:
     def follow(self, command: Command, answer: Reply) -> State:
         """The state after a command that an allocator answered so, which may place blocks as it likes. Raises Differs where that
         is not allowed, BadCommand and BadReply."""
-        room, why = (ctypes.c_uint8 * len(self._bytes))(), _Why()
+        room, why = (_ctypes.c_uint8 * len(self._bytes))(), _Why()
         code = _library.kernelstint_follow(self._bytes, len(self._bytes), _passed_command(command), _passed_reply(answer), room, len(room), why)
         if code == _DIFFERS:
             raise Differs(Why(WhyKind(why.kind), why.claim, why.count, why.base, why.top + (why.top_high << 64), _reply_of(why.reply)))
@@ -692,12 +773,12 @@ class State:
         return TaggedWord(Word(told.high << 64 | told.low), told.tag == 1)
 
 
-def _whole(call: ctypes._CFuncPtr, text: Union[str, bytes]) -> bytes:
+def _whole(call: _ctypes._CFuncPtr, text: str | bytes) -> bytes:
     """What a call writes of a text: into a room that is made longer where it is too short."""
-    text = text.encode() if isinstance(text, str) else bytes(text)
+    text = _text_in(text, "a trace's")
     length = 64 * len(text) + 4096
     while True:
-        room, count = (ctypes.c_uint8 * length)(), ctypes.c_size_t()
+        room, count = (_ctypes.c_uint8 * length)(), _ctypes.c_size_t()
         code = call(text, len(text), room, length, count)
         if code != _SHORT_TEXT:
             _done(code, "the text is no trace")
@@ -705,11 +786,11 @@ def _whole(call: ctypes._CFuncPtr, text: Union[str, bytes]) -> bytes:
         length = count.value
 
 
-def run(text: Union[str, bytes]) -> str:
+def run(text: str | bytes) -> str:
     """The report of a trace. Raises BadTrace."""
     return _whole(_library.kernelstint_run, text).decode()
 
 
-def states(text: Union[str, bytes]) -> str:
+def states(text: str | bytes) -> str:
     """The states of a trace as JSON. Raises BadTrace."""
     return _whole(_library.kernelstint_states, text).decode()

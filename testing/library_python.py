@@ -1,0 +1,234 @@
+"""What testing/library tries of bindings/python/kernelstint.py by itself: each public call with values of wrong types, which a
+table has, and which is held to the module itself, so that a call or a parameter without a row fails; that values and exceptions
+can be copied, pickled and handed to other processes; that a trace is done by the lines of its file; and that its names are the
+interface alone."""
+
+import concurrent.futures
+import copy
+import enum
+import inspect
+import io
+import multiprocessing
+import pickle
+import pydoc
+
+# Values that are no number, no bytes, no text, and none of the module's records.
+NO_NUMBER = (None, 1.0, 1.9, "1", b"1", 1j, (), [1])
+NO_BYTES = (None, 16, 1.5, "0" * 16, [0] * 16, (0,) * 16)
+NO_LINE = (None, 1, 1.5, b"show c0", ("show", 0), ["show c0"])
+NO_TEXT = (None, 1, 1.5, ["heap 0 1"], ("heap 0 1",))
+NO_REPLY_TEXT = (None, 1, 1.5, b"ok", ["ok"])
+NO_RECORD = (None, 1, 1.5, "ok", b"ok", (), [])
+NO_MEMBER = (None, 1.5, "1", b"1", ())
+# Lines of which none is a command's, though parts of them are.
+FALSE_LINES = ("show c0\n\n", "show c0\nshow c0", "\nshow c0", "\udcff", "malloc c1 \ud800", "heap 0x40000000 1", "")
+# Commands that are answered by every kind of reply.
+REPLIES = """malloc c1 2048
+malloc c2 2048
+malloc c3 16
+setaddr c3 c1 0
+copy c3 c1
+free c1
+begin
+end
+free c2
+sweep
+malloc c1 4096
+show c1
+free c1
+malloc c2 16
+free c2
+malloc c2 5000
+free c3"""
+# Texts that are no reply's to the letter.
+FALSE_TEXTS = (
+    "", " ", "junk", "block", "block 0x1", "block 0x1 0x2 junk", "block 0x1 0x2 swept", "block 0x1 0x2 swept 1 2", "block 1 2", "block 0x01 0x2",
+    "block 0x1 0X2", "block 0xA 0xB", "block  0x1 0x2", "block 0x1 0x2 ", "block 0x1 0x2\n", "nospace 1", "nospace swept", "held", "held 0x10", "held 010", "held -1",
+    "held 1 2", "held \u0663", f"held {2**64}", "ok 1", "okay", "cleared 1 2", "cleared 1 released", "cleared x released 2", "trap", "trap none", "trap tag tag",
+    "tag 2 address 0x0 base 0x0 top 0x0 perms 0x0 type 0x0 exponent 0", "tag 1", "tag 1 address 0x0", "address 0x0 tag 1",
+    "tag 1 address 0x0 base 0x0 top 0x0 perms 0x0 type 0x0 exponent 0 junk 0", "tag 1 address 0x0 base 0x0 top 0x0 perms 0x0 type 0x0",
+)  # fmt: skip
+
+
+# What calls answer, and none takes.
+ANSWERED = {"Corrections", "TaggedWord", "Why"}
+# Methods of Python's own numbers and exceptions, which the help doesn't repeat for each kind.
+HIDDEN = ("as_integer_ratio", "with_traceback")
+
+
+def rows_of(library):
+    """Each public call, with what calls it, and of each parameter a right value and values that are wrong."""
+    word, state = library.block_capability(0x1000, 0x2000), library.State.first(0x40000000, 1)
+    malloc, block = library.Command(library.CommandKind.MALLOC, 1, number=16), library.Reply(library.ReplyKind.BLOCK, 0x40000000, 0x40000010)
+    shown = library.Reply(library.ReplyKind.SHOWN)
+
+    def stepped(**parts):
+        return state.step(library.Command(**parts))
+
+    def numbers(record, *more):
+        return {name: (it, (*NO_NUMBER, *more)) for name, it in record._asdict().items() if name != "data"}
+
+    return {
+        "Word": (library.Word, {"bits": (1, NO_NUMBER)}),
+        "Word.from_bytes": (library.Word.from_bytes, {"data": (bytes(16), NO_BYTES)}),
+        "Word.from_fields": (library.Word.from_fields, {"fields": (word.fields, (*NO_RECORD, tuple(word.fields)))}),
+        "Word.to_bytes": (word.to_bytes, {}),
+        "Word.representable": (word.representable, {"address": (1, NO_NUMBER)}),
+        "Word.is_allowed": (word.is_allowed, {"permission": (1, NO_NUMBER)}),
+        "Word.set_bounds": (word.set_bounds, {"base": (0, NO_NUMBER), "top": (16, NO_NUMBER)}),
+        "Word.set_address": (word.set_address, {"address": (1, NO_NUMBER)}),
+        "Word.and_perms": (word.and_perms, {"mask": (1, NO_NUMBER)}),
+        "Fields": (lambda **parts: library.Word.from_fields(library.Fields(**parts)), numbers(word.fields)),
+        "Command": (stepped, {**numbers(malloc), "data": (bytes(16), (*NO_BYTES, b"", bytes(15)))}),
+        "Reply": (lambda **parts: state.follow(malloc, library.Reply(**parts)), numbers(block)),
+        "Reply.text": (lambda **parts: library.Reply(**parts).text, numbers(shown, -1)),
+        "Reply.of_text": (library.Reply.of_text, {"text": ("ok", (*NO_REPLY_TEXT, *FALSE_TEXTS))}),
+        "State": (library.State, {"data": (bytes(state), (*NO_BYTES, state))}),
+        "State.first": (library.State.first, {"base": (0, NO_NUMBER), "pages": (1, NO_NUMBER)}),
+        "State.step": (state.step, {"command": ("show c0", (*NO_LINE, tuple(malloc), block, *FALSE_LINES))}),
+        "State.follow": (state.follow, {"command": (malloc, (*NO_RECORD, tuple(malloc), block)), "answer": (block, (*NO_RECORD, tuple(block), malloc))}),
+        "State.register": (state.register, {"number": (1, NO_NUMBER)}),
+        "State.granule": (state.granule, {"address": (0x40000000, (*NO_NUMBER, -1))}),
+        "block_capability": (library.block_capability, {"base": (0, NO_NUMBER), "top": (16, NO_NUMBER)}),
+        "representable_length": (library.representable_length, {"length": (1, NO_NUMBER)}),
+        "alignment_mask": (library.alignment_mask, {"length": (1, NO_NUMBER)}),
+        "run": (library.run, {"text": ("heap 0 1", (*NO_TEXT, "\ud800"))}),
+        "states": (library.states, {"text": (b"heap 0 1", (*NO_TEXT, "\ud800"))}),
+        **{it.__name__: (it, {"value": (1, NO_MEMBER)}) for it in enums_of(library)},
+    }
+
+
+def enums_of(library):
+    return [it for it in map(library.__dict__.get, library.__all__) if inspect.isclass(it) and issubclass(it, enum.Enum)]
+
+
+def errors_of(library):
+    """The exceptions, each as it is raised."""
+    why = library.Why(library.WhyKind.REFUSED, library.Claim.OVER_LIVE, 0, 16, 32, library.Reply(library.ReplyKind.DONE))
+    kinds = [it for it in map(library.__dict__.get, library.__all__) if inspect.isclass(it) and issubclass(it, library.Error)]
+    return [it(why if it is library.Differs else "what is wrong") for it in kinds]
+
+
+def calls_of(library):
+    """The names of the public calls, with those of their parameters, as the module has them. An exception is raised, and no call; a
+    property asks something of values that are given only where its class keeps what it is given."""
+    for name in library.__all__:
+        it = getattr(library, name)
+        if inspect.isfunction(it):
+            yield name, [*inspect.signature(it).parameters]
+        if not inspect.isclass(it) or issubclass(it, Exception) or name in ANSWERED:
+            continue
+        parts = ["value"] if issubclass(it, enum.Enum) else [*inspect.signature(it).parameters]
+        yield name, parts
+        for member, value in vars(it).items():
+            if member.startswith("_") or issubclass(it, enum.Enum):
+                continue
+            if isinstance(value, (classmethod, staticmethod)) or inspect.isfunction(value):
+                yield f"{name}.{member}", [part for part in inspect.signature(getattr(it, member)).parameters if part != "self"]
+            elif isinstance(value, property) and issubclass(it, tuple):
+                yield f"{name}.{member}", parts
+
+
+def wrong_types(tests, library):
+    """Each wrong value is refused by a TypeError or an error of the module, and each right one is taken."""
+    rows = rows_of(library)
+    calls = dict(calls_of(library))
+    tests.expect(list(calls) and set(calls) == set(rows), f"public calls without rows of wrong values, or rows without calls: {set(calls) ^ set(rows)}")
+    for name, (call, parts) in rows.items():
+        tests.expect(set(calls.get(name, ())) == set(parts), f"{name} takes {calls.get(name)}, and has rows for {list(parts)}")
+        right = {part: it for part, (it, _) in parts.items()}
+        is_enum = inspect.isclass(call) and issubclass(call, enum.Enum)
+        allowed = (ValueError,) if is_enum else (TypeError, library.Error)
+        wanted = [(right, None), *(({**right, part: it}, allowed) for part, (_, wrong) in parts.items() for it in wrong)]
+        for given, errors in wanted:
+            told = raised_by(call, given, is_enum)
+            tests.expect(told is None if errors is None else isinstance(told, errors), f"{name} of {given} raises {told!r}")
+    state = library.State.first(0x40000000, 1)
+    for what in (lambda: delattr(state, "_bytes"), lambda: setattr(state, "_bytes", b""), lambda: delattr(library.NULL, "bits")):
+        tests.expect(isinstance(raised_by(what, {}), AttributeError), "a part of a value can be set or deleted")
+    tests.expect(bytes(state) == bytes(library.State.first(0x40000000, 1)), "a state has lost its bytes")
+
+
+def raised_by(call, given, is_placed=False):
+    """What a call raises, if it does."""
+    try:
+        call(*given.values()) if is_placed else call(**given)
+    except Exception as wrong:  # whatever it is
+        return wrong
+    return None
+
+
+def read_back(tests, library):
+    """Each reply's text is read back as that reply."""
+    state, tried = library.State.first(0x40000000, 1), set()
+    for line in REPLIES.splitlines():
+        state, reply = state.step(line)
+        tests.expect(library.Reply.of_text(reply.text) == reply, f"{reply.text} is read as another reply")
+        tried.add(reply.kind)
+    tests.expect(tried == {*library.ReplyKind}, f"only {tried} were read")
+
+
+def copies(tests, library):
+    """Values and exceptions are the same copied, pickled, and from another process."""
+    state, _ = library.State.first(0x40000000, 1).step("malloc c1 20")
+    command = library.Command(library.CommandKind.MALLOC, 1, number=20)
+    values = [state, state.register(1), state.register(1).word, state.register(1).word.fields, command, *map(library.Reply, library.ReplyKind)]
+    values += [library.NULL.corrections, *library.Permission, library.Permission(5), *library.Trap, *library.WhyKind, *library.Claim, *errors_of(library)]
+    ways = [copy.copy, copy.deepcopy, *(lambda it, protocol=protocol: pickle.loads(pickle.dumps(it, protocol)) for protocol in range(pickle.HIGHEST_PROTOCOL + 1))]
+    for value in values:
+        for number, way in enumerate(ways):
+            told = raised_by(lambda: tests.expect(is_same(way(value), value), f"{value!r} is another one by way {number}"), {})
+            tests.expect(told is None, f"{value!r} can't be copied by way {number}: {told!r}")
+    tests.expect({state: 1}[copy.deepcopy(state)] == 1 and copy.deepcopy([state, state]) == [state, state], "a copy of a state isn't its key")
+    broken = pickle.dumps(state).replace(bytes(state)[:13], b"\xff" * 13)
+    tests.expect(isinstance(raised_by(lambda: pickle.loads(broken), {}), library.BadState), "bytes that are no state's are unpickled as one")
+    with concurrent.futures.ProcessPoolExecutor(1, multiprocessing.get_context("spawn")) as pool:
+        after = pool.submit(library.State.step, state, "malloc c2 16").result()
+        tests.expect(after == state.step("malloc c2 16"), f"another process does a step to {after}")
+        told = raised_by(lambda: pool.submit(library.State.follow, state, command, library.Reply(library.ReplyKind.BLOCK, 0x40000000, 0x40000020)).result(), {})
+        tests.expect(is_same(told, raised_by(lambda: state.follow(command, library.Reply(library.ReplyKind.BLOCK, 0x40000000, 0x40000020)), {})), f"another process raises {told!r}")
+
+
+def is_same(one, other):
+    """Whether both are equal, and exceptions in what they say."""
+    if isinstance(other, Exception):
+        return type(one) is type(other) and one.args == other.args and str(one) == str(other) and vars(one) == vars(other)
+    return type(one) is type(other) and one == other
+
+
+def lines(tests, library, example):
+    """A trace is done by the lines of its file, each with its line feed."""
+    with open(example / "stdin", encoding="utf-8") as file:
+        state, replies = None, []
+        for line in file:
+            if line.startswith("heap"):
+                state = library.State.first(*(int(it, 0) for it in line.split()[1:]))
+                continue
+            try:
+                state, reply = state.step(line) if state else (state, None)
+            except library.PassedOver:
+                continue
+            replies += [reply.text] if reply else []
+    report = (example / "stdout").read_text(encoding="utf-8").splitlines()
+    told = [line.split(" ", 2)[2] for line in report if line[0].isdigit()]
+    tests.expect(len(told) > 3 and replies == told, f"the lines of a file are answered {replies}")
+
+
+def interface(tests, library):
+    """The module's names are its interface, and so is its help."""
+    names = {it for it in dir(library) if not it.startswith("_")}
+    tests.expect(names == set(library.__all__), f"no part of the interface, or not there: {names ^ set(library.__all__)}")
+    told = io.StringIO()
+    pydoc.Helper(output=told).help(library)
+    for name in library.__all__:
+        tests.expect(name in told.getvalue(), f"the help has no {name}")
+    for name in HIDDEN:
+        tests.expect(name not in told.getvalue(), f"the help tells of {name}")
+
+
+def all_of(tests, library, example):
+    wrong_types(tests, library)
+    read_back(tests, library)
+    copies(tests, library)
+    lines(tests, library, example)
+    interface(tests, library)
