@@ -84,6 +84,7 @@ static int heap_write(unsigned char *state, int by, const void *bytes) {
     const unsigned char *from = bytes;
     kernelstint_command command = {0};
     int i;
+    if ((by & ~0xff) != 0) return 0;
     command.kind = KERNELSTINT_WRITE;
     command.first = (uint8_t)by;
     for (i = 0; i < 8; i++) {
