@@ -433,6 +433,34 @@ uint32_t kernelstint_run(const uint8_t *trace, size_t length, uint8_t *out, size
 /* The same of the states of a trace, as the JSON that heap_states prints. */
 uint32_t kernelstint_states(const uint8_t *trace, size_t length, uint8_t *out, size_t out_length, size_t *count);
 
+/* What can be wrong with a text or a line, with the names that a report has for it. */
+#define KERNELSTINT_FAULT_TOO_LONG 1 /* too-long: the text has more than 4,194,304 bytes */
+#define KERNELSTINT_FAULT_NO_HEAP 2 /* no-heap: the first line that counts is no heap line */
+#define KERNELSTINT_FAULT_BAD_HEAP 3 /* bad-heap: the heap line is not of its form, or its numbers are out of their range */
+#define KERNELSTINT_FAULT_BAD_COMMAND 4 /* bad-command: no command has this name */
+#define KERNELSTINT_FAULT_BAD_COUNT 5 /* bad-count: the command has more or fewer words */
+#define KERNELSTINT_FAULT_BAD_REGISTER 6 /* bad-register: a word should be a register */
+#define KERNELSTINT_FAULT_BAD_NUMBER 7 /* bad-number: a word should be a number, or one in its range */
+#define KERNELSTINT_FAULT_BAD_DATA 8 /* bad-data: a word should be 32 hexadecimal digits */
+
+typedef struct kernelstint_fault {
+    uint32_t line; /* the number of the faulty line, from 1; 0 where the text is too long */
+    uint8_t kind;
+} kernelstint_fault;
+
+/*
+ * Writes the first fault of a text that is no trace, and answers KERNELSTINT_BAD_TRACE. Where it is one the answer is
+ * KERNELSTINT_DONE, and nothing is written. It runs nothing: it is for a text for which kernelstint_run or kernelstint_states
+ * has answered KERNELSTINT_BAD_TRACE.
+ */
+uint32_t kernelstint_trace_fault(const uint8_t *trace, size_t length, kernelstint_fault *fault);
+
+/*
+ * The same of a line that is no command, which is line 1: KERNELSTINT_BAD_LINE. Where it is one the answer is KERNELSTINT_DONE;
+ * KERNELSTINT_PASSED_OVER. It takes no memory.
+ */
+uint32_t kernelstint_line_fault(const uint8_t *line, size_t length, kernelstint_fault *fault);
+
 #ifdef __cplusplus
 }
 #endif

@@ -5,6 +5,7 @@ whose comment is gone. And what it asks of the bytes of a state, as a function."
 import ctypes
 import re
 
+import library_python
 import log_state
 
 # The comment of a value: behind a macro or a member of a struct, or in the line above a code or a permission.
@@ -39,7 +40,7 @@ class Rows:
     def __init__(self, library, without_memory):
         self.library, self.rows = library, {}
         self.row("NO_MEMORY", "malloc answered null.", without_memory, 14)
-        for part in (self.commands, self.replies, self.whys, self.codes, self.permissions, self.words, self.members):
+        for part in (self.commands, self.replies, self.whys, self.codes, self.faults, self.permissions, self.words, self.members):
             part()
 
     def row(self, name, words, told, wanted):
@@ -161,6 +162,35 @@ class Rows:
         self.row("BAD_ROOM", "The room for a state is not as long as that state.", step(passed, 5934, show, short, 5933, reply), 5)
         self.row("SHORT_TEXT", "The room for a text is too short.", step_line(passed, 5934, b"show c0", 7, room, 5934, text, 199, count), 11)
         self.row("OVERLAP", "Two places lie over one another, of which one is written.", in_place, 19)
+
+    def faults(self):
+        """A text of which this is wrong first has the number of its name, and the number of its line."""
+        it, told, found = self.library, {}, []
+        for text, name, line in library_python.FAULTS:
+            fault, data = it._Fault(), text.encode()
+            told[name] = (it._library.kernelstint_trace_fault(data, len(data), fault), it._FAULTS[fault.kind - 1])
+            found.append(fault.line)
+        for name, words in (
+            ("TOO_LONG", "too-long: the text has more than 4,194,304 bytes"),
+            ("NO_HEAP", "no-heap: the first line that counts is no heap line"),
+            ("BAD_HEAP", "bad-heap: the heap line is not of its form, or its numbers are out of their range"),
+            ("BAD_COMMAND", "bad-command: no command has this name"),
+            ("BAD_COUNT", "bad-count: the command has more or fewer words"),
+            ("BAD_REGISTER", "bad-register: a word should be a register"),
+            ("BAD_NUMBER", "bad-number: a word should be a number, or one in its range"),
+            ("BAD_DATA", "bad-data: a word should be 32 hexadecimal digits"),
+        ):
+            fault = words.split(":")[0]
+            self.row(f"FAULT_{name}", words, told.get(fault), (18, fault))
+        lines = [line for _, _, line in library_python.FAULTS]
+        self.row("fault.line", "the number of the faulty line, from 1; 0 where the text is too long", found, lines)
+        untold, codes = it._Fault(7, 7), []
+        for call, text in ((it._library.kernelstint_trace_fault, b"heap 0 1"), (it._library.kernelstint_line_fault, b"sweep"), (it._library.kernelstint_line_fault, b"# sweep")):
+            codes.append((call(text, len(text), untold), untold.line, untold.kind))
+        self.row("fault of none", "", codes, [(0, 7, 7), (0, 7, 7), (12, 7, 7)])
+        of_line = it._Fault()
+        code = it._library.kernelstint_line_fault(b"show c32", 8, of_line)
+        self.row("fault of a line", "", (code, of_line.line, it._FAULTS[of_line.kind - 1]), (13, 1, "bad-register"))
 
     def buffer_of(self, data):
         self.buffer = bytearray(data)

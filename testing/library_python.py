@@ -1,7 +1,7 @@
 """What testing/library tries of bindings/python/kernelstint.py by itself: each public call with values of wrong types, which a
 table has, and which is held to the module itself, so that a call or a parameter without a row fails; that values and exceptions
-can be copied, pickled and handed to other processes; that a trace is done by the lines of its file; and that its names are the
-interface alone."""
+can be copied, pickled and handed to other processes; that a trace is done by the lines of its file; that a refusal names the fault
+and its line, or says why an answer differs as heap_check does; and that its names are the interface alone."""
 
 import concurrent.futures
 import copy
@@ -105,8 +105,63 @@ def enums_of(library):
 def errors_of(library):
     """The exceptions, each as it is raised."""
     why = library.Why(library.WhyKind.REFUSED, library.Claim.OVER_LIVE, 0, 16, 32, library.Reply(library.ReplyKind.DONE))
+    told = {
+        library.Differs: (why, library.Reply(library.ReplyKind.BLOCK, 0, 32), False), library.BadTrace: ("bad-count", 2),
+        library.BadLine: ("no command: 'show'", "bad-count"),
+    }  # fmt: skip
     kinds = [it for it in map(library.__dict__.get, library.__all__) if inspect.isclass(it) and issubclass(it, library.Error)]
-    return [it(why if it is library.Differs else "what is wrong") for it in kinds]
+    return [it(*told.get(it, ("what is wrong",))) for it in kinds]
+
+
+# Texts that are no trace, with their first fault and its line; and the last lines as lines by themselves, but for the heap line.
+FAULTS = (
+    ("", "no-heap", 1), ("\n# heap 0 1\nsweep", "no-heap", 3), ("heap 1 1", "bad-heap", 1), ("heap 0 1\n\nfrob", "bad-command", 3),
+    ("heap 0 1\nfree", "bad-count", 2), ("heap 0 1\nsweep\nshow c32", "bad-register", 3), ("heap 0 1\nmalloc c1 0x", "bad-number", 2),
+    ("heap 0 1\nwrite c1 00", "bad-data", 2), ("heap 0 1\n" + "#" * 4194304, "too-long", 0),
+)  # fmt: skip
+# What a state is after these lines, and a command that an allocator answered in a way that may not be, with heap_check's words.
+DIFFERENCES = (
+    ((), ("MALLOC", 1, 16), "ok", "a malloc is answered by a block or by nospace, and the log says ok"),
+    ((), ("MALLOC", 1, 17), "block 0x40000100 0x40000110", "block 0x40000100 0x40000110 is shorter than the size asked for"),
+    ((), ("MALLOC", 1, 16), "block 0x40000108 0x40000118", "block 0x40000108 0x40000118 is not whole granules"),
+    ((), ("MALLOC", 1, 16), "block 0x40010000 0x40010010", "block 0x40010000 0x40010010 lies outside the heap"),
+    ((), ("MALLOC", 1, 16), "block 0x40000010 0x40004020", "block 0x40000010 0x40004020 has bounds that no capability holds"),
+    (("malloc c1 32",), ("MALLOC", 2, 16), "block 0x40000010 0x40000020", "block 0x40000010 0x40000020 lies over the live block 0x40000000 0x40000020"),
+    (("malloc c1 32", "free c1"), ("MALLOC", 2, 16), "block 0x40000000 0x40000010", "block 0x40000000 0x40000010 lies over the held block 0x40000000 0x40000020"),
+    ((), ("MALLOC", 1, 16), "block 0x40000000 0x40000010 swept 0", "no sweep may be told: no block waits"),
+    (("malloc c1 16", "free c1", "begin"), ("MALLOC", 2, 16), "nospace swept 0", "no sweep may be told: an epoch is open"),
+    (("malloc c1 16", "free c1"), ("MALLOC", 2, 16), "nospace swept 0", "the sweep takes 1 tag, and the log says nospace swept 0"),
+    (("malloc c1 16", "copy c2 c1", "free c1"), ("MALLOC", 2, 16), "nospace swept 0", "the sweep takes 2 tags, and the log says nospace swept 0"),
+    (("malloc c1 16",), ("FREE", 1, 0), "held 32", "the answer must be held 16, and the log says held 32"),
+    ((), ("FREE", 1, 0), "ok", "the answer must be trap tag, and the log says ok"),
+)  # fmt: skip
+
+
+def faults(tests, library):
+    """A text that is no trace, and a line that is no command, is refused by the name of its fault and the number of its line."""
+    state = library.State.first(0x40000000, 1)
+    for text, fault, line in FAULTS:
+        for call in (library.run, library.states):
+            told = raised_by(lambda: call(text), {})
+            tests.expect(isinstance(told, library.BadTrace) and (told.fault, told.line) == (fault, line), f"{text[:40]!r} is refused for {told!r}")
+            tests.expect(str(told) == f"the text is no trace: {fault}" + (f" in line {line}" if line else ""), f"it is told as {told}")
+        if text.startswith("heap 0 1") and line:
+            told, last = raised_by(lambda: state.step(text.split("\n")[-1]), {}), text.split("\n")[-1]
+            tests.expect(isinstance(told, library.BadLine) and told.fault == fault, f"{last!r} is refused for {told!r}")
+            tests.expect(str(told) == f"no command: {last!r}: {fault}", f"it is told as {told}")
+
+
+def differences(tests, library):
+    """An answer that isn't allowed is refused in the words of heap_check, and its kinds and traps have names."""
+    for lines, (kind, first, number), answer, wanted in DIFFERENCES:
+        state = library.State.first(0x40000000, 16)
+        for line in lines:
+            state, _ = state.step(line)
+        command = library.Command(library.CommandKind[kind], first, number=number)
+        told = raised_by(lambda: state.follow(command, library.Reply.of_text(answer)), {})
+        tests.expect(isinstance(told, library.Differs) and str(told) == wanted, f"{answer} differs as {told}, and not as {wanted}")
+        is_refused = told.why.kind is library.WhyKind.REFUSED
+        tests.expect(isinstance(told.why.claim, library.Claim) == is_refused, f"the claim of {told} has no name: {told.why}")
 
 
 def calls_of(library):
@@ -231,4 +286,6 @@ def all_of(tests, library, example):
     read_back(tests, library)
     copies(tests, library)
     lines(tests, library, example)
+    faults(tests, library)
+    differences(tests, library)
     interface(tests, library)

@@ -64,6 +64,18 @@ def why_not_there(state, base, top, held):
     return None
 
 
+# ---- what a log says
+
+
+def counted(count, one, more=None):
+    return f"{count} {one if count == 1 else more or one + 's'}"
+
+
+def but_said(must, said):
+    """What must be said, and what the log says in place of it."""
+    return f"{must}, and the log says {said}"
+
+
 # ---- what a malloc is answered
 
 
@@ -76,7 +88,7 @@ def told_by_malloc(answer):
 def wrong_with_malloc(state, size, answer):
     """All that is wrong with an answer, each with the words that are to be told with it, or None."""
     if answer[0] not in ("block", "nospace"):
-        return [(NO_ANSWER, None)]
+        return [(but_said(NO_ANSWER, " ".join(answer)), None)]
     block, swept = told_by_malloc(answer)
     wrong, is_allowed, held = [], swept is None or state.may_sweep(), state.held()
     if not is_allowed:
@@ -86,7 +98,7 @@ def wrong_with_malloc(state, size, answer):
         wrong.append((f"{named(*block)} is shorter than the size asked for", None))
     if swept is not None and is_allowed:
         due, held = state.due_in("sweep"), state.painted
-        wrong += [(f"the sweep takes {len(due)} tags", due)] if swept != len(due) else []
+        wrong += [(but_said(f"the sweep takes {counted(len(due), 'tag')}", " ".join(answer)), due)] if swept != len(due) else []
     if block and is_allowed and (why := why_not_there(state, *block, held)):
         wrong.append((why, None))
     return wrong
@@ -115,7 +127,7 @@ def told_tags(answer):
 def wrong_with_one(name, due, right, answer):
     """What is wrong with an answer in place of the right one, with the words that are told with it. Where no pass of this
     kind is told of, they may be told or not."""
-    reason = f"the answer is {right}"
+    reason = but_said(f"the answer must be {right}", answer)
     right_tags, tags = told_tags(right), told_tags(answer)
     if name not in PASSES or not right_tags:
         return [(reason, None)]
@@ -124,11 +136,17 @@ def wrong_with_one(name, due, right, answer):
     return [(reason, due if tags[0] != right_tags[0] else None)]
 
 
+def content_of(held):
+    word, tag = held
+    return f"{tag:d} {word.data()}"
+
+
 def wrong_with_seen(state, address, tag, data):
     if not state.has_granule(address):
         return [("no granule of the heap lies at this address", None)]
     held = state.granule(address)
-    return [] if held == (word_of_data(data), tag) else [(f"the granule holds {held[1]:d} {held[0].data()}", None)]
+    seen = (word_of_data(data), tag)
+    return [] if held == seen else [(but_said(f"the granule holds {content_of(held)}", content_of(seen)), None)]
 
 
 def follow(state, event):
@@ -174,12 +192,25 @@ def lack_of_word(state, word):
     return None if is_guarded else f"the word's bounds {word.base:#x} {word.top:#x} lie in no block"
 
 
+def refuse_words_given_again(givens):
+    lines = {}
+    for line, kind, operands in givens:
+        if kind in ("register", "granule"):
+            place = (kind, operands[0])
+            if place in lines:
+                told = f"register c{operands[0]}" if kind == "register" else f"granule {operands[0]:#x}"
+                raise Unsafe(line, [f"{told} was given at line {lines[place]}"])
+            lines[place] = line
+
+
 def give_words(state, givens):
     for line, kind, operands in givens:
         if kind not in ("register", "granule"):
             continue
         number, tag, data = operands
         word = word_of_data(data)
+        if (kind, number) == ("register", 0) and (word, tag) != (NULL, False):
+            raise Unsafe(line, ["register c0 is always null"])
         if kind == "granule" and not state.has_granule(number):
             raise Unsafe(line, ["no granule of the heap lies at this address"])
         if tag and (lack := lack_of_word(state, word)):
@@ -193,6 +224,7 @@ def give_words(state, givens):
 def first_state(log):
     state = State(log.base, log.pages)
     give_blocks(state, log.givens)
+    refuse_words_given_again(log.givens)
     give_words(state, log.givens)
     return state
 
@@ -205,7 +237,7 @@ def told_due(state, due):
     if due is None:
         return ""
     places = [(f"c{number}" if kind == "register" else f"granule {number:#x}", state.cell((kind, number))[0]) for kind, number in due]
-    return "".join(f"{name} base {word.base:#x}\n" for name, word in places[:MOST_TOLD]) + f"{len(due)} words due\n"
+    return "".join(f"{name} base {word.base:#x}\n" for name, word in places[:MOST_TOLD]) + f"{counted(len(due), 'word')} due\n"
 
 
 def tally(log):
@@ -214,7 +246,8 @@ def tally(log):
     blocks = sum(it.startswith("block ") for it in answers)
     passes = [it for it in answers if re.search("swept|cleared [0-9]", it)]
     tags = sum(int(re.search("(swept|cleared) ([0-9]+)", it)[2]) for it in passes)
-    return f"agrees {len(answers)} commands, {blocks} blocks handed out, {len(passes)} passes, {tags} tags taken\n"
+    told = [counted(len(answers), "command"), counted(blocks, "block") + " handed out", counted(len(passes), "pass", "passes"), counted(tags, "tag") + " taken"]
+    return f"agrees {', '.join(told)}\n"
 
 
 def judge(text):

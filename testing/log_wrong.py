@@ -364,6 +364,19 @@ def wrong_words_given(log, state):
                 yield "where none is", line, given_granule(address, NULL, False), f"unsafe {line}: no granule of the heap lies at this address\n"
 
 
+def words_given_again(log):
+    """The same of lines behind all given ones that give a register or a granule again, whatever they say of it, or register 0
+    another content."""
+    end, givens = 2 + len(log.givens), [it for it in log.givens if it.kind in ("register", "granule")]
+    for line, kind, (number, tag, data) in givens:
+        given, place = (given_register, f"register c{number}") if kind == "register" else (given_granule, f"granule {number:#x}")
+        for cell in ((word_of_data(data), tag), (NULL, False)):
+            yield "again", end, given(number, *cell), f"unsafe {end}: {place} was given at line {line}\n"
+    if not any(kind == "register" and operands[0] == 0 for _, kind, operands in givens):
+        for cell in ((NULL, True), (word_of_data("01" + "00" * 15), False)):
+            yield "register 0", end, given_register(0, *cell), f"unsafe {end}: register c0 is always null\n"
+
+
 def changed_given(lines, log, chance):
     """A given line left out, of another kind, or with another tag; what that comes to only a judge can tell."""
     givens = [it for it in log.givens if it.kind != "epoch"]
@@ -386,7 +399,7 @@ def changed_given(lines, log, chance):
 def twice_wrong(lines, changes, chance):
     """Two given lines wrong: that of a block is told first, and of two of the same sort the first."""
     one, other = (chance.choice(changes) for _ in range(2))
-    if one[1] == other[1]:
+    if one[1] == other[1] or one[2].split()[:3] == other[2].split()[:3]:
         return None
     changed = list(lines)
     for _, number, line, _ in (one, other):
@@ -402,7 +415,7 @@ def wrong_givens(text, chance, most):
     if not log.givens:
         return
     state, end, kinds = first_state(log), 2 + len(log.givens), {}
-    for change in (*wrong_blocks_given(log, state), *wrong_words_given(log, state)):
+    for change in (*wrong_blocks_given(log, state), *wrong_words_given(log, state), *words_given_again(log)):
         kinds.setdefault(change[0], []).append(change)
     for _ in range(most if kinds else 0):
         _, number, line, begins = chance.choice(kinds[chance.choice(sorted(kinds))])

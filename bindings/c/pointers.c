@@ -22,6 +22,9 @@ uint32_t kernelstint_proved_granule(const uint8_t *state, size_t length, uint64_
 uint32_t kernelstint_proved_run(const uint8_t *trace, size_t length, uint8_t *out, size_t out_length, size_t *count);
 uint32_t kernelstint_proved_states(const uint8_t *trace, size_t length, uint8_t *out, size_t out_length, size_t *count);
 
+uint32_t kernelstint_proved_trace_fault(const uint8_t *trace, size_t length, kernelstint_fault *fault);
+uint32_t kernelstint_proved_line_fault(const uint8_t *line, size_t length, kernelstint_fault *fault);
+
 /* A place in memory that a call reads, or writes. */
 typedef struct place {
     const void *at;
@@ -111,4 +114,14 @@ PUBLIC uint32_t kernelstint_run(const uint8_t *trace, size_t length, uint8_t *ou
 PUBLIC uint32_t kernelstint_states(const uint8_t *trace, size_t length, uint8_t *out, size_t out_length, size_t *count) {
     TEST_PLACES(READ(trace, length), WRITTEN(out, out_length), WRITTEN(count, sizeof *count));
     return kernelstint_proved_states(trace, length, out, out_length, count);
+}
+
+PUBLIC uint32_t kernelstint_trace_fault(const uint8_t *trace, size_t length, kernelstint_fault *fault) {
+    TEST_PLACES(READ(trace, length), WRITTEN(fault, sizeof *fault));
+    return kernelstint_proved_trace_fault(trace, length, fault);
+}
+
+PUBLIC uint32_t kernelstint_line_fault(const uint8_t *line, size_t length, kernelstint_fault *fault) {
+    TEST_PLACES(READ(line, length), WRITTEN(fault, sizeof *fault));
+    return kernelstint_proved_line_fault(line, length, fault);
 }

@@ -97,7 +97,14 @@ class PassedOver(Error, ValueError):
 
 
 class BadLine(Error, ValueError):
-    """A line is no command."""
+    """A line is no command: `fault` says what is wrong with it, by the name that a report has for it."""
+
+    def __init__(self, wrong: str, fault: str) -> None:
+        super().__init__(wrong, fault)
+        self.fault = fault
+
+    def __str__(self) -> str:
+        return f"{self.args[0]}: {self.fault}"
 
 
 class NoMemory(Error, MemoryError):
@@ -113,18 +120,42 @@ class BadReply(Error, ValueError):
 
 
 class BadTrace(Error, ValueError):
-    """A text is no trace."""
+    """A text is no trace: `fault` says what is wrong first, by the name that a report has for it, and `line` in which line, from
+    1, or 0 where the text is too long."""
+
+    def __init__(self, fault: str, line: int) -> None:
+        super().__init__(fault, line)
+        self.fault, self.line = fault, line
+
+    def __str__(self) -> str:
+        return f"the text is no trace: {self.fault}" + (f" in line {self.line}" if self.line else "")
 
 
 class Differs(Error):
-    """An answer is not allowed: `why` says for what reason."""
+    """An answer is not allowed: `why` says for what reason, and `answer` is that answer. It is told in the words of heap_check,
+    which `is_open` decides where no sweep may be told: an epoch is open, or no block waits."""
 
-    def __init__(self, why: Why) -> None:
-        super().__init__(why)
-        self.why = why
+    def __init__(self, why: Why, answer: Reply, is_open: bool) -> None:
+        super().__init__(why, answer, is_open)
+        self.why, self.answer, self.is_open = why, answer, is_open
 
     def __str__(self) -> str:
-        return f"the answer is not allowed: {self.why}"
+        said, block = f", and the log says {self.answer.text}", f"block {self.answer.base:#x} {self.answer.top:#x}"
+        way = f"block {self.why.base:#x} {self.why.top:#x}"
+        refused = {
+            Claim.UNEVEN: "is not whole granules", Claim.EMPTY: "is empty", Claim.OUTSIDE: "lies outside the heap",
+            Claim.INEXACT: "has bounds that no capability holds", Claim.OVER_LIVE: f"lies over the live {way}",
+            Claim.OVER_HELD: f"lies over the held {way}",
+        }  # fmt: skip
+        tags = f"{self.why.count} tag" + ("" if self.why.count == 1 else "s")
+        return {
+            WhyKind.MUST_BE: f"the answer must be {self.why.reply.text}{said}",
+            WhyKind.NOT_OF_MALLOC: f"a malloc is answered by a block or by nospace{said}",
+            WhyKind.TOO_SHORT: f"{block} is shorter than the size asked for",
+            WhyKind.MAY_NOT_SWEEP: f"no sweep may be told: {'an epoch is open' if self.is_open else 'no block waits'}",
+            WhyKind.TAKES: f"the sweep takes {tags}{said}",
+            WhyKind.REFUSED: f"{block} {refused.get(self.why.claim)}",
+        }[self.why.kind]
 
 
 class Permission(_enum.IntFlag, metaclass=_OwnMembers):
@@ -255,11 +286,11 @@ _TOLD = {
 
 
 class Why(_NamedTuple):
-    """Why an answer is not allowed: what it must be, how many tags a sweep takes, or why a block's place is refused, and the
-    bounds of the block that is in the way."""
+    """Why an answer is not allowed: what it must be, how many tags a sweep takes, or why a block's place is refused (a Claim, else
+    0), and the bounds of the block that is in the way."""
 
     kind: WhyKind
-    claim: int
+    claim: Claim | int
     count: int
     base: int
     top: int
@@ -353,6 +384,10 @@ class _Counts(_ctypes.Structure):
     _fields_ = [("live", _ctypes.c_uint64), ("held", _ctypes.c_uint64), ("free", _ctypes.c_uint64), ("is_open", _ctypes.c_uint8)]
 
 
+class _Fault(_ctypes.Structure):
+    _fields_ = [("line", _ctypes.c_uint32), ("kind", _ctypes.c_uint8)]
+
+
 class _TaggedWord(_ctypes.Structure):
     _fields_ = [("low", _ctypes.c_uint64), ("high", _ctypes.c_uint64), ("tag", _ctypes.c_uint8)]
 
@@ -389,13 +424,17 @@ _FUNCTIONS = [
     ("granule", _ctypes.c_uint32, [*_READ, _ctypes.c_uint64, _ctypes.POINTER(_TaggedWord)]),
     ("run", _ctypes.c_uint32, [*_READ, *_WRITTEN, _COUNT]),
     ("states", _ctypes.c_uint32, [*_READ, *_WRITTEN, _COUNT]),
+    ("trace_fault", _ctypes.c_uint32, [*_READ, _ctypes.POINTER(_Fault)]),
+    ("line_fault", _ctypes.c_uint32, [*_READ, _ctypes.POINTER(_Fault)]),
 ]
 # The codes of include/kernelstint.h that are raised. Rooms and pointers are this file's own, and so never wrong.
 _ERRORS = {
     1: BadLength, 2: BadFields, 3: BadBounds, 6: BadState, 7: BadSize, 8: BadBase, 9: BadRegister, 10: BadAddress, 12: PassedOver,
-    13: BadLine, 14: NoMemory, 15: BadCommand, 16: BadReply, 18: BadTrace,
+    14: NoMemory, 15: BadCommand, 16: BadReply,
 }  # fmt: skip
-_SHORT_TEXT, _DIFFERS, _LONGEST_REPLY = 11, 17, 200
+_SHORT_TEXT, _BAD_LINE, _DIFFERS, _BAD_TRACE, _LONGEST_REPLY = 11, 13, 17, 18, 200
+# The faults, by their numbers from 1.
+_FAULTS = ["too-long", "no-heap", "bad-heap", "bad-command", "bad-count", "bad-register", "bad-number", "bad-data"]
 
 
 def _path_of_library() -> _pathlib.Path:
@@ -624,6 +663,13 @@ def _done(code: int, wrong: str) -> None:
         raise _ERRORS[code](wrong)
 
 
+def _fault_of(call: _ctypes._CFuncPtr, text: bytes) -> tuple[str, int]:
+    """What is wrong with a text that is no trace or no command: the fault's name, and its line."""
+    fault = _Fault()
+    _done({_BAD_LINE: 0, _BAD_TRACE: 0}.get(code := call(text, len(text), fault), code), "the fault can't be told")
+    return _FAULTS[fault.kind - 1], fault.line
+
+
 def _reply_of(it: _Reply) -> Reply:
     top = it.top + (it.top_high << 64)
     return Reply(ReplyKind(it.kind), it.base, top, it.cleared, it.bytes, it.trap, it.address, it.otype, it.perms, it.tag == 1, it.exponent)
@@ -708,6 +754,8 @@ class State:
         if isinstance(command, str):
             line, written, count = _text_in(command[:-1] if command.endswith("\n") else command, "a line"), (_ctypes.c_uint8 * _LONGEST_REPLY)(), _ctypes.c_size_t()
             code = _library.kernelstint_step_line(self._bytes, len(self._bytes), line, len(line), room, len(room), written, len(written), count)
+            if code == _BAD_LINE:
+                raise BadLine(f"no command: {command!r}", _fault_of(_library.kernelstint_line_fault, line)[0])
             _done(code, f"no command: {command!r}")
             return State._of(bytes(room)), Reply._told_by(bytes(written[: count.value]).decode())
         code = _library.kernelstint_step(self._bytes, len(self._bytes), _passed_command(command), room, len(room), told)
@@ -720,7 +768,8 @@ class State:
         room, why = (_ctypes.c_uint8 * len(self._bytes))(), _Why()
         code = _library.kernelstint_follow(self._bytes, len(self._bytes), _passed_command(command), _passed_reply(answer), room, len(room), why)
         if code == _DIFFERS:
-            raise Differs(Why(WhyKind(why.kind), why.claim, why.count, why.base, why.top + (why.top_high << 64), _reply_of(why.reply)))
+            claim = Claim(why.claim) if why.claim else 0
+            raise Differs(Why(WhyKind(why.kind), claim, why.count, why.base, why.top + (why.top_high << 64), _reply_of(why.reply)), answer, self.is_open)
         _done(code, f"{command} and {answer} are not a command and a reply")
         return State._of(bytes(room))
 
@@ -780,8 +829,10 @@ def _whole(call: _ctypes._CFuncPtr, text: str | bytes) -> bytes:
     while True:
         room, count = (_ctypes.c_uint8 * length)(), _ctypes.c_size_t()
         code = call(text, len(text), room, length, count)
+        if code == _BAD_TRACE:
+            raise BadTrace(*_fault_of(_library.kernelstint_trace_fault, text))
         if code != _SHORT_TEXT:
-            _done(code, "the text is no trace")
+            _done(code, "the text can't be run")
             return bytes(room[: count.value])
         length = count.value
 

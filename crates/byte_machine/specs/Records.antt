@@ -14,7 +14,10 @@ use Rattle.state_bytes.specs.Text.{flag_byte}
 use Rattle.trace_text.specs.Command.{IsValid}
 use Rattle.trace_text.specs.declared.trace.Command.{Command}
 use Rattle.trace_text.specs.declared.trace.Command.TheVariants.{Malloc, Free, Copy, SetAddr, Narrow, AndPerm, StoreCap, LoadCap, Write, Show, Sweep, Begin, End}
+use Rattle.trace_text.specs.declared.fault.TraceFault.{TraceFault}
+use Rattle.trace_text.specs.declared.fault.TraceFault.TheVariants as trace_fault
 use Rattle.byte_machine.specs.declared.commands.CommandRecord.{CommandRecord}
+use Rattle.byte_machine.specs.declared.faults.FaultRecord.{FaultRecord}
 use Rattle.byte_machine.specs.declared.replies.ReplyRecord.{ReplyRecord}
 use Rattle.byte_machine.specs.declared.reasons.WhyRecord.{WhyRecord}
 
@@ -236,3 +239,20 @@ why_told why.TooShort = reason 2
 why_told why.MayNotSweep = reason 3
 why_told (why.Takes count) = record (reason 4) { count = count }
 why_told (why.Refused claim) = claim_told claim
+
+-- ---- faults of texts
+
+abbrev pub fault_of_line : ℕ → ℕ → FaultRecord
+fault_of_line kind line = record { line = line; kind = kind }
+
+-- The record of a fault.
+abbrev pub fault_told : TraceFault → FaultRecord
+fault_told trace_fault.Memory = fault_of_line 0 0
+fault_told trace_fault.TooLong = fault_of_line 1 0
+fault_told (trace_fault.NoHeap line) = fault_of_line 2 line
+fault_told (trace_fault.BadHeap line) = fault_of_line 3 line
+fault_told (trace_fault.BadCommand line) = fault_of_line 4 line
+fault_told (trace_fault.BadCount line) = fault_of_line 5 line
+fault_told (trace_fault.BadRegister line) = fault_of_line 6 line
+fault_told (trace_fault.BadNumber line) = fault_of_line 7 line
+fault_told (trace_fault.BadData line) = fault_of_line 8 line

@@ -3,6 +3,7 @@
 
 mod commands;
 mod fault;
+mod faults;
 mod following;
 mod halves;
 mod lines;
@@ -15,8 +16,9 @@ mod stepping;
 
 pub use crate::commands::{CommandRecord, command_of, record_of};
 pub use crate::fault::CallFault;
+pub use crate::faults::{FaultRecord, fault_record};
 pub use crate::following::follow;
-pub use crate::lines::{LONGEST_REPLY, step_line};
+pub use crate::lines::{LONGEST_REPLY, command_in, step_line};
 pub use crate::looking::{CountRecord, WordRecord, counts, granule, register};
 pub use crate::reasons::{WhyRecord, why_record};
 pub use crate::replies::{ReplyRecord, reply_of, reply_record};

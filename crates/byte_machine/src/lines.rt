@@ -15,8 +15,8 @@ use trace_text::{Command, Line, command, split_name};
 /// The most bytes that the text of a reply has.
 pub const LONGEST_REPLY: usize = 200;
 
-// The command of a line.
-fn command_in(line: &[u8]) -> Result<Command, CallFault>
+/// The command of a line of a trace, without its line feed; or that it is passed over, or what is wrong with it.
+pub fn command_in(line: &[u8]) -> Result<Command, CallFault>
     ensures command { IfOk result (IsCommandOf line.now) }
     ensures valid { IfOk result IsValid }
     ensures fault { IfErr result (IsNoCommand line.now) }

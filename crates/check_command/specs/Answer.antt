@@ -12,7 +12,7 @@ use Rattle.log_text.specs.declared.log.Event.{Event}
 use Rattle.log_text.specs.declared.log.Event.TheVariants.{Done}
 use Rattle.log_text.specs.declared.log.Given.{Given}
 use Rattle.log_text.specs.declared.log.Log.{Log}
-use Rattle.log_text.specs.Log.{IsListedEvent, IsListedGiven, Record, log_of, longest_log}
+use Rattle.log_text.specs.Log.{IsListedEvent, IsListedGiven, Record, first_line, log_of, longest_log}
 use Rattle.trace_text.specs.Heap.{IsHeap}
 use Rattle.given_state.specs.declared.fault.Lack.{Lack}
 use Rattle.given_state.specs.declared.fault.Lack.TheVariants.{Block}
@@ -23,7 +23,7 @@ use Rattle.heap_log.specs.declared.verdict.Difference.{Difference}
 use Rattle.heap_log.specs.declared.verdict.Difference.TheVariants.{Answer}
 use Rattle.heap_log.specs.Due.{due_words}
 use Rattle.heap_log.specs.Judged.{AllFollow, DiffersAt, tally_of}
-use Rattle.heap_log.specs.Origin.{IsLastFree, first_line, gives, hands_out, last_line}
+use Rattle.heap_log.specs.Origin.{IsLastFree, gives, hands_out, last_line}
 use Rattle.trace_program.specs.Answer.{memory_line}
 use Rattle.trace_program.specs.Device.{ReadsUpTo}
 use Rattle.check_command.specs.declared.lines.Origin.{Origin}

@@ -1,5 +1,5 @@
 -- The lines that the program writes.
-use Rattle.std.specs.Prelude.{ℕ, Bool, List, [], ◌∷◌, ◌++◌, codes, flat_map, length, take, if◌then◌else◌}
+use Rattle.std.specs.Prelude.{◌==◌, ℕ, Bool, List, [], ◌∷◌, ◌++◌, codes, flat_map, length, take, if◌then◌else◌}
 use Rattle.std.specs.Fmt.{decimal}
 use Rattle.std.specs.List.{concat}
 use Rattle.hex.specs.Hex.{encode_lower}
@@ -11,7 +11,7 @@ use Rattle.heap_reply.specs.Answer.{answer_text, block_text}
 use Rattle.heap_reply.specs.Display.{bit_text, hexadecimal_text, joined}
 use Rattle.log_text.specs.declared.fault.LogFault.{LogFault}
 use Rattle.log_text.specs.declared.log.Event.{Event}
-use Rattle.log_text.specs.declared.log.Event.TheVariants.{Done}
+use Rattle.log_text.specs.declared.log.Event.TheVariants.{Done, Seen}
 use Rattle.log_text.specs.Fault.{log_fault_text}
 use Rattle.given_state.specs.declared.fault.Lack.{Lack}
 use Rattle.given_state.specs.declared.fault.Lack.TheVariants as lack
@@ -33,12 +33,20 @@ usage_line = codes "usage: heap_check [--workers N] [--cut N]\n"
 abbrev pub line_of_fault : LogFault → List ℕ
 line_of_fault fault = concat (codes "fault " ∷ log_fault_text fault ∷ codes "\n" ∷ [])
 
+-- The end of a noun of which there are so many.
+abbrev pub plural_text : ℕ → List ℕ
+plural_text count = if count == 1 then [] else codes "s"
+
+abbrev pub passes_text : ℕ → List ℕ
+passes_text count = if count == 1 then codes "1 pass" else (decimal count ++ codes " passes")
+
 -- What is written of a log that agrees.
 abbrev pub agrees_line : Tally → List ℕ
 agrees_line tally =
     concat (
-    codes "agrees " ∷ decimal tally.commands ∷ codes " commands, " ∷ decimal tally.blocks ∷ codes " blocks handed out, "
-    ∷ decimal tally.passes ∷ codes " passes, " ∷ decimal tally.tags ∷ codes " tags taken\n" ∷ []
+    codes "agrees " ∷ decimal tally.commands ∷ codes " command" ∷ plural_text tally.commands ∷ codes ", " ∷ decimal tally.blocks ∷ codes " block"
+    ∷ plural_text tally.blocks ∷ codes " handed out, " ∷ passes_text tally.passes ∷ codes ", " ∷ decimal tally.tags ∷ codes " tag" ∷ plural_text tally.tags
+    ∷ codes " taken\n" ∷ []
     )
 
 -- Where a block that is in the way came from.
@@ -62,32 +70,44 @@ refused_text Inexact from = codes " has bounds that no capability holds"
 refused_text (OverLive block) from = codes " lies over the live block " ++ way_text block from
 refused_text (OverHeld block) from = codes " lies over the held block " ++ way_text block from
 
--- Why an answer isn't allowed, where an epoch is open or none is.
-abbrev pub why_text : List ℕ → Bool → Origin → Why → List ℕ
-why_text told is_open from (why.MustBe reply) = codes "the answer is " ++ answer_text reply
-why_text told is_open from why.NotOfMalloc = codes "a malloc is answered by a block or by nospace"
-why_text told is_open from why.TooShort = told ++ codes " is shorter than the size asked for"
-why_text told is_open from why.MayNotSweep =
-    if is_open then codes "no sweep may be told: an epoch is open" else codes "no sweep may be told: no block waits"
-why_text told is_open from (why.Takes count) = concat (codes "the sweep takes " ∷ decimal count ∷ codes " tags" ∷ [])
-why_text told is_open from (why.Refused reason) = told ++ refused_text reason from
-
--- How a log differs.
-abbrev pub difference_text : List ℕ → Bool → Origin → Difference → List ℕ
-difference_text told is_open from (Answer reason) = why_text told is_open from reason
-difference_text told is_open from NoGranule = codes "no granule of the heap lies at this address"
-difference_text told is_open from (Granule tag bytes) =
-    concat (codes "the granule holds " ∷ bit_text tag ∷ codes " " ∷ encode_lower bytes ∷ [])
-
 -- The block that an event hands out.
 abbrev pub told_text : Event → List ℕ
 told_text (Done command (HandsOut base top)) = block_text base top
 told_text (Done command (HandsOutAfter base top cleared)) = block_text base top
 told_text event = []
 
+-- A tag and 16 bytes.
+abbrev pub content_text : Bool → List ℕ → List ℕ
+content_text tag bytes = concat (bit_text tag ∷ codes " " ∷ encode_lower bytes ∷ [])
+
+-- What the log says: an answer, or what was seen.
+abbrev pub said_text : Event → List ℕ
+said_text (Done command answer) = answer_text answer
+said_text (Seen address tag bytes) = content_text tag bytes
+
+-- What must be said in place of it.
+abbrev pub but_said : List ℕ → Event → List ℕ
+but_said must event = concat (must ∷ codes ", and the log says " ∷ said_text event ∷ [])
+
+-- Why the answer of an event isn't allowed, where an epoch is open or none is.
+abbrev pub why_text : Event → Bool → Origin → Why → List ℕ
+why_text event is_open from (why.MustBe reply) = but_said (codes "the answer must be " ++ answer_text reply) event
+why_text event is_open from why.NotOfMalloc = but_said (codes "a malloc is answered by a block or by nospace") event
+why_text event is_open from why.TooShort = told_text event ++ codes " is shorter than the size asked for"
+why_text event is_open from why.MayNotSweep =
+    if is_open then codes "no sweep may be told: an epoch is open" else codes "no sweep may be told: no block waits"
+why_text event is_open from (why.Takes count) = but_said (concat (codes "the sweep takes " ∷ decimal count ∷ codes " tag" ∷ plural_text count ∷ [])) event
+why_text event is_open from (why.Refused reason) = told_text event ++ refused_text reason from
+
+-- How a log differs.
+abbrev pub difference_text : Event → Bool → Origin → Difference → List ℕ
+difference_text event is_open from (Answer reason) = why_text event is_open from reason
+difference_text event is_open from NoGranule = codes "no granule of the heap lies at this address"
+difference_text event is_open from (Granule tag bytes) = but_said (codes "the granule holds " ++ content_text tag bytes) event
+
 abbrev pub differs_line : ℕ → Event → Bool → Origin → Difference → List ℕ
 differs_line line event is_open from difference =
-    concat (codes "differs " ∷ decimal line ∷ codes ": " ∷ difference_text (told_text event) is_open from difference ∷ codes "\n" ∷ [])
+    concat (codes "differs " ∷ decimal line ∷ codes ": " ∷ difference_text event is_open from difference ∷ codes "\n" ∷ [])
 
 -- A word that is due.
 abbrev pub due_line : DueWord → List ℕ
@@ -96,12 +116,16 @@ due_line (word.Granule address base) = concat (codes "granule " ∷ hexadecimal_
 
 -- The first 100 of them, and how many they are.
 abbrev pub due_text : List DueWord → List ℕ
-due_text words = flat_map due_line (take 100 words) ++ concat (decimal (length words) ∷ codes " words due\n" ∷ [])
+due_text words = flat_map due_line (take 100 words) ++ concat (decimal (length words) ∷ codes " word" ∷ plural_text (length words) ∷ codes " due\n" ∷ [])
 
 -- What a given line lacks.
 abbrev pub lack_text : Origin → Lack → List ℕ
 lack_text from (lack.Block (OverLive block)) = codes "the block lies over the block " ++ way_text block from
 lack_text from (lack.Block reason) = codes "the block" ++ refused_text reason from
+lack_text from (lack.RegisterAgain r line) = concat (codes "register c" ∷ decimal r ∷ codes " was given at line " ∷ decimal line ∷ [])
+lack_text from (lack.GranuleAgain address line) =
+    concat (codes "granule " ∷ hexadecimal_text address ∷ codes " was given at line " ∷ decimal line ∷ [])
+lack_text from lack.NotNull = codes "register c0 is always null"
 lack_text from lack.NoGranule = codes "no granule of the heap lies at this address"
 lack_text from (lack.Unguarded base top) =
     joined (codes "the word's bounds " ∷ hexadecimal_text base ∷ codes " " ∷ hexadecimal_text top ∷ codes " lie in no block" ∷ [])

@@ -3,11 +3,11 @@
 ghost use Rattle.std.specs.Prelude.{◌≡◌, ℕ, IfErr, IfOk, List, string_bytes};
 ghost use Rattle.std.specs.List.{All};
 ghost use Rattle.command_line.specs.Asked.{AreWithinLimits};
-ghost use Rattle.log_text.specs.Log.{IsListedEvent, record_of};
+ghost use Rattle.log_text.specs.Log.{IsListedEvent, first_line, record_of};
 ghost use Rattle.given_state.specs.Given.{AreSafe, IsFirstFlaw};
 ghost use Rattle.heap_machine.specs.State.{State};
 ghost use Rattle.heap_log.specs.Judged.{AllFollow, DiffersAt};
-ghost use Rattle.heap_log.specs.Origin.{first_line, gives, hands_out, last_line};
+ghost use Rattle.heap_log.specs.Origin.{gives, hands_out, last_line};
 ghost use Rattle.check_command.specs.Answer.{ComesFrom, IsHeldFrom, IsJudged, IsLogAnswer, IsReadLog, first_of, given_at, given_from, is_memory, live_from};
 
 use crate::due_lines::push_due_shown;

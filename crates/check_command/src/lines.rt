@@ -2,7 +2,7 @@
 
 ghost use Rattle.std.specs.Prelude.{◌≡◌, IfOk, Some, string_bytes};
 ghost use Rattle.heap_reply.specs.Answer.{answer_text};
-ghost use Rattle.check_command.specs.Text.{agrees_line, differs_line, difference_text, lack_text, line_of_fault, origin_text, refused_text, told_text, unsafe_line, way_text, why_text};
+ghost use Rattle.check_command.specs.Text.{agrees_line, content_text, differs_line, difference_text, lack_text, line_of_fault, origin_text, passes_text, plural_text, refused_text, said_text, told_text, unsafe_line, way_text, why_text};
 
 use given_state::Lack;
 use heap_core::{Block, Claim};
@@ -13,6 +13,37 @@ use log_text::{Event, LogFault};
 use reply_text::{ShortText, put_reply};
 use std::alloc::{AllocError, Global};
 use std::fmt;
+
+/// The end of a noun of which there are so many: `s`, but for one.
+#[derive(Clone, Copy)]
+pub struct Plural(pub u64);
+
+impl fmt::Display for Plural {
+    ghost output = { λ plural. Some (plural_text plural.0) };
+
+    fn fmt<W: fmt::Write>(&self, f: &mut fmt::Formatter<W>) -> fmt::Result {
+        if self.0 == 1 {
+            return Ok(());
+        }
+        write!(f, "s")
+    }
+}
+
+/// So many passes.
+#[derive(Clone, Copy)]
+struct Passes(u64);
+
+impl fmt::Display for Passes {
+    ghost output = { λ passes. Some (passes_text passes.0) };
+
+    fn fmt<W: fmt::Write>(&self, f: &mut fmt::Formatter<W>) -> fmt::Result {
+        let count = self.0;
+        if count == 1 {
+            return write!(f, "1 pass");
+        }
+        write!(f, "{count} passes")
+    }
+}
 
 /// Where a block in the way came from, as far as the log tells.
 #[derive(Clone, Copy, Debug, PartialEq, Eq)]
@@ -123,6 +154,45 @@ impl fmt::Display for Told {
     }
 }
 
+/// A tag and 16 bytes.
+#[derive(Clone, Copy)]
+struct Content {
+    tag: bool,
+    bytes: [u8; 16],
+}
+
+impl fmt::Display for Content {
+    ghost output = { λ content. Some (content_text content.tag content.bytes) };
+
+    fn fmt<W: fmt::Write>(&self, f: &mut fmt::Formatter<W>) -> fmt::Result {
+        let tag = flag_number(self.tag);
+        let text = ShortText::of_bytes(self.bytes);
+        let shown = text.as_str();
+        write!(f, "{tag} {shown}")
+    }
+}
+
+/// What a log says of an event.
+#[derive(Clone, Copy)]
+struct Said(Event);
+
+impl fmt::Display for Said {
+    ghost output = { λ said. Some (said_text said.0) };
+
+    fn fmt<W: fmt::Write>(&self, f: &mut fmt::Formatter<W>) -> fmt::Result {
+        match self.0 {
+            Event::Done { answer, .. } => {
+                let answer = ReplyText(answer);
+                write!(f, "{answer}")
+            }
+            Event::Seen { tag, bytes, .. } => {
+                let content = Content { tag, bytes };
+                write!(f, "{content}")
+            }
+        }
+    }
+}
+
 /// An event that differs, and what is told of it, where an epoch is open or none is.
 #[derive(Clone, Copy)]
 pub struct Differing {
@@ -135,29 +205,35 @@ pub struct Differing {
 /// Why its answer isn't allowed.
 #[derive(Clone, Copy)]
 struct WhyText {
-    told: Told,
+    event: Event,
     is_open: bool,
     from: Origin,
     why: Why,
 }
 
 impl fmt::Display for WhyText {
-    ghost output = { λ it. Some (why_text (told_text it.told.0) it.is_open it.from it.why) };
+    ghost output = { λ it. Some (why_text it.event it.is_open it.from it.why) };
 
     fn fmt<W: fmt::Write>(&self, f: &mut fmt::Formatter<W>) -> fmt::Result {
-        let told = self.told;
+        let told = Told(self.event);
+        let said = Said(self.event);
         match self.why {
             Why::MustBe(reply) => {
                 let reply = ReplyText(reply);
-                write!(f, "the answer is {reply}")
+                write!(f, "the answer must be {reply}, and the log says {said}")
             }
-            Why::NotOfMalloc => write!(f, "a malloc is answered by a block or by nospace"),
+            Why::NotOfMalloc => {
+                write!(f, "a malloc is answered by a block or by nospace, and the log says {said}")
+            }
             Why::TooShort => write!(f, "{told} is shorter than the size asked for"),
             Why::MayNotSweep if self.is_open => {
                 write!(f, "no sweep may be told: an epoch is open")
             }
             Why::MayNotSweep => write!(f, "no sweep may be told: no block waits"),
-            Why::Takes(count) => write!(f, "the sweep takes {count} tags"),
+            Why::Takes(count) => {
+                let ending = Plural(u64::from(count));
+                write!(f, "the sweep takes {count} tag{ending}, and the log says {said}")
+            }
             Why::Refused(reason) => {
                 let from = self.from;
                 let refused = RefusedBlock { reason, from };
@@ -168,13 +244,13 @@ impl fmt::Display for WhyText {
 }
 
 impl fmt::Display for Differing {
-    ghost output = { λ it. Some (difference_text (told_text it.event) it.is_open it.from it.difference) };
+    ghost output = { λ it. Some (difference_text it.event it.is_open it.from it.difference) };
 
     fn fmt<W: fmt::Write>(&self, f: &mut fmt::Formatter<W>) -> fmt::Result {
         match self.difference {
             Difference::Answer(why) => {
                 let why = WhyText {
-                    told: Told(self.event),
+                    event: self.event,
                     is_open: self.is_open,
                     from: self.from,
                     why,
@@ -183,10 +259,9 @@ impl fmt::Display for Differing {
             }
             Difference::NoGranule => write!(f, "no granule of the heap lies at this address"),
             Difference::Granule { tag, bytes } => {
-                let tag = flag_number(tag);
-                let text = ShortText::of_bytes(bytes);
-                let shown = text.as_str();
-                write!(f, "the granule holds {tag} {shown}")
+                let content = Content { tag, bytes };
+                let said = Said(self.event);
+                write!(f, "the granule holds {content}, and the log says {said}")
             }
         }
     }
@@ -213,6 +288,13 @@ impl fmt::Display for LackText {
                 let refused = RefusedBlock { reason, from };
                 write!(f, "the block{refused}")
             }
+            Lack::RegisterAgain { register, line } => {
+                write!(f, "register c{register} was given at line {line}")
+            }
+            Lack::GranuleAgain { address, line } => {
+                write!(f, "granule 0x{address:x} was given at line {line}")
+            }
+            Lack::NotNull => write!(f, "register c0 is always null"),
             Lack::NoGranule => write!(f, "no granule of the heap lies at this address"),
             Lack::Unguarded { base, top } => {
                 let top = Hexadecimal(top);
@@ -227,11 +309,14 @@ pub fn agrees_text(alloc: Global, tally: Tally) -> Result<String, AllocError>
     ensures { IfOk result (λ text. string_bytes text ≡ agrees_line tally) }
 {
     let commands = tally.commands;
+    let of_commands = Plural(u64::from(commands));
     let blocks = tally.blocks;
-    let passes = tally.passes;
+    let of_blocks = Plural(u64::from(blocks));
+    let passes = Passes(u64::from(tally.passes));
     let tags = tally.tags;
+    let of_tags = Plural(tags);
     format!(in alloc;
-        "agrees {commands} commands, {blocks} blocks handed out, {passes} passes, {tags} tags taken\n"
+        "agrees {commands} command{of_commands}, {blocks} block{of_blocks} handed out, {passes}, {tags} tag{of_tags} taken\n"
     )
 }
 

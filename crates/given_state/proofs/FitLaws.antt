@@ -123,7 +123,7 @@ with_words s m registers new fit all =
 FitHeap-given : (s : HeapState) (m : MemoryState) (registers : List Cell) (given : Given) → FitHeap s m registers → MayHold s given
     → FitHeap s (with_given_memory m given) (with_given_register registers given)
 FitHeap-given s m registers (Register r tag bytes) fit may =
-    with_words s m registers (with_register registers r (cell_with tag bytes)) fit (register_kept s registers r (cell_with tag bytes) (r == 0) fit.words may)
+    with_words s m registers (with_register registers r (cell_with tag bytes)) fit (register_kept s registers r (cell_with tag bytes) (r == 0) fit.words may.1)
 FitHeap-given s m registers (Granule address tag bytes) fit may = FitHeap-put s m registers address tag bytes fit may.0 may.1
 FitHeap-given s m registers (Live base top) fit may = fit
 FitHeap-given s m registers (Waiting base top) fit may = fit

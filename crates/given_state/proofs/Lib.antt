@@ -3,5 +3,6 @@ mod FitLaws
 mod FlawLaws
 mod GuardLaws
 mod LineLaws
+mod OnceLaws
 mod PlaceLaws
 mod TurnLaws

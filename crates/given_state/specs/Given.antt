@@ -1,10 +1,11 @@
 -- What the given lines of a log tell of: the state in which a heap was when the log begins, and which lines tell of none
--- that is safe. The blocks are judged before the words, each in the order of their lines.
-use Rattle.std.specs.Prelude.{◌≡◌, ◌<◌, ◌+◌, ◌-◌, ◌*◌, ◌/◌, ℕ, Bool, true, false, List, [], ◌∷◌, ◌++◌, Option, None, Some, fold, if◌then◌else◌, slice_set}
+-- that is safe. First the blocks are judged, then whether a register or a granule is given again, and then the words, each
+-- in the order of their lines.
+use Rattle.std.specs.Prelude.{◌≡◌, ◌==◌, ◌<◌, ◌+◌, ◌-◌, ◌*◌, ◌/◌, ℕ, Bool, true, false, List, [], ◌∷◌, ◌++◌, Option, None, Some, fold, if◌then◌else◌, slice_set}
 use Rattle.std.specs.List.{All, list_any}
 use Rattle.cap_codec.specs.Bytes.{bits_of_bytes}
 use Rattle.cap_codec.specs.Words.{bounds_in}
-use Rattle.tag_memory.specs.Cells.{Cell, Granule as TheGranule, new_memory, new_registers, with_register}
+use Rattle.tag_memory.specs.Cells.{Cell, Granule as TheGranule, new_memory, new_registers, null_cell, with_register}
 use Rattle.heap_core.specs.Claim.{IsClaimable, IsReason}
 use Rattle.heap_core.specs.Heap.{HeapState, empty_heap}
 use Rattle.heap_core.specs.Place.{with_block}
@@ -14,10 +15,11 @@ use Rattle.heap_core.specs.declared.block.Kind.{Kind}
 use Rattle.heap_core.specs.declared.block.Kind.TheVariants as kind
 use Rattle.log_text.specs.declared.log.Given.{Given}
 use Rattle.log_text.specs.declared.log.Given.TheVariants.{Epoch, Granule, Live, Painted, Register, Waiting}
+use Rattle.log_text.specs.Log.{first_line}
 use Rattle.heap_machine.specs.Safety.{IsGuarded}
 use Rattle.heap_machine.specs.State.{State}
 use Rattle.given_state.specs.declared.fault.Lack.{Lack}
-use Rattle.given_state.specs.declared.fault.Lack.TheVariants.{Block, NoGranule, Unguarded}
+use Rattle.given_state.specs.declared.fault.Lack.TheVariants.{Block, GranuleAgain, NoGranule, NotNull, RegisterAgain, Unguarded}
 use Rattle.given_state.specs.declared.fault.StartFault.{StartFault}
 use Rattle.given_state.specs.declared.fault.StartFault.TheVariants.{Memory, Unsafe}
 
@@ -125,9 +127,13 @@ pub record LiesAt (s : HeapState) (address i : ℕ) : Type 0 where
 abbrev pub HasGranule : HeapState → ℕ → Type 0
 HasGranule s address = (i : ℕ) × LiesAt s address i
 
--- What a line gives may be held: a granule lies at its address, and its word is guarded.
+-- Register 0 is always null.
+abbrev pub KeepsNull : ℕ → Cell → Type 0
+KeepsNull register c = register ≡ 0 → c ≡ null_cell
+
+-- What a line gives may be held: a granule lies at its address, register 0 is null, and its word is guarded.
 abbrev pub MayHold : HeapState → Given → Type 0
-MayHold s (Register register tag bytes) = IsGuarded s (cell_with tag bytes)
+MayHold s (Register register tag bytes) = KeepsNull register (cell_with tag bytes) × IsGuarded s (cell_with tag bytes)
 MayHold s (Granule address tag bytes) = HasGranule s address × IsGuarded s (cell_with tag bytes)
 MayHold s given = Unit {0}
 
@@ -135,9 +141,25 @@ MayHold s given = Unit {0}
 abbrev pub MayAllHold : HeapState → List (ℕ × Given) → Type 0
 MayAllHold s lines = All (λ line. MayHold s line.1) lines
 
+-- The lines give the same register, or the same granule.
+abbrev pub give_the_same : Given → Given → Bool
+give_the_same (Register register tag bytes) (Register other t b) = register == other
+give_the_same (Granule address tag bytes) (Granule other t b) = address == other
+give_the_same one other = false
+
+-- No line gives what one before it gave: one of those, or of these.
+abbrev pub AreNewAfter : List (ℕ × Given) → List (ℕ × Given) → Type 0
+AreNewAfter before [] = Unit {0}
+AreNewAfter before (line ∷ lines) = (first_line (give_the_same line.1) before ≡ None) × AreNewAfter (before ++ line ∷ []) lines
+
+-- Each register and each granule is given once.
+abbrev pub AreGivenOnce : List (ℕ × Given) → Type 0
+AreGivenOnce lines = AreNewAfter [] lines
+
 -- The lines are as they must be.
 pub record AreSafe (base pages : ℕ) (lines : List (ℕ × Given)) : Type 0 where
   pub blocks : MayAllLie (empty_heap base pages) lines
+  pub once : AreGivenOnce lines
   pub words : MayAllHold (given_heap base pages lines) lines
 
 -- ---- lines that aren't
@@ -158,6 +180,11 @@ abbrev pub LacksGuard : HeapState → Cell → Lack → Type 0
 LacksGuard s c (Unguarded base top) = IsUnguarded s c base top
 LacksGuard s c lack = ⊥
 
+-- What a register's line lacks: that register 0 is null, or else what its word does.
+abbrev pub LacksRegister : HeapState → ℕ → Cell → Lack → Type 0
+LacksRegister s register c NotNull = ¬ KeepsNull register c
+LacksRegister s register c lack = KeepsNull register c × LacksGuard s c lack
+
 -- What a granule's line lacks: a granule of the heap, or else what its word does.
 abbrev pub LacksGranule : HeapState → ℕ → Cell → Lack → Type 0
 LacksGranule s address c NoGranule = ¬ HasGranule s address
@@ -165,7 +192,7 @@ LacksGranule s address c lack = HasGranule s address × LacksGuard s c lack
 
 -- What the line lacks, so that what it gives may not be held.
 abbrev pub LacksHold : HeapState → Given → Lack → Type 0
-LacksHold s (Register register tag bytes) lack = LacksGuard s (cell_with tag bytes) lack
+LacksHold s (Register register tag bytes) lack = LacksRegister s register (cell_with tag bytes) lack
 LacksHold s (Granule address tag bytes) lack = LacksGranule s address (cell_with tag bytes) lack
 LacksHold s given lack = ⊥
 
@@ -178,6 +205,23 @@ pub record LacksPlaceFirst (s : HeapState) (lines : List (ℕ × Given)) (line :
   pub may : MayAllLie s before
   pub lacks : LacksPlace (all_claimed s before) (block_in given) reason
 
+-- The line gives again what this earlier one gave.
+abbrev pub GivesAgain : Given → ℕ → Lack → Type 0
+GivesAgain (Register register tag bytes) earlier (RegisterAgain number line) = (number ≡ register) × (line ≡ earlier)
+GivesAgain (Granule address tag bytes) earlier (GranuleAgain at line) = (at ≡ address) × (line ≡ earlier)
+GivesAgain given earlier lack = ⊥
+
+-- The first line that gives what one before it gave is this one.
+pub record IsGivenAgain (lines : List (ℕ × Given)) (line : ℕ) (lack : Lack) : Type 0 where
+  pub before : List (ℕ × Given)
+  pub given : Given
+  pub after : List (ℕ × Given)
+  pub parts : lines ≡ before ++ (line, given) ∷ after
+  pub once : AreGivenOnce before
+  pub earlier : ℕ
+  pub was : first_line (give_the_same given) before ≡ Some earlier
+  pub again : GivesAgain given earlier lack
+
 -- The first line that may not be held in the heap is this one, which lacks this.
 pub record LacksHoldFirst (s : HeapState) (lines : List (ℕ × Given)) (line : ℕ) (lack : Lack) : Type 0 where
   pub before : List (ℕ × Given)
@@ -187,11 +231,19 @@ pub record LacksHoldFirst (s : HeapState) (lines : List (ℕ × Given)) (line : 
   pub may : MayAllHold s before
   pub lacks : LacksHold s given lack
 
--- The first flaw of the lines: one of a block, or, where all blocks may lie there, one of a word.
+-- The first flaw of words, each of which is given once.
+abbrev pub IsFlawOfWords : ℕ → ℕ → List (ℕ × Given) → ℕ → Lack → Type 0
+IsFlawOfWords base pages lines line lack = AreGivenOnce lines × LacksHoldFirst (given_heap base pages lines) lines line lack
+
+-- The first flaw of the lines: one of a block, or, where all blocks may lie there, a word that is given again, or one that may
+-- not be held.
 abbrev pub IsFirstFlaw : ℕ → ℕ → List (ℕ × Given) → ℕ → Lack → Type 0
 IsFirstFlaw base pages lines line (Block reason) = LacksPlaceFirst (empty_heap base pages) lines line reason
-IsFirstFlaw base pages lines line lack =
-    MayAllLie (empty_heap base pages) lines × LacksHoldFirst (given_heap base pages lines) lines line lack
+IsFirstFlaw base pages lines line (RegisterAgain register earlier) =
+    MayAllLie (empty_heap base pages) lines × IsGivenAgain lines line (RegisterAgain register earlier)
+IsFirstFlaw base pages lines line (GranuleAgain address earlier) =
+    MayAllLie (empty_heap base pages) lines × IsGivenAgain lines line (GranuleAgain address earlier)
+IsFirstFlaw base pages lines line lack = MayAllLie (empty_heap base pages) lines × IsFlawOfWords base pages lines line lack
 
 -- Why no machine was made.
 abbrev pub IsFault : ℕ → ℕ → List (ℕ × Given) → StartFault → Type 0

@@ -1,16 +1,21 @@
 -- How the parts of a machine are made from given lines.
-use Rattle.std.specs.Prelude.{◌≡◌, ◌-◌, ◌*◌, ◌/◌, ℕ, Bool, true, false, List, [], ◌∷◌, Option, None, Some, length, slice_index_or, slice_set}
+use Rattle.std.specs.Prelude.{◌≡◌, ◌==◌, ◌+◌, ◌-◌, ◌*◌, ◌/◌, ℕ, Bool, true, false, List, [], ◌∷◌, Option, None, Some, length, slice_index_or, slice_set}
+use Rattle.std.specs.BTreeMap.{BTreeMap, Updates, get}
 use Rattle.std.specs.List.{All}
+use Rattle.std.specs.Ordering.{nat_cmp}
 use Rattle.cap_codec.specs.Bytes.{bits_of_bytes}
 use Rattle.tag_memory.specs.Cells.{Cell, MemoryState, is_dirty_at, marks_after}
 use Rattle.heap_core.specs.Blocks.{is_block}
 use Rattle.heap_core.specs.Heap.{HeapState}
 use Rattle.heap_core.specs.declared.block.Kind.{Kind}
 use Rattle.log_text.specs.declared.log.Given.{Given}
-use Rattle.log_text.specs.declared.log.Given.TheVariants.{Granule}
+use Rattle.log_text.specs.declared.log.Given.TheVariants.{Granule, Register}
+use Rattle.log_text.specs.Log.{first_line}
 use Rattle.heap_machine.specs.Making.{LieTogether}
 use Rattle.heap_machine.specs.Safety.{HoldsGuarded, IsGuarded}
-use Rattle.given_state.specs.Given.{block_of_kind, with_released}
+use Rattle.given_state.specs.Given.{IsGivenAgain, block_of_kind, with_released}
+use Rattle.given_state.specs.declared.fault.StartFault.{StartFault}
+use Rattle.given_state.specs.declared.fault.StartFault.TheVariants.{Memory, Unsafe}
 
 -- The block with these bounds is live, if there is one.
 abbrev pub IsLive : HeapState → Option (ℕ × ℕ) → Type 0
@@ -22,6 +27,35 @@ abbrev pub AreLiveInTurn : Kind → HeapState → List (ℕ × Given) → Type 0
 AreLiveInTurn one s [] = Unit {0}
 AreLiveInTurn one s (line ∷ lines) =
     IsLive s (block_of_kind one line.1) × AreLiveInTurn one (with_released s (block_of_kind one line.1)) lines
+
+-- The number of the register or the granule that a line gives: odd for a register, and even for a granule.
+abbrev pub place_number : Given → Option ℕ
+place_number (Register register tag bytes) = Some (2 * register + 1)
+place_number (Granule address tag bytes) = Some (2 * address)
+place_number given = None
+
+-- The line gives what has this number.
+abbrev pub gives_number : ℕ → Given → Bool
+gives_number number given = is_number number (place_number given)
+
+abbrev pub is_number : ℕ → Option ℕ → Bool
+is_number number None = false
+is_number number (Some other) = number == other
+
+-- What was noted for each number is the line that was the first to give it.
+abbrev pub AreNoted : BTreeMap ℕ ℕ → List (ℕ × Given) → Type 0
+AreNoted noted lines = (number : ℕ) → get nat_cmp noted number ≡ first_line (gives_number number) lines
+
+-- The line was noted for this number, if there is one, which had none before; or this one was noted for it already.
+abbrev pub IsNotedAs : BTreeMap ℕ ℕ → BTreeMap ℕ ℕ → ℕ → Option ℕ → Option ℕ → Type 0
+IsNotedAs old new line None found = (found ≡ None) × (new ≡ old)
+IsNotedAs old new line (Some number) None = (get nat_cmp old number ≡ None) × Updates nat_cmp old new number (Some line)
+IsNotedAs old new line (Some number) (Some earlier) = get nat_cmp old number ≡ Some earlier
+
+-- Why lines don't give each word once.
+abbrev pub IsFaultOfWords : List (ℕ × Given) → StartFault → Type 0
+IsFaultOfWords lines Memory = Unit {0}
+IsFaultOfWords lines (Unsafe line lack) = IsGivenAgain lines line lack
 
 -- The memory once the granule at this address, which is in it, is written.
 abbrev pub memory_with : MemoryState → ℕ → Bool → List ℕ → MemoryState

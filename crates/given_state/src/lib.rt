@@ -4,6 +4,7 @@
 mod blocks;
 mod fault;
 mod laws;
+mod once;
 mod starting;
 mod words;
 

@@ -10,6 +10,7 @@ ghost use Rattle.given_state.specs.Giving.{FitHeap};
 
 use crate::blocks::heap_given;
 use crate::fault::StartFault;
+use crate::once::check_once;
 use crate::words::hold_all;
 use heap_core::Heap;
 use heap_machine::Machine;
@@ -64,6 +65,7 @@ fn machine_given(
     ensures flaw { IfErr result (IsFault base pages givens.now) }
 {
     let heap = heap_given(alloc, base, pages, givens)?;
+    check_once(alloc, givens)?;
     let Ok(mut memory) = Memory::new(alloc, base, pages) else {
         return Err(StartFault::Memory);
     };
@@ -75,8 +77,8 @@ fn machine_given(
 }
 
 /// The machine in the state that given lines tell of, of a heap of so many pages of 4,096 bytes from `base` on. Its
-/// sweeps are cut into tasks of `cutting`'s pages, and made by no more than its workers. Else their first flaw: blocks
-/// are judged before words, each in the order of their lines.
+/// sweeps are cut into tasks of `cutting`'s pages, and made by no more than its workers. Else their first flaw: first
+/// blocks are judged, then whether a register or a granule is given again, and then words, each in the order of their lines.
 pub fn start(
     alloc: Global,
     base: u64,

@@ -5,7 +5,7 @@ ghost use Rattle.log_text.specs.Log.{IsListedGiven, IsValidGiven};
 ghost use Rattle.tag_memory.specs.Cells.{register_count, with_register};
 ghost use Rattle.heap_machine.specs.Making.{LieTogether};
 ghost use Rattle.heap_machine.specs.Safety.{IsGuarded};
-ghost use Rattle.given_state.specs.Given.{HasGranule, LacksGranule, LacksGuard, LacksHold, LacksHoldFirst, MayAllHold, MayHold, cell_with, given_cells, given_registers, with_given_register};
+ghost use Rattle.given_state.specs.Given.{HasGranule, KeepsNull, LacksGranule, LacksGuard, LacksRegister, LacksHold, LacksHoldFirst, MayAllHold, MayHold, cell_with, given_cells, given_registers, with_given_register};
 ghost use Rattle.given_state.specs.Giving.{FitHeap, memory_with, with_given_memory};
 
 use crate::fault::Lack;
@@ -48,11 +48,15 @@ fn hold_register(
     bytes: [u8; 16],
 ) -> Result<(), Lack>
     requires { register < register_count }
+    ensures null { OnOk result (KeepsNull register (cell_with tag bytes)) }
     ensures guarded { OnOk result (IsGuarded heap.now (cell_with tag bytes)) }
     ensures set { OnOk result (registers.new ≡ with_register registers.old register (cell_with tag bytes)) }
-    ensures err { IfErr result (LacksGuard heap.now (cell_with tag bytes)) }
+    ensures err { IfErr result (LacksRegister heap.now register (cell_with tag bytes)) }
 {
     let word = from_bytes(bytes);
+    if register == 0 && (tag || word.bits != 0) {
+        return Err(Lack::NotNull);
+    }
     guard(heap, word, tag)?;
     registers.set(register, word, tag);
     Ok(())

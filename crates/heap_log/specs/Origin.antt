@@ -26,11 +26,6 @@ abbrev pub last_line : {A : Type 0} → (A → Bool) → List (ℕ × A) → Opt
 last_line test [] = None
 last_line test (listed ∷ rest) = later (last_line test rest) (if test listed.1 then Some listed.0 else None)
 
--- The line of the first of them that passes it.
-abbrev pub first_line : {A : Type 0} → (A → Bool) → List (ℕ × A) → Option ℕ
-first_line test [] = None
-first_line test (listed ∷ rest) = if test listed.1 then Some listed.0 else first_line test rest
-
 -- The event hands out the block.
 abbrev pub hands_out : BlockBounds → Event → Bool
 hands_out block (Done command (Block base top)) = are_bounds block base top

@@ -5,7 +5,7 @@ ghost use Rattle.std.specs.List.{All};
 ghost use Rattle.log_text.specs.Log.{IsListedEvent, IsValidEvent};
 ghost use Rattle.heap_machine.specs.State.{State};
 ghost use Rattle.heap_log.specs.Judged.{AllFollow};
-ghost use Rattle.heap_log.specs.Origin.{IsLastFree, are_bounds, first_line, frees, gives, hands_out, last_line};
+ghost use Rattle.heap_log.specs.Origin.{IsLastFree, are_bounds, frees, gives, hands_out, last_line};
 
 use crate::judging::follow_event;
 use crate::laws::logs;

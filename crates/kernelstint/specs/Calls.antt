@@ -81,3 +81,25 @@ pub record IsTooLong (IsText : List ℕ → Type 0) (room count : ℕ) : Type 0 
 pub record IsFaulty (text : List ℕ) : Type 0 where
   pub fault : TraceFault
   pub fault_is : trace_of text ≡ Err fault
+
+-- A text is no trace, and this is told of its first fault.
+pub record HasFaultOfText (text : List ℕ) (told : FaultRecord) : Type 0 where
+  pub fault : TraceFault
+  pub fault_is : trace_of text ≡ Err fault
+  pub told_is : told ≡ fault_told fault
+
+-- A text is a trace.
+pub record IsTraceText (text : List ℕ) : Type 0 where
+  pub script : Script
+  pub trace_is : trace_of text ≡ Ok script
+
+-- A line is no command, and this is told of it, as of line 1 of a text.
+pub record HasFaultOfLine (line : List ℕ) (told : FaultRecord) : Type 0 where
+  pub fault : LineFault
+  pub fault_is : IsNoCommand line (Line fault)
+  pub told_is : told ≡ fault_told (fault_at 1 fault)
+
+-- A line is a command.
+pub record IsCommandLine (line : List ℕ) : Type 0 where
+  pub command : Command
+  pub command_is : IsCommandOf line command

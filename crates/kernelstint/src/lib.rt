@@ -9,6 +9,7 @@ ghost use Rattle.kernelstint.specs.Codes.{version};
 mod codes;
 mod crossing;
 mod decoding;
+mod faults;
 mod looks;
 mod machine;
 mod making;
@@ -22,6 +23,7 @@ pub use crate::decoding::{
     kernelstint_bounds_of, kernelstint_corrections_of, kernelstint_exponent_of,
     kernelstint_is_allowed, kernelstint_representable,
 };
+pub use crate::faults::{kernelstint_proved_line_fault, kernelstint_proved_trace_fault};
 pub use crate::looks::{
     kernelstint_proved_counts, kernelstint_proved_granule, kernelstint_proved_register,
 };

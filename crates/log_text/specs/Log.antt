@@ -130,6 +130,11 @@ abbrev pub listed : ℕ → Option Event → List (ℕ × Event)
 listed number None = []
 listed number (Some event) = (number, event) ∷ []
 
+-- the line of the first of them that passes the test
+abbrev pub first_line : {A : Type 0} → (A → Bool) → List (ℕ × A) → Option ℕ
+first_line test [] = None
+first_line test (listed ∷ rest) = if test listed.1 then Some listed.0 else first_line test rest
+
 -- lines after the given lines, numbered from here on
 unfoldable pub events_from : ℕ → List (List ℕ) → Result (List (ℕ × Event)) LogFault
 events_from number [] = Ok []

@@ -126,14 +126,12 @@ fn without_lines_nothing_is_given(rt: HostRuntime) {
 }
 
 #[test]
-fn later_lines_replace_words(rt: HostRuntime) {
+fn given_words_are_held(rt: HostRuntime) {
     let text = "heap 0x40000000 16
 given live 0x40000100 0x40000120
-given register c1 1 00010040000000000481490400003d00
 given register c1 0 ffffffffffffffffffffffffffffffff
-given granule 0x40000100 0 000102030405060708090a0b0c0d0e0f
 given granule 0x40000100 1 10010040000000001481490400003d00
-given register c0 1 00010040000000000481490400003d00
+given register c0 0 00000000000000000000000000000000
 ";
     let machine = started(&rt, rt.alloc(), text).expect(&rt, "the lines are safe");
     let inside = [
@@ -202,10 +200,21 @@ fn words_that_may_not_be_held(rt: HostRuntime) {
             2,
             live,
         ),
+        // Register 0 is null, whatever a block guards.
         (
-            "given register c0 1 00010040000000000481490400003d00\n",
+            "given live 0x40000100 0x40000120\ngiven register c0 1 00010040000000000481490400003d00\n",
+            3,
+            Lack::NotNull,
+        ),
+        (
+            "given register c0 1 00000000000000000000000000000000\n",
             2,
-            live,
+            Lack::NotNull,
+        ),
+        (
+            "given register c0 0 00000000000000000000000000000001\n",
+            2,
+            Lack::NotNull,
         ),
         // The word's bounds end past the block.
         (
@@ -237,12 +246,6 @@ fn words_that_may_not_be_held(rt: HostRuntime) {
                 top: 1 << 64,
             },
         ),
-        // Another word replaces it.
-        (
-            "given register c1 1 00010040000000000481490400003d00\ngiven register c1 0 00000000000000000000000000000000\n",
-            2,
-            live,
-        ),
         (
             "given granule 0x3ffffff0 0 00000000000000000000000000000000\n",
             2,
@@ -257,6 +260,55 @@ fn words_that_may_not_be_held(rt: HostRuntime) {
             "given granule 0x40000008 0 00000000000000000000000000000000\n",
             2,
             Lack::NoGranule,
+        ),
+    ];
+    for (lines, line, lack) in rows {
+        let text = format!(in rt.alloc(); "heap 0x40000000 16\n{lines}");
+        let text = text.expect(&rt, "there is memory");
+        let fault = started(&rt, rt.alloc(), &text).err();
+        assert_eq!(rt; fault, Some(StartFault::Unsafe { line, lack }), "{lines:?}");
+    }
+}
+
+#[test]
+fn words_are_given_once(rt: HostRuntime) {
+    let first = Lack::RegisterAgain {
+        register: 31,
+        line: 2,
+    };
+    let granule = Lack::GranuleAgain {
+        address: 0x4000_0010,
+        line: 3,
+    };
+    let nowhere = Lack::GranuleAgain { address: 1, line: 2 };
+    let rows = [
+        // The same once more, and another word.
+        (
+            "given register c31 0 00000000000000000000000000000000\ngiven register c31 0 00000000000000000000000000000000\n",
+            3,
+            first,
+        ),
+        (
+            "given register c31 1 00010040000000000481490400003d00\n\ngiven register c1 0 00000000000000000000000000000000\ngiven register c31 0 00000000000000000000000000000000\n",
+            5,
+            first,
+        ),
+        // The number of a register is that of no granule.
+        (
+            "given register c16 0 00000000000000000000000000000000\ngiven granule 0x40000010 0 00000000000000000000000000000000\ngiven granule 0x10 0 00000000000000000000000000000000\ngiven granule 0x40000010 1 00010040000000000481490400003d00\n",
+            5,
+            granule,
+        ),
+        // It is told before what a word lacks, and the first line of three is.
+        (
+            "given granule 1 0 00000000000000000000000000000000\ngiven granule 1 0 00000000000000000000000000000000\ngiven granule 1 0 00000000000000000000000000000000\n",
+            3,
+            nowhere,
+        ),
+        (
+            "given register c31 1 00010040000000000481490400003d00\ngiven register c0 1 00000000000000000000000000000000\ngiven register c31 0 00000000000000000000000000000000\ngiven register c31 0 00000000000000000000000000000000\n",
+            4,
+            first,
         ),
     ];
     for (lines, line, lack) in rows {

@@ -89,6 +89,21 @@ begin -> cleared 0
 end -> cleared 0 released 0
 ";
 
+// One of each.
+const ONE: &str = "heap 0x40000000 1
+given waiting 0x40000200 0x40000210
+given register c1 1 00020040000000000482850400003d00
+malloc c2 16 -> block 0x40000100 0x40000110 swept 1
+";
+
+#[test]
+fn what_is_counted_is_told_in_the_singular_where_it_is_one(rt: HostRuntime) {
+    let (status, told) = judged(&rt, rt.alloc(), ONE);
+    let line = "agrees 1 command, 1 block handed out, 1 pass, 1 tag taken\n";
+    assert_eq!(rt; told.as_slice(), line.as_bytes());
+    assert_eq!(rt; status, 0);
+}
+
 #[test]
 fn a_log_agrees(rt: HostRuntime) {
     let line = "agrees 8 commands, 2 blocks handed out, 4 passes, 2 tags taken\n";
@@ -172,11 +187,11 @@ fn each_difference_has_its_text(rt: HostRuntime) {
     let rows = [
         (
             "heap 0x40000000 16\nshow c0 -> ok\n",
-            "differs 2: the answer is tag 0 address 0x0 base 0x0 top 0x10000000000000000 perms 0x0 type 0x3ffff exponent 52\n",
+            "differs 2: the answer must be tag 0 address 0x0 base 0x0 top 0x10000000000000000 perms 0x0 type 0x3ffff exponent 52, and the log says ok\n",
         ),
         (
             "heap 0x40000000 16\nmalloc c1 16 -> ok\n",
-            "differs 2: a malloc is answered by a block or by nospace\n",
+            "differs 2: a malloc is answered by a block or by nospace, and the log says ok\n",
         ),
         (
             "heap 0x40000000 16\nmalloc c1 17 -> block 0x40000100 0x40000110\n",
@@ -204,7 +219,7 @@ fn each_difference_has_its_text(rt: HostRuntime) {
         ),
         (
             "heap 0x40000000 16\ngranule 0x4000fff0 -> 1 00000000000000000000000000000000\n",
-            "differs 2: the granule holds 0 00000000000000000000000000000000\n",
+            "differs 2: the granule holds 0 00000000000000000000000000000000, and the log says 1 00000000000000000000000000000000\n",
         ),
     ];
     for (text, line) in rows {
@@ -222,7 +237,7 @@ fn differences_after_other_events_have_their_text(rt: HostRuntime) {
 malloc c1 16 -> block 0x40000100 0x40000110
 free c1 -> held 32
 ",
-            "differs 3: the answer is held 16\n",
+            "differs 3: the answer must be held 16, and the log says held 32\n",
         ),
         (
             "heap 0x40000000 16
@@ -238,7 +253,7 @@ given live 0x40000200 0x40000210
 given granule 0x40000200 1 00020040000000000482850400003d00
 granule 0x40000200 -> 0 00020040000000000482850400003d00
 ",
-            "differs 4: the granule holds 1 00020040000000000482850400003d00\n",
+            "differs 4: the granule holds 1 00020040000000000482850400003d00, and the log says 0 00020040000000000482850400003d00\n",
         ),
     ];
     for (text, line) in rows {
@@ -267,7 +282,7 @@ fn words_that_are_due_are_told(rt: HostRuntime) {
     let rows = [
         (
             "sweep -> cleared 3 released 16\n",
-            "differs 11: the answer is cleared 4 released 16
+            "differs 11: the answer must be cleared 4 released 16, and the log says cleared 3 released 16
 c2 base 0x40000200
 c31 base 0x40000200
 granule 0x40000100 base 0x40000200
@@ -277,7 +292,7 @@ granule 0x4000fff0 base 0x40000200
         ),
         (
             "malloc c3 16 -> nospace swept 5\n",
-            "differs 11: the sweep takes 4 tags
+            "differs 11: the sweep takes 4 tags, and the log says nospace swept 5
 c2 base 0x40000200
 c31 base 0x40000200
 granule 0x40000100 base 0x40000200
@@ -287,7 +302,7 @@ granule 0x4000fff0 base 0x40000200
         ),
         (
             "begin -> cleared 4\n",
-            "differs 11: the answer is cleared 2
+            "differs 11: the answer must be cleared 2, and the log says cleared 4
 granule 0x40000100 base 0x40000200
 granule 0x4000fff0 base 0x40000200
 2 words due
@@ -295,21 +310,36 @@ granule 0x4000fff0 base 0x40000200
         ),
         (
             "begin -> cleared 2\nend -> cleared 3 released 16\n",
-            "differs 12: the answer is cleared 2 released 16
+            "differs 12: the answer must be cleared 2 released 16, and the log says cleared 3 released 16
 c2 base 0x40000200
 c31 base 0x40000200
 2 words due
 ",
         ),
+        // One word is due, and one tag, in the singular.
+        (
+            "write c1 00000000000000000000000000000000 -> ok\nbegin -> cleared 2\n",
+            "differs 12: the answer must be cleared 1, and the log says cleared 2
+granule 0x4000fff0 base 0x40000200
+1 word due
+",
+        ),
+        (
+            "copy c2 c0 -> ok\ncopy c31 c0 -> ok\nwrite c1 00000000000000000000000000000000 -> ok\nmalloc c3 16 -> nospace swept 0\n",
+            "differs 14: the sweep takes 1 tag, and the log says nospace swept 0
+granule 0x4000fff0 base 0x40000200
+1 word due
+",
+        ),
         // Here the tags are counted well.
         (
             "sweep -> cleared 4 released 32\n",
-            "differs 11: the answer is cleared 4 released 16\n",
+            "differs 11: the answer must be cleared 4 released 16, and the log says cleared 4 released 32\n",
         ),
         // No pass is told of.
         (
             "sweep -> ok\n",
-            "differs 11: the answer is cleared 4 released 16\n",
+            "differs 11: the answer must be cleared 4 released 16, and the log says ok\n",
         ),
     ];
     for (event, lines) in rows {
@@ -354,7 +384,7 @@ fn the_first_100_words_are_told(rt: HostRuntime) {
         let text = with_words(alloc, count).expect(&rt, "there is memory");
         let (status, told) = judged(&rt, alloc, &text);
         let wanted = format!(in alloc;
-            "differs {line}: the answer is cleared {count} released 16\n{lines}{count} words due\n"
+            "differs {line}: the answer must be cleared {count} released 16, and the log says cleared 0 released 16\n{lines}{count} words due\n"
         ).expect(&rt, "there is memory");
         assert_eq!(rt; told.as_slice(), wanted.as_bytes());
         assert_eq!(rt; status, 5);
@@ -394,6 +424,18 @@ given waiting 0x40000110 0x40000120
         (
             "heap 0x40000000 16\n\ngiven register c1 1 00020040000000000482850400003d00\n",
             "unsafe 3: the word's bounds 0x40000200 0x40000210 lie in no block\n",
+        ),
+        (
+            "heap 0x40000000 16\ngiven register c1 0 00020040000000000482850400003d00\ngiven register c1 0 00020040000000000482850400003d00\n",
+            "unsafe 3: register c1 was given at line 2\n",
+        ),
+        (
+            "heap 0x40000000 16\ngiven granule 0x40000000 0 00020040000000000482850400003d00\n\ngiven granule 1073741824 1 00020040000000000482850400003d00\n",
+            "unsafe 4: granule 0x40000000 was given at line 2\n",
+        ),
+        (
+            "heap 0x40000000 16\ngiven register c0 1 00000000000000000000000000000000\n",
+            "unsafe 2: register c0 is always null\n",
         ),
     ];
     for (text, line) in rows {
@@ -507,7 +549,7 @@ storecap c1 c1 -> ok
 free c1 -> held 16
 sweep -> cleared 0 released 16
 ";
-    let lines = "differs 5: the answer is cleared 2 released 16
+    let lines = "differs 5: the answer must be cleared 2 released 16, and the log says cleared 0 released 16
 c1 base 0x40000100
 granule 0x40000100 base 0x40000100
 2 words due

@@ -1,5 +1,6 @@
 use Rattle.std.proofs.Common.{◌≡◌, drop}
-use Rattle.heap_log.specs.Origin.{first_line, gives}
+use Rattle.log_text.specs.Log.{first_line}
+use Rattle.heap_log.specs.Origin.{gives}
 use Rattle.heap_log.proofs.origin.given_line.Given as goal
 
 -- no line before gives the block
