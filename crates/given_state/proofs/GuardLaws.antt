@@ -16,7 +16,7 @@ use Rattle.tag_memory.specs.Cells.{Cell, MemoryState}
 use Rattle.heap_machine.specs.Making.{LieTogether}
 use Rattle.heap_machine.specs.Safety.{IsGuarded, IsLiveOrHeld}
 use Rattle.given_state.specs.declared.fault.Lack.{Lack}
-use Rattle.given_state.specs.declared.fault.Lack.TheVariants.{Block, NoGranule, Unguarded}
+use Rattle.given_state.specs.declared.fault.Lack.TheVariants.{Block, GranuleAgain, NoGranule, NotNull, RegisterAgain, Unguarded}
 use Rattle.given_state.specs.Given.{HasGranule, IsUnguarded, LacksGranule, LacksGuard}
 
 of_kind : (heap : HeapState) (kind : Kind) (block : Span) → Contains (blocks_in heap kind) block → IsLiveOrHeld heap block
@@ -95,4 +95,7 @@ HasGranule-none s m address together none there =
 pub LacksGranule-guard : (s : HeapState) (address : ℕ) (c : Cell) (lack : Lack) → HasGranule s address → LacksGuard s c lack → LacksGranule s address c lack
 LacksGranule-guard s address c NoGranule there lacks = absurd lacks
 LacksGranule-guard s address c (Block reason) there lacks = (there, lacks)
+LacksGranule-guard s address c NotNull there lacks = (there, lacks)
+LacksGranule-guard s address c (RegisterAgain number line) there lacks = (there, lacks)
+LacksGranule-guard s address c (GranuleAgain at line) there lacks = (there, lacks)
 LacksGranule-guard s address c (Unguarded base top) there lacks = (there, lacks)

@@ -1,15 +1,18 @@
 -- Lines that give each register and each granule once, and one more.
-use Rattle.std.proofs.Common.{◌≡◌, ◌∙◌, ◌<◌, ◌+◌, ◌*◌, ◌==◌, ◌&&◌, ℕ, Bool, true, false, List, [], ◌∷◌, ◌++◌, Option, None, Some, inl, inr, if◌then◌else◌, ap, arith, cond, get_or, length, refl, subst, sym, take}
+use Rattle.std.proofs.Common.{◌≡◌, ◌∙◌, ◌<◌, suc, drop, ◌+◌, ◌*◌, ◌==◌, ◌&&◌, ℕ, Bool, true, false, List, [], ◌∷◌, ◌++◌, Option, None, Some, inl, inr, if◌then◌else◌, ap, arith, cond, get_or, length, refl, subst, sym, take}
 use Rattle.std.proofs.lemmas.Bool.{cases_eq}
 use Rattle.std.proofs.lemmas.Bool.Decides.{nat_tests}
 use Rattle.std.proofs.lemmas.List.{append-nil, append_assoc, take_more}
 use Rattle.std.proofs.Math.Seq.{split_at}
 use Rattle.std.specs.BTreeMap.{BTreeMap, Updates, get, is_at}
+use Rattle.std.specs.Map.{lookup}
 use Rattle.std.specs.Ordering.{nat_cmp}
+use Rattle.std.specs.Prelude.{MatchOption}
 use Rattle.log_text.specs.Log.{first_line}
 use Rattle.log_text.specs.declared.log.Given.{Given}
 use Rattle.log_text.specs.declared.log.Given.TheVariants.{Epoch, Granule, Live, Painted, Register, Waiting}
-use Rattle.given_state.specs.Given.{AreGivenOnce, AreNewAfter, give_the_same}
+use Rattle.given_state.specs.declared.fault.Lack.{Lack}
+use Rattle.given_state.specs.Given.{AreGivenOnce, AreNewAfter, GivesAgain, IsGivenAgain, give_the_same}
 use Rattle.given_state.specs.Giving.{AreNoted, IsNotedAs, gives_number, is_number, place_number}
 
 -- ---- first lines
@@ -94,13 +97,13 @@ AreNewAfter-push before [] line new none = (subst (λ (xs : List (ℕ × Given))
 AreNewAfter-push before (first ∷ lines) line new none = (
   new.0,
   AreNewAfter-push (before ++ first ∷ []) lines line new.1
-  (subst (λ (xs : List (ℕ × Given)). first_line (give_the_same line.1) xs ≡ None) (sym (append_assoc before (first ∷ []) lines)) none),
+      (subst (λ (xs : List (ℕ × Given)). first_line (give_the_same line.1) xs ≡ None) (sym (append_assoc before (first ∷ []) lines)) none),
 )
 
 -- Lines that give each once, and what was noted of them.
-pub record AreOnceNoted (noted : BTreeMap ℕ ℕ) (lines : List (ℕ × Given)) : Type 0 where
+pub record AreOnceNoted (map : BTreeMap ℕ ℕ) (lines : List (ℕ × Given)) : Type 0 where
   pub once : AreGivenOnce lines
-  pub noted : AreNoted noted lines
+  pub noted : AreNoted map lines
 
 -- None gives what a line gives that is noted now.
 none_gives : (old new : BTreeMap ℕ ℕ) (lines : List (ℕ × Given)) (line : ℕ) (o : Option ℕ) → AreNoted old lines → IsNotedAs old new line o None
@@ -136,8 +139,54 @@ push_noted old new lines line o at known is = record {
       ∙ sym (first_line-push (gives_number q) lines line);
 }
 
-pub AreOnceNoted-more : (old new : BTreeMap ℕ ℕ) (lines : List (ℕ × Given)) (i : ℕ) (none : ℕ × Given) → i < length lines → AreOnceNoted old (take i lines)
-    → IsNotedAs old new (get_or lines i none).0 (place_number (get_or lines i none).1) None → AreOnceNoted new (take (i + 1) lines)
-AreOnceNoted-more old new lines i none here known is =
+pub AreOnceNoted-more : (old new : BTreeMap ℕ ℕ) (lines : List (ℕ × Given)) (i : ℕ) (none : ℕ × Given) (found : Option ℕ) → i < length lines → AreOnceNoted old (take i lines)
+    → found ≡ None → IsNotedAs old new (get_or lines i none).0 (place_number (get_or lines i none).1) found → AreOnceNoted new (take (i + 1) lines)
+AreOnceNoted-more old new lines i none found here known is noted =
+    let line = get_or lines i none in
     subst (AreOnceNoted new) (sym (take_more lines i none here))
-    (push_noted old new (take i lines) (get_or lines i none) (place_number (get_or lines i none).1) refl known is)
+    (push_noted old new (take i lines) line (place_number line.1) refl known (subst (IsNotedAs old new line.0 (place_number line.1)) is noted))
+
+-- What was noted is the line that was the first to give the same.
+found_gives : (old new : BTreeMap ℕ ℕ) (lines : List (ℕ × Given)) (line : ℕ) (o : Option ℕ) (found : ℕ) → AreNoted old lines → IsNotedAs old new line o (Some found)
+    → first_line (gives_this o) lines ≡ Some found
+found_gives old new lines line None found noted is = absurd (none≢some (sym is.0)) where
+  none≢some : None ≡ Some found → ⊥
+  none≢some same = cc
+found_gives old new lines line (Some number) found noted is = sym (noted number) ∙ is
+
+pub IsGivenAgain-at : (old new : BTreeMap ℕ ℕ) (lines : List (ℕ × Given)) (i : ℕ) (none : ℕ × Given) (found : Option ℕ) (earlier : ℕ) (lack : Lack) → i < length lines
+    → AreOnceNoted old (take i lines) → found ≡ Some earlier → IsNotedAs old new (get_or lines i none).0 (place_number (get_or lines i none).1) found
+    → GivesAgain (get_or lines i none).1 earlier lack → IsGivenAgain lines (get_or lines i none).0 lack
+IsGivenAgain-at old new lines i none found earlier lack here known is noted again =
+    let line = get_or lines i none in
+    let before : IsNotedAs old new line.0 (place_number line.1) (Some earlier) = subst (IsNotedAs old new line.0 (place_number line.1)) is noted in
+    record {
+      before = take i lines;
+      given = line.1;
+      after = drop (suc i) lines;
+      parts = split_at lines i none here;
+      once = known.once;
+      earlier = earlier;
+      was = first_same line.1 (place_number line.1) (take i lines) refl ∙ found_gives old new (take i lines) line.0 (place_number line.1) earlier known.noted before;
+      again = again;
+    }
+
+-- A line that gives no word gives none again.
+gives_none : (old new : BTreeMap ℕ ℕ) (line : ℕ) (o : Option ℕ) (earlier : ℕ) → o ≡ None → IsNotedAs old new line o (Some earlier) → ⊥
+gives_none old new line None earlier is noted = none≢some (sym noted.0) where
+  none≢some : None ≡ Some earlier → ⊥
+  none≢some same = cc
+gives_none old new line (Some number) earlier is noted = some≢none is where
+  some≢none : Some number ≡ None → ⊥
+  some≢none same = cc
+
+-- So what is found lacks something.
+pub lacks_some : (old new : BTreeMap ℕ ℕ) (line : ℕ × Given) (found : Option ℕ) (earlier : ℕ) (lack : Option Lack) → found ≡ Some earlier
+    → IsNotedAs old new line.0 (place_number line.1) found → lack ≡ None → MatchOption lack (place_number line.1 ≡ None) (GivesAgain line.1 earlier) → ⊥
+lacks_some old new line found earlier lack is noted none again =
+    gives_none old new line.0 (place_number line.1) earlier
+    (subst (λ (l : Option Lack). MatchOption l (place_number line.1 ≡ None) (GivesAgain line.1 earlier)) none again)
+    (subst (IsNotedAs old new line.0 (place_number line.1)) is noted)
+
+pub AreOnceNoted-empty : (map : BTreeMap ℕ ℕ) → map.entries ≡ [] → AreOnceNoted map []
+AreOnceNoted-empty map empty = record { once = tt; noted = λ q. ap (λ (entries : List (ℕ × ℕ)). lookup (is_at (nat_cmp q)) entries) empty }

@@ -34,13 +34,13 @@ place_number (Register register tag bytes) = Some (2 * register + 1)
 place_number (Granule address tag bytes) = Some (2 * address)
 place_number given = None
 
--- The line gives what has this number.
-abbrev pub gives_number : ℕ → Given → Bool
-gives_number number given = is_number number (place_number given)
-
 abbrev pub is_number : ℕ → Option ℕ → Bool
 is_number number None = false
 is_number number (Some other) = number == other
+
+-- The line gives what has this number.
+abbrev pub gives_number : ℕ → Given → Bool
+gives_number number given = is_number number (place_number given)
 
 -- What was noted for each number is the line that was the first to give it.
 abbrev pub AreNoted : BTreeMap ℕ ℕ → List (ℕ × Given) → Type 0

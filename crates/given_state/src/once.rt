@@ -38,11 +38,7 @@ fn lack_again(given: Given, earlier: u32) -> Option<Lack>
 }
 
 // Notes the line for what it gives, or answers the line that was noted for that already.
-fn note(
-    noted: &mut BTreeMap<u128, u32>,
-    line: u32,
-    given: Given,
-) -> Result<Option<u32>, AllocError>
+fn note(noted: &mut BTreeMap<u128, u32>, line: u32, given: Given) -> Result<Option<u32>, AllocError>
     ensures { IfOk result (IsNotedAs noted.old noted.new line (place_number given)) }
 {
     let Some(number) = number_of(given) else {

@@ -2,7 +2,7 @@
 
 ghost use Rattle.std.specs.Prelude.{◌≡◌, IfErr, IfOk, Some, if◌then◌else◌};
 ghost use Rattle.std.specs.List.{All};
-ghost use Rattle.log_text.specs.Log.{IsListedEvent, IsValidEvent};
+ghost use Rattle.log_text.specs.Log.{IsListedEvent, IsValidEvent, first_line};
 ghost use Rattle.heap_machine.specs.State.{State};
 ghost use Rattle.heap_log.specs.Judged.{AllFollow};
 ghost use Rattle.heap_log.specs.Origin.{IsLastFree, are_bounds, frees, gives, hands_out, last_line};
