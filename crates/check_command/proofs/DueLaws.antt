@@ -6,11 +6,12 @@ use Rattle.std.specs.Prelude.{codes, flat_map}
 use Rattle.std.proofs.Math.Nat.{min_comm}
 use Rattle.std.proofs.lemmas.List.{append_assoc, take_min}
 use Rattle.heap_log.specs.declared.due.DueWord.{DueWord}
-use Rattle.check_command.specs.Text.{due_line, due_text, plural_text}
+use Rattle.check_command.specs.Text.{counted_text, due_line, due_text}
+use Rattle.check_command.specs.declared.lines.Noun.TheVariants as noun
 
 -- How many words are due.
 abbrev pub count_line : List DueWord → List ℕ
-count_line words = concat (decimal (length words) ∷ codes " word" ∷ plural_text (length words) ∷ codes " due\n" ∷ [])
+count_line words = concat (counted_text (length words) noun.Word ∷ codes " due\n" ∷ [])
 
 pub due_text-whole : (before mid new : List ℕ) (words : List DueWord) (told : ℕ) → told ≡ min (length words) 100
     → mid ≡ before ++ flat_map due_line (take told words) → new ≡ mid ++ count_line words → new ≡ before ++ due_text words

@@ -22,6 +22,8 @@ use Rattle.heap_log.specs.declared.due.DueWord.TheVariants as word
 use Rattle.heap_log.specs.declared.verdict.Difference.{Difference}
 use Rattle.heap_log.specs.declared.verdict.Difference.TheVariants.{Answer, Granule, NoGranule}
 use Rattle.heap_log.specs.declared.verdict.Tally.{Tally}
+use Rattle.check_command.specs.declared.lines.Noun.{Noun}
+use Rattle.check_command.specs.declared.lines.Noun.TheVariants as noun
 use Rattle.check_command.specs.declared.lines.Origin.{Origin}
 use Rattle.check_command.specs.declared.lines.Origin.TheVariants as origin
 
@@ -33,20 +35,29 @@ usage_line = codes "usage: heap_check [--workers N] [--cut N]\n"
 abbrev pub line_of_fault : LogFault → List ℕ
 line_of_fault fault = concat (codes "fault " ∷ log_fault_text fault ∷ codes "\n" ∷ [])
 
--- The end of a noun of which there are so many.
-abbrev pub plural_text : ℕ → List ℕ
-plural_text count = if count == 1 then [] else codes "s"
+-- What is counted: one of it, and more.
+abbrev pub noun_text : Noun → List ℕ
+noun_text noun.Command = codes "command"
+noun_text noun.Block = codes "block"
+noun_text noun.Pass = codes "pass"
+noun_text noun.Tag = codes "tag"
+noun_text noun.Word = codes "word"
 
-abbrev pub passes_text : ℕ → List ℕ
-passes_text count = if count == 1 then codes "1 pass" else (decimal count ++ codes " passes")
+abbrev pub plural_text : Noun → List ℕ
+plural_text noun.Pass = codes "passes"
+plural_text noun = noun_text noun ++ codes "s"
+
+-- So many of it.
+abbrev pub counted_text : ℕ → Noun → List ℕ
+counted_text count noun =
+    if count == 1 then (codes "1 " ++ noun_text noun) else joined (decimal count ∷ codes " " ∷ plural_text noun ∷ [])
 
 -- What is written of a log that agrees.
 abbrev pub agrees_line : Tally → List ℕ
 agrees_line tally =
     concat (
-    codes "agrees " ∷ decimal tally.commands ∷ codes " command" ∷ plural_text tally.commands ∷ codes ", " ∷ decimal tally.blocks ∷ codes " block"
-    ∷ plural_text tally.blocks ∷ codes " handed out, " ∷ passes_text tally.passes ∷ codes ", " ∷ decimal tally.tags ∷ codes " tag" ∷ plural_text tally.tags
-    ∷ codes " taken\n" ∷ []
+    codes "agrees " ∷ counted_text tally.commands noun.Command ∷ codes ", " ∷ counted_text tally.blocks noun.Block ∷ codes " handed out, "
+    ∷ counted_text tally.passes noun.Pass ∷ codes ", " ∷ counted_text tally.tags noun.Tag ∷ codes " taken\n" ∷ []
     )
 
 -- Where a block that is in the way came from.
@@ -78,32 +89,32 @@ told_text event = []
 
 -- A tag and 16 bytes.
 abbrev pub content_text : Bool → List ℕ → List ℕ
-content_text tag bytes = concat (bit_text tag ∷ codes " " ∷ encode_lower bytes ∷ [])
+content_text tag bytes = joined (bit_text tag ∷ codes " " ∷ encode_lower bytes ∷ [])
 
 -- What the log says: an answer, or what was seen.
 abbrev pub said_text : Event → List ℕ
 said_text (Done command answer) = answer_text answer
 said_text (Seen address tag bytes) = content_text tag bytes
 
--- What must be said in place of it.
-abbrev pub but_said : List ℕ → Event → List ℕ
-but_said must event = concat (must ∷ codes ", and the log says " ∷ said_text event ∷ [])
+-- It stands behind what must be.
+abbrev pub and_said : Event → List (List ℕ)
+and_said event = codes ", and the log says " ∷ said_text event ∷ []
 
 -- Why the answer of an event isn't allowed, where an epoch is open or none is.
 abbrev pub why_text : Event → Bool → Origin → Why → List ℕ
-why_text event is_open from (why.MustBe reply) = but_said (codes "the answer must be " ++ answer_text reply) event
-why_text event is_open from why.NotOfMalloc = but_said (codes "a malloc is answered by a block or by nospace") event
+why_text event is_open from (why.MustBe reply) = joined (codes "the answer must be " ∷ answer_text reply ∷ and_said event)
+why_text event is_open from why.NotOfMalloc = joined (codes "a malloc is answered by a block or by nospace" ∷ and_said event)
 why_text event is_open from why.TooShort = told_text event ++ codes " is shorter than the size asked for"
 why_text event is_open from why.MayNotSweep =
     if is_open then codes "no sweep may be told: an epoch is open" else codes "no sweep may be told: no block waits"
-why_text event is_open from (why.Takes count) = but_said (concat (codes "the sweep takes " ∷ decimal count ∷ codes " tag" ∷ plural_text count ∷ [])) event
+why_text event is_open from (why.Takes count) = joined (codes "the sweep takes " ∷ counted_text count noun.Tag ∷ and_said event)
 why_text event is_open from (why.Refused reason) = told_text event ++ refused_text reason from
 
 -- How a log differs.
 abbrev pub difference_text : Event → Bool → Origin → Difference → List ℕ
 difference_text event is_open from (Answer reason) = why_text event is_open from reason
 difference_text event is_open from NoGranule = codes "no granule of the heap lies at this address"
-difference_text event is_open from (Granule tag bytes) = but_said (codes "the granule holds " ++ content_text tag bytes) event
+difference_text event is_open from (Granule tag bytes) = joined (codes "the granule holds " ∷ content_text tag bytes ∷ and_said event)
 
 abbrev pub differs_line : ℕ → Event → Bool → Origin → Difference → List ℕ
 differs_line line event is_open from difference =
@@ -116,7 +127,7 @@ due_line (word.Granule address base) = concat (codes "granule " ∷ hexadecimal_
 
 -- The first 100 of them, and how many they are.
 abbrev pub due_text : List DueWord → List ℕ
-due_text words = flat_map due_line (take 100 words) ++ concat (decimal (length words) ∷ codes " word" ∷ plural_text (length words) ∷ codes " due\n" ∷ [])
+due_text words = flat_map due_line (take 100 words) ++ concat (counted_text (length words) noun.Word ∷ codes " due\n" ∷ [])
 
 -- What a given line lacks.
 abbrev pub lack_text : Origin → Lack → List ℕ

@@ -4,7 +4,7 @@ ghost use Rattle.std.specs.Prelude.{◌≡◌, ◌++◌, IfOk, flat_map, string_
 ghost use Rattle.check_command.specs.Answer.{due_shown, miscounts, unless_equal};
 ghost use Rattle.check_command.specs.Text.{due_line, due_text};
 
-use crate::lines::{Differing, Plural};
+use crate::lines::{Counted, Differing, Noun};
 use heap_log::{Difference, DueWord, due_words};
 use heap_machine::{Machine, Why};
 use heap_reply::Reply;
@@ -42,9 +42,11 @@ fn push_due(alloc: Global, text: &mut Vec<u8>, words: &[DueWord]) -> Result<(), 
 {
     let told = words.len().min(MOST_TOLD);
     push_lines(alloc, text, &words[..told])?;
-    let count = words.len();
-    let ending = Plural(count as u64);
-    let last = format!(in alloc; "{count} word{ending} due\n")?;
+    let count = Counted {
+        count: words.len() as u64,
+        noun: Noun::Word,
+    };
+    let last = format!(in alloc; "{count} due\n")?;
     text.extend_from_slice(last.as_bytes())?;
     Ok(())
 }

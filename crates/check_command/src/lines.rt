@@ -2,7 +2,7 @@
 
 ghost use Rattle.std.specs.Prelude.{◌≡◌, IfOk, Some, string_bytes};
 ghost use Rattle.heap_reply.specs.Answer.{answer_text};
-ghost use Rattle.check_command.specs.Text.{agrees_line, content_text, differs_line, difference_text, lack_text, line_of_fault, origin_text, passes_text, plural_text, refused_text, said_text, told_text, unsafe_line, way_text, why_text};
+ghost use Rattle.check_command.specs.Text.{agrees_line, content_text, counted_text, differs_line, difference_text, lack_text, line_of_fault, noun_text, origin_text, plural_text, refused_text, said_text, told_text, unsafe_line, way_text, why_text};
 
 use given_state::Lack;
 use heap_core::{Block, Claim};
@@ -14,34 +14,75 @@ use reply_text::{ShortText, put_reply};
 use std::alloc::{AllocError, Global};
 use std::fmt;
 
-/// The end of a noun of which there are so many: `s`, but for one.
+/// What is counted.
+#[derive(Clone, Copy, Debug, PartialEq, Eq)]
+pub enum Noun {
+    Command,
+    Block,
+    Pass,
+    Tag,
+    Word,
+}
+
+impl fmt::Display for Noun {
+    ghost output = { λ noun. Some (noun_text noun) };
+
+    fn fmt<W: fmt::Write>(&self, f: &mut fmt::Formatter<W>) -> fmt::Result {
+        match self {
+            Noun::Command => write!(f, "command"),
+            Noun::Block => write!(f, "block"),
+            Noun::Pass => write!(f, "pass"),
+            Noun::Tag => write!(f, "tag"),
+            Noun::Word => write!(f, "word"),
+        }
+    }
+}
+
+/// More than one of it, or none.
 #[derive(Clone, Copy)]
-pub struct Plural(pub u64);
+struct Plural(Noun);
 
 impl fmt::Display for Plural {
     ghost output = { λ plural. Some (plural_text plural.0) };
 
     fn fmt<W: fmt::Write>(&self, f: &mut fmt::Formatter<W>) -> fmt::Result {
-        if self.0 == 1 {
-            return Ok(());
+        match self.0 {
+            Noun::Command => write!(f, "commands"),
+            Noun::Block => write!(f, "blocks"),
+            Noun::Pass => write!(f, "passes"),
+            Noun::Tag => write!(f, "tags"),
+            Noun::Word => write!(f, "words"),
         }
-        write!(f, "s")
     }
 }
 
-/// So many passes.
+/// So many of it.
 #[derive(Clone, Copy)]
-struct Passes(u64);
+pub struct Counted {
+    pub count: u64,
+    pub noun: Noun,
+}
 
-impl fmt::Display for Passes {
-    ghost output = { λ passes. Some (passes_text passes.0) };
+impl fmt::Display for Counted {
+    ghost output = { λ counted. Some (counted_text counted.count counted.noun) };
 
     fn fmt<W: fmt::Write>(&self, f: &mut fmt::Formatter<W>) -> fmt::Result {
-        let count = self.0;
+        let count = self.count;
+        let noun = self.noun;
         if count == 1 {
-            return write!(f, "1 pass");
+            return write!(f, "1 {noun}");
         }
-        write!(f, "{count} passes")
+        let plural = Plural(noun);
+        write!(f, "{count} {plural}")
+    }
+}
+
+fn so_many(count: u32, noun: Noun) -> Counted
+    ensures { result ≡ record { count = count; noun = noun } }
+{
+    Counted {
+        count: u64::from(count),
+        noun,
     }
 }
 
@@ -231,8 +272,8 @@ impl fmt::Display for WhyText {
             }
             Why::MayNotSweep => write!(f, "no sweep may be told: no block waits"),
             Why::Takes(count) => {
-                let ending = Plural(u64::from(count));
-                write!(f, "the sweep takes {count} tag{ending}, and the log says {said}")
+                let tags = so_many(count, Noun::Tag);
+                write!(f, "the sweep takes {tags}, and the log says {said}")
             }
             Why::Refused(reason) => {
                 let from = self.from;
@@ -308,16 +349,14 @@ impl fmt::Display for LackText {
 pub fn agrees_text(alloc: Global, tally: Tally) -> Result<String, AllocError>
     ensures { IfOk result (λ text. string_bytes text ≡ agrees_line tally) }
 {
-    let commands = tally.commands;
-    let of_commands = Plural(u64::from(commands));
-    let blocks = tally.blocks;
-    let of_blocks = Plural(u64::from(blocks));
-    let passes = Passes(u64::from(tally.passes));
-    let tags = tally.tags;
-    let of_tags = Plural(tags);
-    format!(in alloc;
-        "agrees {commands} command{of_commands}, {blocks} block{of_blocks} handed out, {passes}, {tags} tag{of_tags} taken\n"
-    )
+    let commands = so_many(tally.commands, Noun::Command);
+    let blocks = so_many(tally.blocks, Noun::Block);
+    let passes = so_many(tally.passes, Noun::Pass);
+    let tags = Counted {
+        count: tally.tags,
+        noun: Noun::Tag,
+    };
+    format!(in alloc; "agrees {commands}, {blocks} handed out, {passes}, {tags} taken\n")
 }
 
 /// The line of an event that differs.
