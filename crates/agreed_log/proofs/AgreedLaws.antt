@@ -17,9 +17,9 @@ use Rattle.log_text.specs.declared.log.Event.TheVariants.{Done, Seen}
 use Rattle.log_text.specs.Answer.{FitsReply, IsAnswer, answer_of}
 use Rattle.log_text.specs.declared.log.Given.{Given}
 use Rattle.log_text.specs.declared.text.Start.{Start}
-use Rattle.log_text.specs.Asking.{Asks, IsStart, with_events}
+use Rattle.log_text.specs.Asking.{Asks, IsStart}
 use Rattle.given_state.specs.Given.{AreSafe, given_state}
-use Rattle.log_text.specs.Log.{Record, event_at, events_from, listed, told_of}
+use Rattle.log_text.specs.Log.{Record, event_at, events_from, listed, log_of, told_of}
 use Rattle.heap_machine.specs.Follow.{Follows}
 use Rattle.heap_machine.specs.State.{State}
 use Rattle.heap_log.specs.declared.verdict.Tally.{Tally}
@@ -163,6 +163,12 @@ pub HaveAgreed-all : (first : ℕ) (lines : List (List ℕ)) (next : ℕ) (old n
 unfolding events_from
 HaveAgreed-all first lines next old new tally so_far = so_far.reads ∙ ap Ok (append-nil so_far.events)
 
+-- The log of a text that starts so, whose events are read.
+log_of-start : (text : List ℕ) (start : Start) (events : List (ℕ × Event)) → IsStart text start → events_from start.next (lines_of start.rest.now) ≡ Ok events
+    → log_of text ≡ Ok (record { base = start.base; pages = start.pages; givens = start.givens.items; events = events })
+unfolding log_of
+log_of-start text start events is read = rw (is.reads, read) refl
+
 -- A text whose given lines are these, and whose other lines have events that follow.
 pub IsAgreed-start : (text : List ℕ) (start : Start) (givens : List (ℕ × Given)) (first last : State) (tally : Tally) → IsStart text start → givens ≡ start.givens.items
     → first ≡ given_state start.base start.pages givens → AreSafe start.base start.pages givens
@@ -173,7 +179,7 @@ IsAgreed-start text start givens first last tally is same told safe all =
     let state : first ≡ given_state log.base log.pages log.givens = told ∙ ap (given_state start.base start.pages) same in
     record {
       log = log;
-      reads = is.reads ∙ ap (with_events start) (HaveAgreed-all start.next (lines_of start.rest.now) all.0 first last tally all.1);
+      reads = log_of-start text start events is (HaveAgreed-all start.next (lines_of start.rest.now) all.0 first last tally all.1);
       safe = subst (AreSafe start.base start.pages) same safe;
       last = last;
       follow = subst (λ (s : State). AllFollow s events last) state all.1.follow;

@@ -1,5 +1,5 @@
 -- Steps whose commands are lines of a trace, and whose replies are told as text.
-use Rattle.std.specs.Prelude.{◌≡◌, ◌≢◌, ◌<◌, ◌++◌, ℕ, List, Ok, Err, drop, false, length, true}
+use Rattle.std.specs.Prelude.{◌≡◌, ◌≢◌, ◌<◌, ◌≤◌, ◌++◌, ℕ, List, Ok, Err, drop, false, length, true}
 use Rattle.heap_reply.specs.Answer.{answer_text}
 use Rattle.heap_reply.specs.declared.reply.Reply.{Reply}
 use Rattle.trace_text.specs.Lines.{is_passed_over, words_of}
@@ -29,10 +29,14 @@ pub record IsLineStep (old line new before after : List ℕ) (count : ℕ) : Typ
   pub count_is : count ≡ length (answer_text reply)
   pub text : after ≡ answer_text reply ++ drop (length (answer_text reply)) before
 
--- Why there was none.
+-- The line is some command.
+abbrev pub HasCommand : List ℕ → Type 0
+HasCommand line = (command : Command) × IsCommandOf line command
+
+-- Why there was none: the first of these that is true.
 abbrev pub IsNoLineStep : List ℕ → List ℕ → ℕ → ℕ → CallFault → Type 0
 IsNoLineStep old line room text_room TextRoom = text_room < 200
-IsNoLineStep old line room text_room PassedOver = IsNoCommand line PassedOver
-IsNoLineStep old line room text_room (Line fault) = IsNoCommand line (Line fault)
-IsNoLineStep old line room text_room Room = room ≢ length old
-IsNoLineStep old line room text_room other = IsUnreadable old other
+IsNoLineStep old line room text_room PassedOver = (200 ≤ text_room) × IsNoCommand line PassedOver
+IsNoLineStep old line room text_room (Line fault) = (200 ≤ text_room) × IsNoCommand line (Line fault)
+IsNoLineStep old line room text_room Room = (200 ≤ text_room) × HasCommand line × (room ≢ length old)
+IsNoLineStep old line room text_room other = (200 ≤ text_room) × HasCommand line × (room ≡ length old) × IsUnreadable old other

@@ -1,5 +1,5 @@
 -- Events that follow: one more, cut in two, and what they leave.
-use Rattle.std.proofs.Common.{arith, ◌≡◌, ◌<◌, ◌+◌, ◌∙◌, ℕ, suc, List, [], ◌∷◌, ◌++◌, Option, None, Some, drop, get_or, length, take, refl, sym, subst}
+use Rattle.std.proofs.Common.{arith, ◌≡◌, ◌<◌, ◌+◌, ◌∙◌, ℕ, suc, false, List, [], ◌∷◌, ◌++◌, Option, None, Some, drop, get_or, length, take, refl, sym, subst}
 use Rattle.std.specs.Prelude.{All}
 use Rattle.std.proofs.Math.Seq.{split_at}
 use Rattle.std.proofs.lemmas.List.{length-take-le, take_more}
@@ -12,7 +12,7 @@ use Rattle.heap_machine.specs.Follow.{Follows}
 use Rattle.heap_machine.specs.Safety.{FitsTypes, IsSafe, IsUnused}
 use Rattle.heap_machine.specs.State.{State}
 use Rattle.heap_log.specs.declared.verdict.Difference.{Difference}
-use Rattle.heap_log.specs.Judged.{AllFollow, DiffersAt, EventFollows, FitsEvent, FitsListed, HandOutUnused, IsFound, IsRefusedEvent, SaysInstead}
+use Rattle.heap_log.specs.Judged.{AllFollow, DiffersAt, EventFollows, FitsEvent, FitsListed, HandOutUnused, HasBegun, IsFound, IsRefusedEvent, SaysInstead}
 
 pub AllFollow-push : (old : State) (events : List (ℕ × Event)) (mid : State) (event : ℕ × Event) (new : State)
     → AllFollow old events mid → EventFollows mid event.1 new → AllFollow old (events ++ event ∷ []) new
@@ -45,6 +45,19 @@ DiffersAt-found old events i none mid new found difference here all same judged 
       follow = subst (λ (s : State). AllFollow old (take i events) s) still all;
       refused = subst (λ (s : State). IsRefusedEvent s event) still differs.0;
       instead = subst (λ (s : State). SaysInstead s event difference) still differs.1;
+    }
+
+-- the events up to one that changed nothing
+pub HasBegun-still : (old : State) (events : List (ℕ × Event)) (i : ℕ) (mid new : State)
+    → i < length events → AllFollow old (take i events) mid → new ≡ mid → HasBegun old events new
+HasBegun-still old events i mid new here all still =
+    let none : ℕ × Event = (0, Seen 0 false []) in
+    record {
+      before = take i events;
+      event = get_or events i none;
+      after = drop (suc i) events;
+      parts = split_at events i none here;
+      follow = subst (λ (s : State). AllFollow old (take i events) s) (sym still) all;
     }
 
 pub AllFollow-cut : (old : State) (before after : List (ℕ × Event)) (new : State)

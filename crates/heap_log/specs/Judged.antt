@@ -87,6 +87,14 @@ pub record DiffersAt (old : State) (events : List (ℕ × Event)) (line count : 
   pub refused : IsRefusedEvent new event
   pub instead : SaysInstead new event difference
 
+-- The events before one of them follow, and leave the state new.
+pub record HasBegun (old : State) (events : List (ℕ × Event)) (new : State) : Type 0 where
+  pub before : List (ℕ × Event)
+  pub event : ℕ × Event
+  pub after : List (ℕ × Event)
+  pub parts : events ≡ before ++ event ∷ after
+  pub follow : AllFollow old before new
+
 -- ---- what events come to
 
 -- How many blocks an answer hands out.

@@ -1,10 +1,10 @@
 //! Events of a log, judged one after another.
 
-ghost use Rattle.std.specs.Prelude.{◌≡◌, ◌<◌, ◌^◌, IfErr, IfOk, length};
+ghost use Rattle.std.specs.Prelude.{◌≡◌, ◌<◌, ◌^◌, IfErr, IfOk, OnErr, length};
 ghost use Rattle.std.specs.List.{All};
 ghost use Rattle.log_text.specs.Log.{IsListedEvent, IsValidEvent};
 ghost use Rattle.heap_machine.specs.Safety.{FitsTypes, IsSafe};
-ghost use Rattle.heap_log.specs.Judged.{AgreesUnused, FitsEvent, IsFound, IsVerdict};
+ghost use Rattle.heap_log.specs.Judged.{AgreesUnused, FitsEvent, HasBegun, IsFound, IsVerdict};
 
 use crate::laws::logs;
 use crate::seeing::see;
@@ -43,6 +43,7 @@ pub fn follow_event<R: Threads + Sync>(
     requires valid { IsValidEvent event }
     ensures found { IfOk result (λ found. IsFound machine.old.state event found machine.new.state) }
     ensures memory { IfErr result (λ fault. fault ≡ MachineFault.Memory) }
+    ensures still { OnErr result (machine.new ≡ machine.old) }
     ensures safe { IsSafe machine.old.state → IsSafe machine.new.state }
 {
     match event {
@@ -72,6 +73,7 @@ pub fn judge<R: Threads + Sync>(
     requires count { length events.now < 2 ^ 32 }
     ensures verdict { IfOk result (λ verdict. IsVerdict machine.old.state events.now verdict machine.new.state) }
     ensures memory { IfErr result (λ fault. fault ≡ MachineFault.Memory) }
+    ensures begun { OnErr result (HasBegun machine.old.state events.now machine.new.state) }
     ensures safe { IsSafe machine.old.state → IsSafe machine.new.state }
     ensures unused { IfOk result (λ verdict. IsSafe machine.old.state → AgreesUnused machine.old.state events.now verdict) }
 {

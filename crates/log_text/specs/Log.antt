@@ -156,12 +156,26 @@ pub record Record : Type 0 where
 abbrev pub record_of : Log → Record
 record_of log = record { base = log.base; pages = log.pages; givens = log.givens.items; events = log.events.items }
 
+-- what stands before a text's events: its heap, the given lines, the number of the first line after them, and the lines from there on
+pub record Beginning : Type 0 where
+  pub base : ℕ
+  pub pages : ℕ
+  pub givens : List (ℕ × Given)
+  pub next : ℕ
+  pub rest : List (List ℕ)
+
+-- the beginning of a text, or the first fault before its first event
+unfoldable pub beginning_of : List ℕ → Result Beginning LogFault
+beginning_of text =
+    if nat_lt longest_log (length text) then Err (Trace TooLong)
+    else (traced (opening_from 1 (lines_of text)) >>= λ o. givens_from o.next o.rest >>= λ s.
+    Ok (record { base = o.base; pages = o.pages; givens = s.givens; next = s.next; rest = s.rest }))
+
 -- the log that a text is, or its fault
 unfoldable pub log_of : List ℕ → Result Record LogFault
 log_of text =
-    if nat_lt longest_log (length text) then Err (Trace TooLong)
-    else (traced (opening_from 1 (lines_of text)) >>= λ o. givens_from o.next o.rest >>= λ s. events_from s.next s.rest >>= λ events.
-    Ok (record { base = o.base; pages = o.pages; givens = s.givens; events = events }))
+    beginning_of text >>= λ b. events_from b.next b.rest >>= λ events.
+    Ok (record { base = b.base; pages = b.pages; givens = b.givens; events = events })
 
 -- ---- what holds of all that is read
 

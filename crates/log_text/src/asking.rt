@@ -1,8 +1,8 @@
 //! Lines whose answers aren't read.
 
-ghost use Rattle.std.specs.Prelude.{IfSome};
+ghost use Rattle.std.specs.Prelude.{MatchOption};
 ghost use Rattle.trace_text.specs.Lines.{words_of};
-ghost use Rattle.log_text.specs.Asking.{IsAskedLine};
+ghost use Rattle.log_text.specs.Asking.{IsAskedLine, IsFaultyLine};
 
 use crate::event::{Asked, question};
 use trace_text::{Line, split_name};
@@ -12,7 +12,7 @@ use trace_text::{Line, split_name};
 #[inline(always)]
 #[tactic(auto, unfolding(crate::specs::Log::event_at, crate::specs::Log::event_of))]
 pub fn asked_line<'a>(line: &Line<'a>) -> Option<Option<(Asked, Line<'a>)>>
-    ensures { IfSome result (IsAskedLine (words_of line.now)) }
+    ensures { MatchOption result (IsFaultyLine (words_of line.now)) (IsAskedLine (words_of line.now)) }
 {
     let Some((name, words)) = split_name(line) else {
         return Some(None);

@@ -4,7 +4,7 @@ ghost use Rattle.std.specs.Prelude.{◌≤◌, ◌<◌, ◌+◌, ◌^◌, length
 ghost use Rattle.trace_text.specs.Heap.{IsHeap};
 ghost use Rattle.trace_text.specs.Lines.{lines_of};
 ghost use Rattle.log_text.specs.Asking.{IsStart};
-ghost use Rattle.log_text.specs.Log.{Fails, Gives, IsListedEvent, IsListedGiven, events_from, givens_from, log_of, record_of};
+ghost use Rattle.log_text.specs.Log.{Fails, Gives, IsListedEvent, IsListedGiven, beginning_of, events_from, givens_from, log_of, record_of};
 
 use crate::event::event_line;
 use crate::fault::LogFault;
@@ -78,10 +78,10 @@ fn read_events(alloc: Global, first: u32, text: &[u8]) -> Result<Vec<(u32, Event
 }
 
 /// A text of at most 16,777,216 bytes up to its first event, or the first fault before that.
-#[tactic(auto, unfolding(crate::specs::Log::log_of))]
+#[tactic(auto, unfolding(crate::specs::Log::beginning_of))]
 pub fn read_start(alloc: Global, text: &[u8]) -> Result<Start<'_>, LogFault>
     ensures start { IfOk result (IsStart text.now) }
-    ensures fails { IfErr result (λ fault. Fails fault (log_of text.now)) }
+    ensures fails { IfErr result (λ fault. Fails fault (beginning_of text.now)) }
     ensures few { IfOk result (λ start. start.next + length start.rest.now < 2 ^ 32) }
 {
     if text.len() > LONGEST_LOG {
@@ -99,6 +99,7 @@ pub fn read_start(alloc: Global, text: &[u8]) -> Result<Start<'_>, LogFault>
 }
 
 /// The log that a text of at most 16,777,216 bytes is, or its first fault.
+#[tactic(auto, using(crate::proofs::Texts::fails_on), unfolding(crate::specs::Log::log_of))]
 pub fn parse(alloc: Global, text: &[u8]) -> Result<Log, LogFault>
     ensures exact { Gives record_of result (log_of text.now) }
     ensures heap { IfOk result (λ log. IsHeap log.base log.pages) }
