@@ -1,13 +1,24 @@
 /*
  * What the calls of the machine take of memory: malloc and realloc are wrapped by the linker (--wrap), so that each allocation of
- * a call is counted, and then refused in turn, which has to be answered KERNELSTINT_NO_MEMORY with nothing written. It prints the
- * least and the most allocations of a step on a heap of one page, and the code of a step without memory. It ends with status 1
- * where an answer is wrong.
+ * a call is counted, and then refused in turn, which has to be answered KERNELSTINT_NO_MEMORY with nothing written. First it tries
+ * bindings/c/allocator.c, by which they take it, and which is compiled with it, since the library has no name for it. It prints
+ * the least and the most allocations of a step on a heap of one page, and the code of a step without memory. It ends with status
+ * 1 where an answer is wrong.
  */
 #include "kernelstint.h"
 #include <stdio.h>
 #include <stdlib.h>
 #include <string.h>
+
+/* As bindings/c/allocator.c has it. */
+typedef struct tried {
+    bool ok;
+    void *at;
+} tried;
+
+tried rattle_alloc(size_t size, size_t alignment);
+tried rattle_realloc(void *block, size_t kept, size_t size, size_t alignment);
+void rattle_dealloc(void *block);
 
 enum { LENGTH = 5934 };
 
@@ -42,6 +53,20 @@ static uint32_t step(const uint8_t *state, const char *line, uint8_t *out, uint8
     return kernelstint_step_line(state, LENGTH, (const uint8_t *)line, strlen(line), out, LENGTH, text, KERNELSTINT_LONGEST_REPLY, count);
 }
 
+static void try_allocator(void) {
+    tried block = rattle_alloc(24, 8);
+    want(block.ok && (uintptr_t)block.at % 8 == 0, "24 bytes are refused");
+    memset(block.at, 7, 24);
+    tried longer = rattle_realloc(block.at, 24, 100000, 8);
+    want(longer.ok && ((uint8_t *)longer.at)[23] == 7, "a longer block has other bytes");
+    rattle_dealloc(longer.at);
+    tried none = rattle_alloc(0, 16);
+    want(none.ok && none.at != NULL, "no bytes are refused");
+    rattle_dealloc(none.at);
+    tried refused = rattle_alloc(SIZE_MAX / 2, 16);
+    want(!refused.ok && refused.at != NULL, "all of memory is given, or a null pointer is");
+}
+
 int main(void) {
     static const char *const lines[] = {"malloc c1 64", "malloc c2 32", "storecap c1 c2", "loadcap c3 c1", "write c2 00000000000000000000000000000000",
                                         "show c1", "free c2", "begin", "storecap c1 c1", "end", "free c1", "sweep", "malloc c4 4096", "free c4", "malloc c5 16"};
@@ -51,6 +76,7 @@ int main(void) {
     size_t count = 0;
     long least = 1000, most = 0;
     uint32_t code = KERNELSTINT_DONE;
+    try_allocator();
     want(kernelstint_first(0x40000000, 1, state, LENGTH) == KERNELSTINT_DONE, "no first state");
     for (size_t i = 0; i < sizeof lines / sizeof *lines; i++) {
         granted = -1;

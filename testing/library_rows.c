@@ -1,7 +1,7 @@
 /*
  * Answers the calls of testing/library_rows, which it reads from standard input, by the library, in the form of that file:
  * so what it writes is what it reads, where each answer is the one that stands there. First it tries what no row says: what
- * the library writes where a length is wrong, and the allocator. C11 and C++17.
+ * the library writes where a length is wrong. C11 and C++17.
  */
 #include "kernelstint.h"
 
@@ -9,21 +9,6 @@
 #include <stdio.h>
 #include <stdlib.h>
 #include <string.h>
-
-/* The allocator of the archive, which no call of this version uses. */
-typedef struct tried {
-    bool ok;
-    void *at;
-} tried;
-#ifdef __cplusplus
-extern "C" {
-#endif
-tried rattle_alloc(size_t size, size_t alignment);
-tried rattle_realloc(void *block, size_t kept, size_t size, size_t alignment);
-void rattle_dealloc(void *block);
-#ifdef __cplusplus
-}
-#endif
 
 enum { MOST_WORDS = 16, MOST_BYTES = 256 };
 
@@ -212,26 +197,11 @@ static void try_lengths(void) {
     }
 }
 
-static void try_allocator(void) {
-    tried block = rattle_alloc(24, 8);
-    if (!block.ok || (uintptr_t)block.at % 8 != 0) fail("24 bytes are refused");
-    memset(block.at, 7, 24);
-    tried longer = rattle_realloc(block.at, 24, 100000, 8);
-    if (!longer.ok || ((uint8_t *)longer.at)[23] != 7) fail("a longer block has other bytes");
-    rattle_dealloc(longer.at);
-    tried none = rattle_alloc(0, 16);
-    if (!none.ok || none.at == NULL) fail("no bytes are refused");
-    rattle_dealloc(none.at);
-    tried refused = rattle_alloc(SIZE_MAX / 2, 16);
-    if (refused.ok || refused.at == NULL) fail("all of memory is given, or a null pointer is");
-}
-
 int main(void) {
     char row[512];
     if (kernelstint_version() != KERNELSTINT_VERSION) fail("the header has another version");
     if (sizeof(kernelstint_word) != 16) fail("a word has another size");
     try_lengths();
-    try_allocator();
     while (fgets(row, sizeof row, stdin) != NULL) {
         row[strcspn(row, "\n")] = '\0';
         if (row[0] == '#' || row[0] == '\0') {
