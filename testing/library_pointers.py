@@ -53,7 +53,7 @@ def calls_of(library):
     state, out, report = read("state", first), written("out", len(first)), written("out", 4000)
     malloc, block = library._Command(library.CommandKind.MALLOC, 1, number=20), library._Reply(library.ReplyKind.BLOCK, base=BASE, top=BASE + 32)
     line, trace = read("line", b"malloc c1 20"), read("trace", b"heap 0x40000000 1\nmalloc c1 20\n")
-    count, word = written("count", ctypes.c_size_t), written("word", library._TaggedWord)
+    count, word, fault = written("count", ctypes.c_size_t), written("word", library._TaggedWord), written("fault", library._Fault)
     return {
         "word_from_bytes": (read("bytes", bytes(16)),),
         "word_to_bytes": (library.NULL._passed, written("bytes", 16)),
@@ -66,6 +66,8 @@ def calls_of(library):
         "granule": (state, BASE, word),
         "run": (trace, report, count),
         "states": (trace, report, count),
+        "trace_fault": (trace, fault),
+        "line_fault": (line, fault),
     }
 
 

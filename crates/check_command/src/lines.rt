@@ -264,7 +264,10 @@ impl fmt::Display for WhyText {
                 write!(f, "the answer must be {reply}, and the log says {said}")
             }
             Why::NotOfMalloc => {
-                write!(f, "a malloc is answered by a block or by nospace, and the log says {said}")
+                write!(
+                    f,
+                    "a malloc is answered by a block or by nospace, and the log says {said}"
+                )
             }
             Why::TooShort => write!(f, "{told} is shorter than the size asked for"),
             Why::MayNotSweep if self.is_open => {

@@ -1,16 +1,19 @@
 -- Calls on the bytes of states, whose commands, replies and reasons are records, and which answer codes.
-use Rattle.std.specs.Prelude.{◌≡◌, ◌<◌, ◌++◌, ℕ, List, Some, Err, drop, length}
+use Rattle.std.specs.Prelude.{◌≡◌, ◌<◌, ◌++◌, ℕ, List, Some, Ok, Err, drop, length}
 use Rattle.byte_machine.specs.Calls.{IsStep, Leads, Refuses}
-use Rattle.byte_machine.specs.Records.{IsRead, reply_read, reply_told, why_told}
+use Rattle.byte_machine.specs.LineCalls.{IsCommandOf, IsNoCommand}
+use Rattle.byte_machine.specs.Records.{IsRead, fault_told, reply_read, reply_told, why_told}
 use Rattle.byte_machine.specs.declared.commands.CommandRecord.{CommandRecord}
 use Rattle.byte_machine.specs.declared.fault.CallFault.{CallFault}
 use Rattle.byte_machine.specs.declared.fault.CallFault.TheVariants as fault
+use Rattle.byte_machine.specs.declared.faults.FaultRecord.{FaultRecord}
 use Rattle.byte_machine.specs.declared.reasons.WhyRecord.{WhyRecord}
 use Rattle.byte_machine.specs.declared.replies.ReplyRecord.{ReplyRecord}
 use Rattle.heap_machine.specs.Follow.{Follows}
 use Rattle.heap_machine.specs.declared.followed.Why.{Why}
 use Rattle.heap_reply.specs.declared.reply.Reply.{Reply}
-use Rattle.trace_text.specs.Reading.{trace_of}
+use Rattle.trace_text.specs.Reading.{Script, fault_at, trace_of}
+use Rattle.trace_text.specs.declared.fault.LineFault.{LineFault}
 use Rattle.trace_text.specs.declared.fault.TraceFault.{TraceFault}
 use Rattle.trace_text.specs.declared.trace.Command.{Command}
 use Rattle.kernelstint.specs.Codes.{bad_address, bad_base, bad_line, bad_register, bad_room, bad_size, bad_state, no_memory, passed_over, short_text}
@@ -95,9 +98,9 @@ pub record IsTraceText (text : List ℕ) : Type 0 where
 
 -- A line is no command, and this is told of it, as of line 1 of a text.
 pub record HasFaultOfLine (line : List ℕ) (told : FaultRecord) : Type 0 where
-  pub fault : LineFault
-  pub fault_is : IsNoCommand line (Line fault)
-  pub told_is : told ≡ fault_told (fault_at 1 fault)
+  pub wrong : LineFault
+  pub is_none : IsNoCommand line (fault.Line wrong)
+  pub told_is : told ≡ fault_told (fault_at 1 wrong)
 
 -- A line is a command.
 pub record IsCommandLine (line : List ℕ) : Type 0 where

@@ -1,6 +1,6 @@
 //! What is wrong with texts that are no traces, and lines that are no commands.
 
-ghost use Rattle.std.specs.Prelude.{◌≡◌, ◌≢◌};
+ghost use Rattle.std.specs.Prelude.{◌≡◌, ◌≢◌, true};
 ghost use Rattle.kernelstint.specs.Calls.{HasFaultOfLine, HasFaultOfText, IsCommandLine, IsTraceText};
 ghost use Rattle.kernelstint.specs.Codes.{bad_line, bad_trace, done, no_memory, passed_over};
 ghost use Rattle.trace_text.specs.Lines.{is_passed_over, words_of};

@@ -280,7 +280,10 @@ fn words_are_given_once(rt: HostRuntime) {
         address: 0x4000_0010,
         line: 3,
     };
-    let nowhere = Lack::GranuleAgain { address: 1, line: 2 };
+    let nowhere = Lack::GranuleAgain {
+        address: 1,
+        line: 2,
+    };
     let rows = [
         // The same once more, and another word.
         (

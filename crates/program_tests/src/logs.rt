@@ -549,7 +549,8 @@ storecap c1 c1 -> ok
 free c1 -> held 16
 sweep -> cleared 0 released 16
 ";
-    let lines = "differs 5: the answer must be cleared 2 released 16, and the log says cleared 0 released 16
+    let lines =
+        "differs 5: the answer must be cleared 2 released 16, and the log says cleared 0 released 16
 c1 base 0x40000100
 granule 0x40000100 base 0x40000100
 2 words due
