@@ -2,7 +2,7 @@
  * The machine by the header alone. It reads a trace from standard input, does it step by step, by records where a line is
  * one of those that it knows and else by lines, and prints the replies' texts as a report has them; then it tries arguments
  * that are refused, and reads a state by the header's macros. With the word "time" and a number of pages and of steps it
- * prints how many microseconds of processor time a step takes. It ends with status 1 where an answer is wrong.
+ * prints how many microseconds of processor time a step takes. It ends with status 1 where an answer is wrong. C11 and C++17.
  */
 #include "kernelstint.h"
 #include <inttypes.h>
@@ -17,8 +17,8 @@ static void want(bool is_so, const char *what) {
     exit(1);
 }
 
-static void *room_of(size_t length) {
-    void *room = calloc(length != 0 ? length : 1, 1);
+static uint8_t *room_of(size_t length) {
+    uint8_t *room = (uint8_t *)calloc(length != 0 ? length : 1, 1);
     want(room != NULL, "no memory");
     return room;
 }
@@ -27,6 +27,11 @@ static uint64_t number_at(const uint8_t *at, int length) {
     uint64_t number = 0;
     for (int i = length; i > 0; i--) number = number << 8 | at[i - 1];
     return number;
+}
+
+static kernelstint_command command_of(uint8_t kind, uint8_t first, uint8_t second, uint64_t number) {
+    kernelstint_command command = {kind, first, second, number, 0, 0};
+    return command;
 }
 
 /* The command of some lines, whose registers are below 32. */
@@ -121,7 +126,7 @@ static void layout(void) {
 static void refusals(void) {
     size_t length = kernelstint_state_length(1), count = 7;
     uint8_t *state = room_of(length), *out = room_of(length), *before = room_of(length), text[KERNELSTINT_LONGEST_REPLY] = {0};
-    kernelstint_command show = {.kind = KERNELSTINT_SHOW, .first = 0, .second = 255, .number = UINT64_MAX, .low = 1, .high = 1}, wrong = show;
+    kernelstint_command show = {KERNELSTINT_SHOW, 0, 255, UINT64_MAX, 1, 1}, wrong = show;
     kernelstint_reply reply, answer;
     kernelstint_why why;
     kernelstint_counts_of counts;
@@ -146,7 +151,7 @@ static void refusals(void) {
     wrong = show;
     wrong.first = 32;
     want(kernelstint_step(state, length, wrong, out, length, &reply) == KERNELSTINT_BAD_COMMAND, "step: register 32");
-    wrong = (kernelstint_command){.kind = KERNELSTINT_ANDPERM, .first = 1, .second = 1, .number = 65536, .low = 0, .high = 0};
+    wrong = command_of(KERNELSTINT_ANDPERM, 1, 1, 65536);
     want(kernelstint_step(state, length, wrong, out, length, &reply) == KERNELSTINT_BAD_COMMAND, "step: a mask of 17 bits");
     want(reply.kind == 7 && reply.bytes == UINT64_C(0x0707070707070707), "step: a reply is written beside a code");
     want(memcmp(out, before, length) == 0, "a room is written beside a code");
@@ -159,8 +164,11 @@ static void refusals(void) {
     want(why.reply.kind == KERNELSTINT_SHOWN && why.reply.exponent == 52 && why.reply.top_high == 1, "follow: what show must be answered");
     want(memcmp(out, before, length) == 0, "follow: a room is written where the answer differs");
     want(kernelstint_follow(state, length, show, why.reply, out, length, &why) == KERNELSTINT_DONE && memcmp(out, state, length) == 0, "follow: show");
-    wrong = (kernelstint_command){.kind = KERNELSTINT_MALLOC, .first = 1, .second = 0, .number = 32, .low = 0, .high = 0};
-    answer = (kernelstint_reply){.kind = KERNELSTINT_BLOCK, .base = 0x800, .top = 0x820};
+    wrong = command_of(KERNELSTINT_MALLOC, 1, 0, 32);
+    memset(&answer, 0, sizeof answer);
+    answer.kind = KERNELSTINT_BLOCK;
+    answer.base = 0x800;
+    answer.top = 0x820;
     want(kernelstint_follow(state, length, wrong, answer, out, length, &why) == KERNELSTINT_DONE, "follow: another place than the least");
     want(number_at(out + KERNELSTINT_GRANULE_AT(128) + KERNELSTINT_BLOCK_IN, 4) == 33, "follow: no block at that place");
     answer.top = 0x1010;
@@ -194,10 +202,8 @@ static double seconds(void) {
 static void measure(uint32_t pages, int steps) {
     size_t length = kernelstint_state_length(pages);
     uint8_t *state = room_of(length), *next = room_of(length);
-    kernelstint_command commands[] = {{.kind = KERNELSTINT_MALLOC, .first = 1, .second = 0, .number = 64, .low = 0, .high = 0},
-                                      {.kind = KERNELSTINT_STORECAP, .first = 1, .second = 1, .number = 0, .low = 0, .high = 0},
-                                      {.kind = KERNELSTINT_FREE, .first = 1, .second = 0, .number = 0, .low = 0, .high = 0},
-                                      {.kind = KERNELSTINT_SWEEP, .first = 0, .second = 0, .number = 0, .low = 0, .high = 0}};
+    const kernelstint_command commands[] = {command_of(KERNELSTINT_MALLOC, 1, 0, 64), command_of(KERNELSTINT_STORECAP, 1, 1, 0), command_of(KERNELSTINT_FREE, 1, 0, 0),
+                                            command_of(KERNELSTINT_SWEEP, 0, 0, 0)};
     kernelstint_reply reply;
     want(kernelstint_first(0x40000000, pages, state, length) == KERNELSTINT_DONE, "no first state");
     double begun = seconds();
