@@ -10,7 +10,10 @@
  *
  * No function keeps a state, waits or prints, and each may be called by any thread at any time.
  *
- * A code is 0 (KERNELSTINT_DONE) where a function did what it was asked, and else says why it did not.
+ * A code is 0 (KERNELSTINT_DONE) where a function did what it was asked, and else says why it did not. Where several would be
+ * true, it is the first of these: KERNELSTINT_NULL, KERNELSTINT_OVERLAP, KERNELSTINT_SHORT_TEXT of kernelstint_step_line, those of a
+ * number, a record or a line (in the order of the function's comment), KERNELSTINT_BAD_ROOM, KERNELSTINT_NO_MEMORY,
+ * KERNELSTINT_BAD_STATE or KERNELSTINT_BAD_TRACE, and what is left.
  */
 #ifndef KERNELSTINT_H
 #define KERNELSTINT_H
@@ -383,7 +386,7 @@ size_t kernelstint_state_length(uint32_t pages);
 
 /*
  * Writes the first state of a heap of so many pages at `base`: zero, untagged, without a block. KERNELSTINT_BAD_SIZE,
- * KERNELSTINT_BAD_BASE or KERNELSTINT_BAD_ROOM where it can't: the first of these that is so.
+ * KERNELSTINT_BAD_BASE or KERNELSTINT_BAD_ROOM where it can't.
  */
 uint32_t kernelstint_first(uint64_t base, uint32_t pages, uint8_t *out, size_t out_length);
 

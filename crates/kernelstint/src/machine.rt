@@ -94,7 +94,7 @@ pub extern "C" fn kernelstint_proved_follow(
     ensures still { result ≢ done → out.new ≡ out.old }
     ensures untold { result ≢ differs → why.new ≡ why.old }
     ensures command { (result ≡ bad_command) ↔ IsRead command None }
-    ensures reply { result ≡ bad_reply → reply_read answer ≡ None }
+    ensures reply { result ≢ bad_command → (result ≡ bad_reply) ↔ (reply_read answer ≡ None) }
     ensures room { result ≡ bad_room → length out.old ≢ length state.now }
     ensures measured { length out.old ≢ length state.now → result ≢ bad_command → result ≢ bad_reply → result ≡ bad_room }
     ensures fault { result ≢ done → result ≢ differs → result ≢ bad_command → result ≢ bad_reply

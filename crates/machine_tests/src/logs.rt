@@ -1,11 +1,13 @@
 //! Logs, and what is said of them.
 
 use crate::givens::three_blocks;
+use crate::machine::sweeps::sums;
 use heap_log::{
-    Difference, DueWord, Tally, Verdict, due_words, freed_line, given_line, handed_out_line, judge,
+    Difference, DueWord, Tally, Verdict, due_words, follow_event, freed_line, given_line,
+    handed_out_line, judge,
 };
-use heap_machine::{Block, Claim, Machine, Why};
-use log_text::parse;
+use heap_machine::{Block, Claim, Machine, MachineFault, Reply, Why};
+use log_text::{Event, parse};
 use std::alloc::Global;
 use std::process::Abort;
 use std::thread::Threads;
@@ -313,4 +315,42 @@ fn the_last_event_that_frees_a_block_is_found(rt: HostRuntime) {
     for (block, line) in rows {
         assert_eq!(rt; freed_at(&rt, rt.alloc(), TWICE, block), Some(line));
     }
+}
+
+// Four events, of which the last alone takes memory.
+const SWEPT: &[u8] = b"heap 0x40000000 16
+malloc c1 20 -> block 0x40000100 0x40000120
+storecap c1 c1 -> ok
+free c1 -> held 32
+sweep -> cleared 2 released 32
+";
+
+// Run with each allocation refused in turn: a machine whose sweep is refused is as the events before it leave it, and does the
+// sweep when it is asked for again.
+#[test]
+fn a_refused_allocation_of_a_judged_log_leaves_the_events_before(rt: HostRuntime) {
+    let alloc = rt.alloc();
+    let Ok(log) = parse(alloc, SWEPT) else {
+        return;
+    };
+    let cutting = Cutting::new(1, 16).expect(&rt, "it is a cutting");
+    let Ok(mut machine) = Machine::new(alloc, log.base, log.pages, cutting) else {
+        return;
+    };
+    assert!(rt; log.events.len() < 1 << 24);
+    let verdict = judge(&rt, alloc, &mut machine, &log.events);
+    if verdict == Err(MachineFault::Memory) {
+        assert_eq!(rt; sums(&machine), (1, 1, 0, 32, 65_504));
+        let sweep = Event::Done {
+            command: Command::Sweep,
+            answer: Reply::Swept {
+                cleared: 2,
+                released: 32,
+            },
+        };
+        assert_eq!(rt; follow_event(&rt, alloc, &mut machine, sweep), Ok(None));
+    } else {
+        assert_eq!(rt; verdict, Ok(agrees(4, 1, 1, 2)));
+    }
+    assert_eq!(rt; sums(&machine), (0, 0, 0, 0, 65_536));
 }

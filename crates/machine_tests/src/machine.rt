@@ -4,7 +4,7 @@ mod answers;
 mod cuttings;
 mod epochs;
 mod parts;
-mod sweeps;
+pub mod sweeps;
 mod workers;
 
 use heap_machine::{Machine, MachineFault, Reply};

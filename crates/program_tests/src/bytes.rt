@@ -263,3 +263,20 @@ fn other_lines_are_refused(rt: HostRuntime) {
     assert!(rt; out.iter().all(|byte| *byte == 0x55));
     assert!(rt; text.iter().all(|byte| *byte == b'.'));
 }
+
+#[test]
+fn a_line_is_read_before_the_room_and_that_before_the_state(rt: HostRuntime) {
+    let alloc = rt.alloc();
+    let state = first_state(&rt, alloc);
+    let none = room(&rt, alloc);
+    let mut out = room(&rt, alloc);
+    let mut short = vec![in alloc; 0x55; LENGTH - 1].expect(&rt, "there is memory");
+    let mut text = [b'.'; 200];
+    let register = Err(CallFault::Line(LineFault::BadRegister));
+    let told = step_line(alloc, &state, b"show c32", &mut short, &mut text);
+    assert_eq!(rt; told, register);
+    let told = step_line(alloc, &none, b"show c32", &mut out, &mut text);
+    assert_eq!(rt; told, register);
+    let told = step_line(alloc, &none, b"show c1", &mut short, &mut text);
+    assert_eq!(rt; told, Err(CallFault::Room));
+}

@@ -1,6 +1,6 @@
 //! Passes of a machine are cut as it was asked for.
 
-use heap_machine::{Machine, MachineFault, Reply};
+use heap_machine::{Followed, Machine, MachineFault, Reply};
 use std::alloc::Global;
 use std::sync::atomic::AtomicU64;
 use std::sync::atomic::Ordering::SeqCst;
@@ -100,6 +100,28 @@ fn passes_alone_have_the_tasks_of_the_machines_cutting(rt: HostRuntime) {
         let tally = Tally::new();
         let reply = machine.step_alone(rt.alloc(), command, &tally);
         assert_eq!(rt; reply, Ok(wanted), "{command:?}");
+        assert_eq!(rt; tally.counts.load(SeqCst), tasks, "{command:?}");
+    }
+}
+
+#[test]
+fn passes_that_follow_have_the_tasks_of_the_machines_cutting(rt: HostRuntime) {
+    let mut machine = machine_of_three_tasks(&rt, rt.alloc()).expect(&rt, "there is memory");
+    for (command, answer, tasks) in PASSES {
+        let tally = Tally::new();
+        let followed = machine.follow(&rt, rt.alloc(), command, answer, &tally);
+        assert_eq!(rt; followed, Ok(Followed::Agrees), "{command:?}");
+        assert_eq!(rt; tally.counts.load(SeqCst), tasks, "{command:?}");
+    }
+}
+
+#[test]
+fn passes_that_follow_alone_have_the_tasks_of_the_machines_cutting(rt: HostRuntime) {
+    let mut machine = machine_of_three_tasks(&rt, rt.alloc()).expect(&rt, "there is memory");
+    for (command, answer, tasks) in PASSES {
+        let tally = Tally::new();
+        let followed = machine.follow_alone(rt.alloc(), command, answer, &tally);
+        assert_eq!(rt; followed, Ok(Followed::Agrees), "{command:?}");
         assert_eq!(rt; tally.counts.load(SeqCst), tasks, "{command:?}");
     }
 }

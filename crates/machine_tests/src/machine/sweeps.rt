@@ -7,9 +7,9 @@ use sweep_pool::{Cutting, Open};
 use trace_text::Command;
 
 // Tagged registers, tagged granules, and the bytes of live, held and free blocks.
-type Sums = (usize, usize, u64, u64, u64);
+pub type Sums = (usize, usize, u64, u64, u64);
 
-fn sums(machine: &Machine) -> Sums {
+pub fn sums(machine: &Machine) -> Sums {
     (
         machine.registers().tagged(),
         machine.memory().tagged(),
