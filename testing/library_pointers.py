@@ -14,6 +14,7 @@ import os
 import pathlib
 import re
 import resource
+import signal
 import subprocess
 import sys
 from typing import NamedTuple
@@ -148,10 +149,11 @@ def is_right(function, taken, row):
 
 
 def is_right_apart(function, taken, row):
-    """The same in a process of its own, where a call may end by a signal."""
+    """The same in a process of its own, where a call may end by a signal, or not at all."""
     process = os.fork()
     if process == 0:
         resource.setrlimit(resource.RLIMIT_CORE, (0, 0))
+        signal.alarm(60)
         is_so = False
         try:
             is_so = is_right(function, taken, row)
@@ -208,45 +210,56 @@ class Change(NamedTuple):
     rows: set
 
 
-def changes_of(source, name, places):
-    """The changes of what a function tests; none where it has no test that is known."""
-    begun = source.index(f" kernelstint_{name}(", source.index("#define TEST_PLACES"))
-    body = source[begun : source.index("\n}\n", begun)]
-    alone = re.search(r"    if \((\w+) == NULL\) return [^;]*;\n", body)
-    if alone and [alone[1]] == [it.name for it in places]:
-        return [Change(name, "without its test of null", source.replace(body, body.replace(alone[0], "")), null_rows(places[0]))]
-    test = re.search(r"TEST_PLACES\(([^;]*)\);", body)
-    entries = re.findall(r"(READ|WRITTEN)\((\w+), ([^()]*)\)", test[1]) if test else []
-    if [it[1] for it in entries] != [it.name for it in places]:
-        return []
+class Tested:
+    """What a function of pointers.c tests: the entries of its TEST_PLACES, each its kind, its pointer and its length; of a
+    function with one pointer it may be a line that asks for null."""
 
-    def change(what, *tests, rows):
-        """The test in the place of which these stand, each a list of entries."""
-        text = " ".join("TEST_PLACES({});".format(", ".join("{}({}, {})".format(*it) for it in test)) for test in tests if test)
-        return Change(name, what, source.replace(body, body.replace(test[0], text)), rows)
+    def __init__(self, source, name, places):
+        begun = source.index(f" kernelstint_{name}(", source.index("#define TEST_PLACES"))
+        self.source, self.name, self.places, self.pairs = source, name, places, pairs_of(places)
+        self.body = source[begun : source.index("\n}\n", begun)]
+        self.line = re.search(r"    if \((\w+) == NULL\) return [^;]*;\n", self.body)
+        self.test = re.search(r"TEST_PLACES\(([^;]*)\);", self.body)
+        self.entries = re.findall(r"(READ|WRITTEN)\((\w+), ([^()]*)\)", self.test[1]) if self.test else []
 
-    def without(*numbers):
-        return [it for number, it in enumerate(entries) if number not in numbers]
+    def changes(self):
+        """The changes of these tests; none where they have another form."""
+        names = [it.name for it in self.places]
+        if self.line and [self.line[1]] == names:
+            yield self.change("without its test of null", self.line[0], "", null_rows(self.places[0]))
+        elif [it[1] for it in self.entries] == names:
+            if self.pairs:
+                yield self.tested("without its test of overlap", *([it] for it in self.entries), rows=over_rows(*self.pairs))
+            for number in range(len(self.entries)):
+                yield from self.of_entry(number, *self.entries[number])
+            for one, other in self.pairs if len(self.pairs) > 1 else ():
+                parts = self.without(one.name), self.without(other.name)
+                yield self.tested(f"without the test of {one.name} over {other.name}", *parts, rows=over_rows((one, other)))
 
-    def with_other(number, entry):
-        return [entry if number == other else it for other, it in enumerate(entries)]
-
-    pairs, of = pairs_of(places), {it.name: it for it in places}
-    changes = [change("without its test of overlap", *([it] for it in entries), rows=over_rows(*pairs))] if pairs else []
-    for number, (kind, pointer, length) in enumerate(entries):
-        mine = [it for it in pairs if of[pointer] in it]
-        changes.append(change(f"without {pointer}", without(number), rows=null_rows(of[pointer]) | over_rows(*mine)))
-        turned = [it for it in itertools.combinations(places, 2) if of[pointer] in it and sum(part.is_written for part in it) == (kind == "WRITTEN")]
+    def of_entry(self, number, kind, pointer, length):
+        """The changes of an entry: it is left out, its kind is turned where that says something, and its length is wrong."""
+        mine = [it for it in itertools.combinations(self.places, 2) if self.places[number] in it]
+        tested = [it for it in mine if it in self.pairs]
+        yield self.tested(f"without {pointer}", self.without(pointer), rows=null_rows(self.places[number]) | over_rows(*tested))
+        turned = [it for it in mine if sum(place.is_written for place in it) == (kind == "WRITTEN")]
         if turned:
             other = "READ" if kind == "WRITTEN" else "WRITTEN"
-            changes.append(change(f"with {other} for {pointer}", with_other(number, (other, pointer, length)), rows=over_rows(*turned)))
-        for more, how in ((" - 1", "into"), (" + 1", "up to")) if mine else ():
-            rows = {f"{pointer} {how} {second.name}" for pair in mine for second in pair if second.name != pointer}
-            changes.append(change(f"with {length}{more} for {pointer}", with_other(number, (kind, pointer, length + more)), rows=rows))
-    for one, other in pairs if len(pairs) > 1 else ():
-        numbers = places.index(one), places.index(other)
-        changes.append(change(f"without the test of {one.name} over {other.name}", without(numbers[0]), without(numbers[1]), rows=over_rows((one, other))))
-    return changes
+            yield self.tested(f"with {other} for {pointer}", self.without(pointer, (other, pointer, length)), rows=over_rows(*turned))
+        for more, how in ((" - 1", "into"), (" + 1", "up to")) if tested else ():
+            rows = {f"{pointer} {how} {place.name}" for pair in tested for place in pair if place.name != pointer}
+            yield self.tested(f"with {length}{more} for {pointer}", self.without(pointer, (kind, pointer, length + more)), rows=rows)
+
+    def without(self, pointer, *instead):
+        """The entries without that of a pointer, or with another in its place."""
+        return [it for entry in self.entries for it in ([entry] if entry[1] != pointer else instead)]
+
+    def tested(self, what, *tests, rows):
+        """The function with these tests, each a list of entries, in place of its own."""
+        texts = ["TEST_PLACES({});".format(", ".join("{}({}, {})".format(*it) for it in test)) for test in tests if test]
+        return self.change(what, self.test[0], " ".join(texts), rows)
+
+    def change(self, what, old, new, rows):
+        return Change(self.name, what, self.source.replace(self.body, self.body.replace(old, new)), rows)
 
 
 def made_with(tests, number, change, proved):
@@ -277,7 +290,7 @@ def without_tests(tests, calls):
         return
     changes = []
     for name, places in calls.items():
-        made = changes_of(source, name, places)
+        made = [*Tested(source, name, places).changes()]
         tests.expect(made, f"bindings/c/pointers.c tests the pointers of {name} otherwise than by TEST_PLACES, so no test can be left out")
         changes += [Change(name, "as it is", source, set()), *made]
     with concurrent.futures.ThreadPoolExecutor(os.cpu_count()) as pool:
