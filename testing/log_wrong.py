@@ -5,7 +5,7 @@ import re
 from typing import NamedTuple
 
 from log_model import first_state, follow
-from log_state import NULL, capability, is_exact
+from log_state import NULL, capability, is_exact, word_of_data
 from log_words import TRAPS, is_answer, lines_of, read_log, words_of
 
 # So many lines come after the one that is wrong, and of so many lines of a log one is made wrong.
@@ -373,7 +373,7 @@ def words_given_again(log):
         for cell in ((word_of_data(data), tag), (NULL, False)):
             yield "again", end, given(number, *cell), f"unsafe {end}: {place} was given at line {line}\n"
     if not any(kind == "register" and operands[0] == 0 for _, kind, operands in givens):
-        for cell in ((NULL, True), (word_of_data("01" + "00" * 15), False)):
+        for cell in ((NULL, True), (word_of_data(bytes([1, *bytes(15)])), False)):
             yield "register 0", end, given_register(0, *cell), f"unsafe {end}: register c0 is always null\n"
 
 
