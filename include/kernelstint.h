@@ -262,8 +262,8 @@ uint64_t kernelstint_alignment_mask(uint64_t length);
  * Conditions, where a function is given pointers: at each can be read, or written where the function writes, as many bytes as
  * the length beside it says, or one struct, and nothing else writes or reads there meanwhile. A null pointer is answered by
  * KERNELSTINT_NULL, also beside a length of 0, and places that lie over one another, of which one is written, by
- * KERNELSTINT_OVERLAP. States and texts may begin at any address: no alignment is asked. Where the code is not 0, nothing is
- * written but what the function's comment names. Each function takes memory from malloc while it runs, and answers
+ * KERNELSTINT_OVERLAP; a place of no bytes lies over none. States and texts may begin at any address: no alignment is asked.
+ * Where the code is not 0, nothing is written but what the function's comment names. Each function takes memory from malloc while it runs, and answers
  * KERNELSTINT_NO_MEMORY where it gets none; a step on a heap of one page makes 14 to 16 allocations.
  */
 #define KERNELSTINT_GRANULES(pages) ((size_t)256 * (pages))

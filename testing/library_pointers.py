@@ -1,5 +1,5 @@
 """What testing/library tries of bindings/c/pointers.c: each pointer of each function null, and each two of its places over one
-another by a byte, at both ends, and touching. Nothing may be written beside a code. The table (calls_of) has all that is tried,
+another by a byte, at both ends, touching, and one of no bytes inside another. Nothing may be written beside a code. The table (calls_of) has all that is tried,
 and is held to the header, so that a function with pointers, or a pointer, without a row fails. Then a pointers.c of which one
 test is left out or changed is made for each of its tests, and fails just the rows of that test.
 
@@ -77,12 +77,13 @@ def calls_of(library):
 
 class Row(NamedTuple):
     """A call with its places put somewhere: where each begins, None being null; the lengths that are passed; whether its code is
-    the one that is wanted."""
+    the one that is wanted, and whether another than 0 may come with something written."""
 
     name: str
     at: list
     lengths: list
     is_wanted: object
+    may_write: bool = False
 
 
 def pairs_of(places):
@@ -113,6 +114,10 @@ def rows_of(places):
         # Two places that are read alone may share a byte, though what stands there may then be no state and no line.
         yield Row("{} into {}".format(*names), beside(places, at, first, second, 1), lengths, lambda code, is_refused=is_refused: (code == OVERLAP) == is_refused and code != NULL)
         yield Row("{} up to {}".format(*names), beside(places, at, first, second, 0), lengths, lambda code: code == DONE)
+        if not places[first].is_record:
+            inside, empty = [*at], [*lengths]
+            inside[first], empty[first] = at[second] + 1, 0
+            yield Row("{} of 0 bytes in {}".format(*names), inside, empty, lambda code: code not in (NULL, OVERLAP), True)
 
 
 def beside(places, at, first, second, common):
@@ -143,7 +148,7 @@ def is_right(function, taken, row):
     answer = function(*passed)
     code, after = getattr(answer, "code", answer), memory.raw[:-1]
     for place, at in zip(places, row.at):
-        if code == DONE and place.is_written:
+        if (code == DONE or row.may_write) and place.is_written:
             before[at : at + place.length] = after[at : at + place.length]
     return row.is_wanted(code) and bytes(before) == after
 
@@ -246,7 +251,11 @@ class Tested:
             other = "READ" if kind == "WRITTEN" else "WRITTEN"
             yield self.tested(f"with {other} for {pointer}", self.without(pointer, (other, pointer, length)), rows=over_rows(*turned))
         for more, how in ((" - 1", "into"), (" + 1", "up to")) if tested else ():
-            rows = {f"{pointer} {how} {place.name}" for pair in tested for place in pair if place.name != pointer}
+            others = {place.name for pair in tested for place in pair} - {pointer}
+            rows = {f"{pointer} {how} {other}" for other in others}
+            # A byte less than none is all that is behind.
+            reached = {it.name for it in self.places} - {pointer} if how == "into" else others
+            rows |= set() if self.places[number].is_record else {f"{pointer} of 0 bytes in {other}" for other in reached}
             yield self.tested(f"with {length}{more} for {pointer}", self.without(pointer, (kind, pointer, length + more)), rows=rows)
 
     def without(self, pointer, *instead):

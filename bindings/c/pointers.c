@@ -33,6 +33,7 @@ typedef struct place {
 } place;
 
 static bool are_over(place first, place second) {
+    if (first.length == 0 || second.length == 0) return false;
     uintptr_t a = (uintptr_t)first.at, b = (uintptr_t)second.at;
     return a <= b ? b - a < first.length : a - b < second.length;
 }
