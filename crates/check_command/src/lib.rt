@@ -2,6 +2,7 @@
 #![tactic(auto)]
 
 mod due_lines;
+mod hint;
 mod judging;
 mod lines;
 mod program;

@@ -9,28 +9,32 @@ ghost use Rattle.trace_program.specs.Device.{AppendsBeginning, ReadsFew};
 ghost use Rattle.check_command.specs.Answer.{IsAnswer, most_read};
 ghost use Rattle.check_command.specs.Text.{usage_line};
 
+use crate::hint::hint;
 use crate::judging::check_answer;
 use command_line::{Refusal, states_options_by};
 use log_text::LONGEST_LOG;
 use std::alloc::Global;
 use std::thread::Threads;
-use trace_program::{ReadFault, Sink, Source, read_text, tell};
+use trace_program::{Answer, ReadFault, Sink, Source, read_text, tell};
 
 const USAGE: &[u8] = b"usage: heap_check [--workers N] [--cut N]\n";
 
 /// Judges the log that the reader has, for these words, of which the first is the program's name, and answers the exit
 /// status: 0 where it agrees, 1 for want of memory, 2 where the words are refused, 3 where the log is faulty, 4 where a device
 /// failed, and 5 where an event differs, or the given lines tell no safe state. The words are judged before the first read,
-/// and nothing is written before the last. No more than 16,777,217 bytes are read, whatever the status.
-pub fn check_tool<'a, R: Threads + Sync, I: Source, O: Sink>(
+/// and nothing is written before the last. No more than 16,777,217 bytes are read, whatever the status. Where an answer of the
+/// log isn't read, a line goes to `errors` that names the word that wasn't taken; whether it went out changes nothing.
+pub fn check_tool<'a, R: Threads + Sync, I: Source, O: Sink, E: Sink>(
     rt: &R,
     alloc: Global,
     words: &'a [&'a str],
     reader: &mut I,
     writer: &mut O,
+    errors: &mut E,
 ) -> u8
     requires reader { I.failed reader.old ≡ false }
     requires writer { O.failed writer.old ≡ false }
+    requires errors { E.failed errors.old ≡ false }
     ensures whole { result ≢ 4 → HasAnswered (IsAnswer (texts words.entry.now) (I.remaining reader.old) (I.remaining reader.new))
         result (O.contents writer.old) (O.contents writer.new) }
     ensures part { result ≡ 4 → BeginsAnswer (IsAnswer (texts words.entry.now) (I.remaining reader.old) (I.remaining reader.new))
@@ -40,14 +44,33 @@ pub fn check_tool<'a, R: Threads + Sync, I: Source, O: Sink>(
     ensures unread { ((options : TheOptions) → NamesStates (texts words.entry.now) options → ⊥) → reader.new ≡ reader.old }
     // Where a read failed nothing is written.
     ensures unwritten { I.failed reader.new ≡ true → writer.new ≡ writer.old }
+    // Beside a log that isn't faulty nothing is said.
+    ensures unsaid { result ≢ 3 → errors.new ≡ errors.old }
 {
     match states_options_by(alloc, words) {
         Ok(options) => match read_text(alloc, reader, LONGEST_LOG) {
-            Ok(text) => tell(writer, check_answer(rt, alloc, &text, options), USAGE),
+            Ok(text) => {
+                let status = tell(writer, check_answer(rt, alloc, &text, options), USAGE);
+                say(alloc, errors, status, &text);
+                status
+            }
             Err(ReadFault::Memory) => refuse(writer, Refusal::Memory),
             Err(ReadFault::Failed) => 4,
         },
         Err(refusal) => refuse(writer, refusal),
+    }
+}
+
+// Says which word wasn't taken, where a log is faulty for its answer.
+fn say<E: Sink>(alloc: Global, errors: &mut E, status: u8, log: &[u8])
+    requires { E.failed errors.old ≡ false }
+    ensures { status ≢ 3 → errors.new ≡ errors.old }
+{
+    if status != 3 {
+        return;
+    }
+    if let Ok(Some(text)) = hint(alloc, log) {
+        let _ = tell(errors, Ok(Answer { status, text }), USAGE);
     }
 }
 

@@ -9,6 +9,7 @@ fn main(rt: HostRuntime) -> ExitCode {
     let alloc = rt.alloc();
     let mut reader = FromRead::new(rt.stdin());
     let mut writer = FromWrite::new(rt.stdout());
+    let mut errors = FromWrite::new(rt.stderr());
     let arguments = match arguments(&rt) {
         Ok(arguments) => arguments,
         Err(refusal) => return ExitCode::from(refuse(&mut writer, refusal)),
@@ -17,5 +18,12 @@ fn main(rt: HostRuntime) -> ExitCode {
         Ok(words) => words,
         Err(_) => return ExitCode::from(refuse(&mut writer, Refusal::Memory)),
     };
-    ExitCode::from(check_tool(&rt, alloc, words.as_slice(), &mut reader, &mut writer))
+    ExitCode::from(check_tool(
+        &rt,
+        alloc,
+        words.as_slice(),
+        &mut reader,
+        &mut writer,
+        &mut errors,
+    ))
 }

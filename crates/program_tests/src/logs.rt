@@ -27,7 +27,9 @@ fn answer<R: Threads + Sync>(
         room,
         has_failed: false,
     };
-    let status = check_tool(rt, alloc, words, &mut reader, &mut writer);
+    let mut errors = Fixed::new();
+    let status = check_tool(rt, alloc, words, &mut reader, &mut writer, &mut errors);
+    assert!(rt; status == 3 || errors.text().is_empty());
     (status, writer.taken)
 }
 
@@ -68,7 +70,14 @@ fn nothing_is_read_for_refused_words(rt: HostRuntime) {
     };
     let mut writer = Fixed::new();
     let words = ["heap_check", "run"];
-    let status = check_tool(&rt, rt.alloc(), &words, &mut reader, &mut writer);
+    let status = check_tool(
+        &rt,
+        rt.alloc(),
+        &words,
+        &mut reader,
+        &mut writer,
+        &mut Fixed::new(),
+    );
     assert_eq!(rt; status, 2);
     assert_eq!(rt; writer.text(), USAGE.as_bytes());
     assert_eq!(rt; reader.rest.len(), 18);
@@ -464,6 +473,122 @@ fn faults_are_named(rt: HostRuntime) {
     }
 }
 
+// What is said beside a log whose second line is this, to a device with so much room.
+fn said<R: Threads + Sync>(rt: &R, alloc: Global, line: &str, room: usize) -> (u8, Vec<u8>) {
+    let text = format!(in alloc; "heap 0x40000000 1\n{line}").expect(rt, "there is memory");
+    let mut reader = Slow {
+        rest: text.as_bytes(),
+        step: 1000,
+        breaks: false,
+        has_failed: false,
+    };
+    let mut writer = Fixed::new();
+    let mut errors = Short {
+        taken: Vec::new(alloc),
+        step: 100,
+        room,
+        has_failed: false,
+    };
+    let words = ["heap_check"];
+    let status = check_tool(rt, alloc, &words, &mut reader, &mut writer, &mut errors);
+    let fault = status != 3 || writer.text() == b"fault bad-answer 2\n".as_slice();
+    assert!(rt; fault, "{line:?}");
+    (status, errors.taken)
+}
+
+#[test]
+fn the_word_that_was_not_taken_is_named(rt: HostRuntime) {
+    let alloc = rt.alloc();
+    let rows = [
+        ("malloc c1 16 -> block 0x40000000 0X40000010", "0X40000010"),
+        ("malloc c1 16 -> block 0x4000000A 0x40000010", "0x4000000A"),
+        ("malloc c1 16 -> block 1073741824 1073741840", "1073741824"),
+        (
+            "malloc c1 16 -> block 0x40000000 0x40000010 sweep 1",
+            "sweep",
+        ),
+        ("malloc c1 16 -> block 0x40000000 0x40000010 swept 1 2", "2"),
+        ("malloc c1 16 -> nospace swept 01", "01"),
+        ("malloc c1 16 -> Block 0x40000000 0x40000010", "Block"),
+        ("free c1 -> held 0x10", "0x10"),
+        ("free c1 -> held 016\r", "016"),
+        ("free c1 -> trap Tag", "Tag"),
+        ("sweep -> ok junk", "junk"),
+        ("sweep -> cleared 1 released -1", "-1"),
+        ("sweep -> cleared 4294967296", "4294967296"),
+        ("show c1 -> tag 1 address 0x0 base 0x0 bottom 0x0", "bottom"),
+        ("show c1 -> tag 2", "2"),
+        (
+            "granule 0x40000000 -> 2 00000000000000000000000000000000",
+            "2",
+        ),
+        ("granule 0x40000000 -> ok", "ok"),
+        ("granule 0x40000000 -> 1 00", "00"),
+        ("sweep -> \u{e9}\u{1}x", "???x"),
+        (
+            "sweep -> aaaaaaaaaabbbbbbbbbbaaaaaaaaaabbbbbbbbbbaaaaaaaaaabbbbbbbbbbccc",
+            "aaaaaaaaaabbbbbbbbbbaaaaaaaaaabbbbbbbbbbaaaaaaaaaabbbbbbbbbb",
+        ),
+    ];
+    for (line, word) in rows {
+        let (status, told) = said(&rt, alloc, line, 10_000);
+        let wanted = format!(in alloc;
+            "heap_check: line 2: no answer has the word {word} there (docs/QUARANTINE.md: What it prints)\n"
+        ).expect(&rt, "there is memory");
+        assert_eq!(rt; status, 3);
+        assert_eq!(rt; told.as_slice(), wanted.as_bytes(), "{line:?}");
+    }
+}
+
+#[test]
+fn an_answer_that_lacks_or_ends_too_early_is_told(rt: HostRuntime) {
+    let lacks =
+        "heap_check: line 2: it has no arrow -> between blanks (docs/QUARANTINE.md: What it prints)\n";
+    let ends =
+        "heap_check: line 2: its answer ends too early (docs/QUARANTINE.md: What it prints)\n";
+    let rows = [
+        ("sweep", lacks),
+        ("malloc c1 16", lacks),
+        ("sweep ->", ends),
+        ("malloc c1 16 -> block 0x40000000", ends),
+        ("malloc c1 16 -> nospace swept", ends),
+        ("free c1 -> trap", ends),
+        (
+            "show c1 -> tag 1 address 0x0 base 0x0 top 0x0 perms 0x0 type 0x0 exponent",
+            ends,
+        ),
+        ("granule 0x40000000 -> 1", ends),
+    ];
+    for (line, text) in rows {
+        let (status, told) = said(&rt, rt.alloc(), line, 10_000);
+        assert_eq!(rt; status, 3);
+        assert_eq!(rt; told.as_slice(), text.as_bytes(), "{line:?}");
+    }
+}
+
+#[test]
+fn nothing_else_is_said(rt: HostRuntime) {
+    let rows = [
+        ("sweep -> cleared 0 released 0", 0),
+        ("sweep -> ok", 5),
+        ("given live 0x40000008 0x40000010", 5),
+    ];
+    for (line, wanted) in rows {
+        let (status, told) = said(&rt, rt.alloc(), line, 10_000);
+        assert_eq!(rt; status, wanted);
+        assert!(rt; told.is_empty(), "{line:?}");
+    }
+}
+
+#[test]
+fn a_word_that_can_not_be_told_changes_nothing(rt: HostRuntime) {
+    for room in [0, 20] {
+        let (status, told) = said(&rt, rt.alloc(), "free c1 -> held 0x10", room);
+        assert_eq!(rt; status, 3);
+        assert_eq!(rt; told.len(), room);
+    }
+}
+
 #[test]
 fn a_writer_without_room_is_status_4(rt: HostRuntime) {
     let (status, told) = answer(
@@ -486,7 +611,14 @@ fn a_reader_that_breaks_is_status_4(rt: HostRuntime) {
         has_failed: false,
     };
     let mut writer = Fixed::new();
-    let status = check_tool(&rt, rt.alloc(), &["heap_check"], &mut reader, &mut writer);
+    let status = check_tool(
+        &rt,
+        rt.alloc(),
+        &["heap_check"],
+        &mut reader,
+        &mut writer,
+        &mut Fixed::new(),
+    );
     assert_eq!(rt; status, 4);
     assert!(rt; writer.text().is_empty());
 }
@@ -499,7 +631,14 @@ fn each_read_that_fails_alone_is_status_4(rt: HostRuntime) {
     for number in 1..=READS + 1 {
         let mut reader = Failing::new(b"heap 0x40000000 1", 5, number);
         let mut writer = Fixed::new();
-        let status = check_tool(&rt, rt.alloc(), &["heap_check"], &mut reader, &mut writer);
+        let status = check_tool(
+            &rt,
+            rt.alloc(),
+            &["heap_check"],
+            &mut reader,
+            &mut writer,
+            &mut Fixed::new(),
+        );
         if number <= READS {
             assert_eq!(rt; status, 4, "read {number}");
             assert_eq!(rt; writer.text().len(), 0, "read {number}");
@@ -520,7 +659,14 @@ fn is_answered<R: Threads + Sync>(rt: &R, alloc: Global, log: &str, wanted: (u8,
         has_failed: false,
     };
     let mut writer = Fixed::new();
-    let status = check_tool(rt, alloc, &["heap_check"], &mut reader, &mut writer);
+    let status = check_tool(
+        rt,
+        alloc,
+        &["heap_check"],
+        &mut reader,
+        &mut writer,
+        &mut Fixed::new(),
+    );
     let (whole, text) = wanted;
     if status == 1 {
         writer.text() == b"fault memory\n".as_slice()

@@ -21,10 +21,10 @@ judged_is g c =
     IsAnswer-judged (texts c.args.words.now) _ _ c.in-Ok-read_text.text.items c.in-Ok.options c.check_answer.result named c.in-Ok-read_text.ensures.ok (search rules) c.check_answer.ensures.memory
 
 pub returns-in-Ok-read_text-clause-whole : goal.returns-in-Ok-read_text-clause-whole
-returns-in-Ok-read_text-clause-whole g c = λ e. HasAnswered-told _ _ _ _ _ _ (judged_is g c) (c.tell.ensures.whole e)
+returns-in-Ok-read_text-clause-whole g c = λ e. HasAnswered-told _ _ _ _ _ _ (judged_is g c) (c.tell-status.ensures.whole e)
 
 pub returns-in-Ok-read_text-clause-part : goal.returns-in-Ok-read_text-clause-part
-returns-in-Ok-read_text-clause-part g c = λ e. BeginsAnswer-told _ _ _ _ _ (judged_is g c) (c.tell.ensures.part e)
+returns-in-Ok-read_text-clause-part g c = λ e. BeginsAnswer-told _ _ _ _ _ (judged_is g c) (c.tell-status.ensures.part e)
 
 -- ---- a text that wasn't read
 
