@@ -27,9 +27,14 @@ fn answer<R: Threads + Sync>(
         room,
         has_failed: false,
     };
-    let mut errors = Fixed::new();
-    let status = check_tool(rt, alloc, words, &mut reader, &mut writer, &mut errors);
-    assert!(rt; status == 3 || errors.text().is_empty());
+    let status = check_tool(
+        rt,
+        alloc,
+        words,
+        &mut reader,
+        &mut writer,
+        &mut Fixed::new(),
+    );
     (status, writer.taken)
 }
 
@@ -473,11 +478,11 @@ fn faults_are_named(rt: HostRuntime) {
     }
 }
 
-// What is said beside a log whose second line is this, to a device with so much room.
-fn said<R: Threads + Sync>(rt: &R, alloc: Global, line: &str, room: usize) -> (u8, Vec<u8>) {
-    let text = format!(in alloc; "heap 0x40000000 1\n{line}").expect(rt, "there is memory");
+// What is said beside a log to a device with so much room, after its status; nothing where another fault than that of the
+// answer in line 2 is written.
+fn said<R: Threads + Sync>(rt: &R, alloc: Global, log: &str, room: usize) -> (u8, Vec<u8>) {
     let mut reader = Slow {
-        rest: text.as_bytes(),
+        rest: log.as_bytes(),
         step: 1000,
         breaks: false,
         has_failed: false,
@@ -491,8 +496,9 @@ fn said<R: Threads + Sync>(rt: &R, alloc: Global, line: &str, room: usize) -> (u
     };
     let words = ["heap_check"];
     let status = check_tool(rt, alloc, &words, &mut reader, &mut writer, &mut errors);
-    let fault = status != 3 || writer.text() == b"fault bad-answer 2\n".as_slice();
-    assert!(rt; fault, "{line:?}");
+    if status == 3 && writer.text() != b"fault bad-answer 2\n".as_slice() {
+        return (status, Vec::new(alloc));
+    }
     (status, errors.taken)
 }
 
@@ -531,7 +537,8 @@ fn the_word_that_was_not_taken_is_named(rt: HostRuntime) {
         ),
     ];
     for (line, word) in rows {
-        let (status, told) = said(&rt, alloc, line, 10_000);
+        let log = format!(in alloc; "heap 0x40000000 1\n{line}").expect(&rt, "there is memory");
+        let (status, told) = said(&rt, alloc, &log, 10_000);
         let wanted = format!(in alloc;
             "heap_check: line 2: no answer has the word {word} there (docs/QUARANTINE.md: What it prints)\n"
         ).expect(&rt, "there is memory");
@@ -560,7 +567,11 @@ fn an_answer_that_lacks_or_ends_too_early_is_told(rt: HostRuntime) {
         ("granule 0x40000000 -> 1", ends),
     ];
     for (line, text) in rows {
-        let (status, told) = said(&rt, rt.alloc(), line, 10_000);
+        let log = format!(in rt.alloc(); "heap 0x40000000 1\n{line}").expect(
+            &rt,
+            "there is memory",
+        );
+        let (status, told) = said(&rt, rt.alloc(), &log, 10_000);
         assert_eq!(rt; status, 3);
         assert_eq!(rt; told.as_slice(), text.as_bytes(), "{line:?}");
     }
@@ -574,7 +585,11 @@ fn nothing_else_is_said(rt: HostRuntime) {
         ("given live 0x40000008 0x40000010", 5),
     ];
     for (line, wanted) in rows {
-        let (status, told) = said(&rt, rt.alloc(), line, 10_000);
+        let log = format!(in rt.alloc(); "heap 0x40000000 1\n{line}").expect(
+            &rt,
+            "there is memory",
+        );
+        let (status, told) = said(&rt, rt.alloc(), &log, 10_000);
         assert_eq!(rt; status, wanted);
         assert!(rt; told.is_empty(), "{line:?}");
     }
@@ -583,7 +598,8 @@ fn nothing_else_is_said(rt: HostRuntime) {
 #[test]
 fn a_word_that_can_not_be_told_changes_nothing(rt: HostRuntime) {
     for room in [0, 20] {
-        let (status, told) = said(&rt, rt.alloc(), "free c1 -> held 0x10", room);
+        let log = "heap 0x40000000 1\nfree c1 -> held 0x10";
+        let (status, told) = said(&rt, rt.alloc(), log, room);
         assert_eq!(rt; status, 3);
         assert_eq!(rt; told.len(), room);
     }
