@@ -17,11 +17,6 @@ pub fails_with : {Y : Type 0} (fault : LogFault) (read : Result Y LogFault) → 
 fails_with (Trace Memory) read h = tt
 fails_with fault read h = h
 
--- a call that fails in the first of two steps
-pub fails_on : {X Y : Type 0} (fault : LogFault) (read : Result X LogFault) (next : X → Result Y LogFault) → Fails fault read → Fails fault (read >>= next)
-fails_on (Trace Memory) read next h = tt
-fails_on fault read next h = ap (λ r. r >>= next) h
-
 -- ---- given lines
 
 abbrev pub with_givens : List (ℕ × Given) → Result Start LogFault → Result Start LogFault

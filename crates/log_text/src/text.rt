@@ -99,7 +99,7 @@ pub fn read_start(alloc: Global, text: &[u8]) -> Result<Start<'_>, LogFault>
 }
 
 /// The log that a text of at most 16,777,216 bytes is, or its first fault.
-#[tactic(auto, using(crate::proofs::Texts::fails_on), unfolding(crate::specs::Log::log_of))]
+#[tactic(auto, unfolding(crate::specs::Log::log_of))]
 pub fn parse(alloc: Global, text: &[u8]) -> Result<Log, LogFault>
     ensures exact { Gives record_of result (log_of text.now) }
     ensures heap { IfOk result (λ log. IsHeap log.base log.pages) }
