@@ -4,7 +4,7 @@ ghost use Rattle.std.specs.Prelude.{◌≤◌, length};
 
 use log_text::{Asked, LogFault, asked_line, event_told, parse};
 use std::alloc::{AllocError, Global};
-use trace_text::{Line, split_line};
+use trace_text::{Line, TraceFault, split_line, split_name};
 
 // One answer of each form, with all words that it may have.
 const ANSWERS: [&str; 7] = [
@@ -140,15 +140,41 @@ fn push_wrong(text: &mut Vec<u8>, wrong: Wrong<'_>) -> Result<(), AllocError> {
     }
 }
 
-/// The line that names the word which isn't taken in the first answer of a log that isn't read; nothing for other texts.
+// The line of a fault that may lie in what stands where an arrow should.
+fn faulty_line(fault: &LogFault) -> Option<u32> {
+    match *fault {
+        LogFault::BadAnswer(line) => Some(line),
+        LogFault::Trace(TraceFault::BadCount(line) | TraceFault::BadNumber(line)) => Some(line),
+        LogFault::Trace(TraceFault::BadRegister(line) | TraceFault::BadData(line)) => Some(line),
+        _ => None,
+    }
+}
+
+// Whether a line that should have an arrow has none.
+fn lacks_arrow(line: &Line<'_>) -> bool {
+    let Some((name, words)) = split_name(line) else {
+        return false;
+    };
+    name != b"given".as_slice() && words.split_at_word(b"->").is_none()
+}
+
+/// The line that names the word which isn't taken in the first answer of a log that isn't read, or says that it has no arrow;
+/// nothing for other texts.
 pub fn hint(alloc: Global, log: &[u8]) -> Result<Option<Vec<u8>>, AllocError> {
-    let Err(LogFault::BadAnswer(number)) = parse(alloc, log) else {
+    let Err(fault) = parse(alloc, log) else {
+        return Ok(None);
+    };
+    let Some(number) = faulty_line(&fault) else {
         return Ok(None);
     };
     let Some(line) = line_numbered(log, number) else {
         return Ok(None);
     };
-    let wrong = wrong_in(alloc, &line)?;
+    let wrong = match fault {
+        LogFault::BadAnswer(_) => wrong_in(alloc, &line)?,
+        LogFault::Trace(_) if lacks_arrow(&line) => Wrong::NoArrow,
+        LogFault::Trace(_) => return Ok(None),
+    };
     let begun = format!(in alloc; "heap_check: line {number}: ")?;
     let mut text = begun.into_bytes();
     push_wrong(&mut text, wrong)?;
