@@ -6,9 +6,9 @@ ghost use Rattle.byte_machine.specs.Calls.{IsJudged, IsUnreadable};
 ghost use Rattle.byte_machine.specs.Judged.{IsJudgedBy};
 
 use crate::fault::CallFault;
-use crate::machines::{machine_in, put_text};
+use crate::machines::machine_in;
 use heap_machine::{Followed, Machine, Reply, Why};
-use state_bytes::exactness;
+use state_bytes::{encode_into, exactness};
 use std::alloc::Global;
 use sweep_pool::Open;
 use trace_text::Command;
@@ -56,7 +56,7 @@ pub fn follow(
     }
     match judge(alloc, state, command, answer)? {
         Judged::Agrees(machine) => {
-            put_text(alloc, &machine, out)?;
+            encode_into(&machine, out);
             Ok(Followed::Agrees)
         }
         Judged::Differs(why) => Ok(Followed::Differs(why)),

@@ -1,13 +1,12 @@
-//! Machines from bytes, and back into a room for them.
+//! Machines from bytes.
 
-ghost use Rattle.std.specs.Prelude.{◌≡◌, IfErr, IfOk, OnErr, OnOk, length};
-ghost use Rattle.state_bytes.specs.State.{IsWhole};
-ghost use Rattle.state_bytes.specs.Text.{text_length, text_of};
+ghost use Rattle.std.specs.Prelude.{◌≡◌, IfErr, IfOk, length};
+ghost use Rattle.state_bytes.specs.Text.{text_length};
 ghost use Rattle.byte_machine.specs.Calls.{IsTextOf, IsUnreadable};
 
 use crate::fault::CallFault;
 use heap_machine::Machine;
-use state_bytes::{BytesFault, decode, encode, texts};
+use state_bytes::{BytesFault, decode, texts};
 use std::alloc::Global;
 use sweep_pool::Cutting;
 
@@ -34,20 +33,4 @@ pub fn machine_in(alloc: Global, state: &[u8]) -> Result<Machine, CallFault>
         Err(BytesFault::Memory) => Err(CallFault::Memory),
         Err(why) => Err(CallFault::State(why)),
     }
-}
-
-// Writes the bytes of a machine into a room of their length.
-pub fn put_text(alloc: Global, machine: &Machine, out: &mut [u8]) -> Result<(), CallFault>
-    requires { length out.old ≡ text_length (length machine.now.dirty) }
-    ensures text { OnOk result (out.new ≡ text_of machine.now) }
-    ensures whole { IsWhole machine.now }
-    ensures still { OnErr result (out.new ≡ out.old) }
-    ensures fault { IfErr result (λ fault. fault ≡ CallFault.Memory) }
-{
-    texts();
-    let Ok(bytes) = encode(alloc, machine) else {
-        return Err(CallFault::Memory);
-    };
-    out.copy_from_slice(&bytes);
-    Ok(())
 }

@@ -9,9 +9,9 @@ ghost use Rattle.trace_text.specs.Command.{IsValid};
 ghost use Rattle.byte_machine.specs.Calls.{IsFirst, IsJudged, IsNotFirst, IsStep, IsUnreadable, LeadsTo};
 
 use crate::fault::CallFault;
-use crate::machines::{alone, machine_in, put_text};
+use crate::machines::{alone, machine_in};
 use heap_machine::{Followed, Machine, Reply};
-use state_bytes::exactness;
+use state_bytes::{encode_into, exactness};
 use std::alloc::Global;
 use sweep_pool::Open;
 use tag_memory::{is_base, is_size};
@@ -52,7 +52,8 @@ pub fn first(alloc: Global, base: u64, pages: u32, out: &mut [u8]) -> Result<(),
     let Ok(machine) = Machine::new(alloc, base, pages, alone()) else {
         return Err(CallFault::Memory);
     };
-    put_text(alloc, &machine, out)
+    encode_into(&machine, out);
+    Ok(())
 }
 
 // The machine after a step from a state, and the reply.
@@ -87,7 +88,7 @@ pub fn step(
     if out.len() != state.len() {
         return Err(CallFault::Room);
     }
-    let (machine, reply) = stepped(alloc, state, command)?;
-    put_text(alloc, &machine, out)?;
+    let (after, reply) = stepped(alloc, state, command)?;
+    encode_into(&after, out);
     Ok(reply)
 }

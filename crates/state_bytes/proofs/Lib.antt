@@ -3,11 +3,15 @@ pub mod ExactLaws
 pub mod NumberLaws
 pub mod OneText
 pub mod PartLaws
+pub mod PieceLaws
 pub mod ReadLaws
 pub mod ReplayLaws
 pub mod SameBlocks
 pub mod SameTexts
+pub mod StandingLaws
 pub mod StartReplay
 pub mod StartsLaws
 pub mod TextLaws
 pub mod UptoLaws
+pub mod WholeText
+pub mod WritingLaws

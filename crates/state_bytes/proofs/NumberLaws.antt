@@ -5,9 +5,8 @@ use Rattle.heap_core.specs.Found.{IsFound, IsInNoBlock, blocks_in}
 use Rattle.heap_core.specs.Heap.{HeapState, IsSound}
 use Rattle.heap_core.specs.declared.block.Kind.{Kind}
 use Rattle.heap_core.specs.declared.block.Kind.TheVariants.{Live, Painted, Waiting}
-use Rattle.state_bytes.specs.Start.{HasNoStart}
 use Rattle.state_bytes.specs.Text.{block_number, kind_number, length_told, numbered, starts_in}
-use Rattle.state_bytes.proofs.StartsLaws.{length_in-found, length_in-none, length_in-other, none_within, starts_apart, starts_even}
+use Rattle.state_bytes.proofs.StartsLaws.{length_in-found, length_in-none, length_in-other, starts_apart, starts_even}
 
 -- ---- three lengths in one number
 
@@ -133,9 +132,3 @@ number-found s a base top Painted sound found at =
     let here = length_in-found s a base top Painted sound found at in
     number_of s a 0 0 (top - a) (length_in-other s a base top Painted Live sound found (λ at same. absurd cc)) (length_in-other s a base top Painted Waiting sound found (λ at same. absurd cc)) here
     ∙ omega (arith, numbered_some 3 (top - a) (omega (arith, found.before, found.from, at)))
-
--- And none starts within it.
-pub HasNoStart-found : (s : HeapState) (a base top : ℕ) (kind : Kind) → IsSound s → IsFound s a base top kind → base ≡ a → HasNoStart s (a + 1) top
-HasNoStart-found s a base top kind sound found at = λ b from before.
-    let none = λ (wanted : Kind). none_within s base top b kind wanted sound found.block (omega (arith, from, at)) before in
-    number_of s b 0 0 0 (none Live) (none Waiting) (none Painted)

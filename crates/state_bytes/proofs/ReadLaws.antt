@@ -8,6 +8,7 @@ use Rattle.byteorder.specs.Numbers.{little_number-reads_back}
 use Rattle.heap_machine.specs.Parts.{MachineState}
 use Rattle.tag_memory.specs.Cells.{Cell, Granule, AreRegisters, is_dirty_at, null_cell, register_at, with_register}
 use Rattle.state_bytes.specs.State.{IsWhole}
+use Rattle.state_bytes.specs.Writing.{StandsAt}
 use Rattle.state_bytes.specs.Text.{block_number, dirty_text, flag_byte, granule_text, head_text, kind_number, length_told, memory_text, register_text, starts_in, text_length, text_of, texts_below}
 use Rattle.state_bytes.proofs.NumberLaws.{length_of_number}
 use Rattle.heap_core.specs.Found.{blocks_in}
@@ -15,17 +16,12 @@ use Rattle.heap_core.specs.declared.block.Kind.{Kind}
 use Rattle.state_bytes.proofs.OneText.{register_fits, register_other, short_of, sizes_of}
 use Rattle.state_bytes.proofs.SameTexts.{length_dirty, length_granule, length_head, length_little, length_register}
 
--- The piece stands at a place of the bytes.
-pub record StandsAt (bytes : List ℕ) (at : ℕ) (piece : List ℕ) : Type 0 where
-  pub rest : List ℕ
-  pub is : drop at bytes ≡ piece ++ rest
-
-offset : ℕ → ℕ → ℕ
+abbrev pub offset : ℕ → ℕ → ℕ
 offset w zero = 0
 offset w (suc n) = offset w n + w
 
-texts_long : (f : ℕ → List ℕ) (w n : ℕ) → ((k : ℕ) → length (f k) ≡ w) → length (texts_below f n) ≡ offset w n
-unfolding texts_below offset
+pub texts_long : (f : ℕ → List ℕ) (w n : ℕ) → ((k : ℕ) → length (f k) ≡ w) → length (texts_below f n) ≡ offset w n
+unfolding texts_below
 texts_long f w zero each = refl
 texts_long f w (suc n) each = omega (arith, length-append (texts_below f n) (f n), texts_long f w n each, each n)
 
@@ -47,18 +43,15 @@ texts_at f w (suc n) i tail each lt =
           }
     ]
 
-offset_is_21 : (i : ℕ) → offset 21 i ≡ 21 * i
-unfolding offset
+pub offset_is_21 : (i : ℕ) → offset 21 i ≡ 21 * i
 offset_is_21 zero = refl
 offset_is_21 (suc i) = omega (arith, offset_is_21 i)
 
-offset_is_17 : (i : ℕ) → offset 17 i ≡ 17 * i
-unfolding offset
+pub offset_is_17 : (i : ℕ) → offset 17 i ≡ 17 * i
 offset_is_17 zero = refl
 offset_is_17 (suc i) = omega (arith, offset_is_17 i)
 
-offset_is_1 : (i : ℕ) → offset 1 i ≡ i
-unfolding offset
+pub offset_is_1 : (i : ℕ) → offset 1 i ≡ i
 offset_is_1 zero = refl
 offset_is_1 (suc i) = omega (arith, offset_is_1 i)
 

@@ -1,5 +1,5 @@
 pub mod Reading
 pub mod Replay
-pub mod Start
 pub mod State
 pub mod Text
+pub mod Writing

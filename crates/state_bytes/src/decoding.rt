@@ -1,6 +1,6 @@
 //! A machine from the bytes of its state.
 
-ghost use Rattle.std.specs.Prelude.{◌≡◌, ◌≢◌, ◌≤◌, ◌==◌, ◌*◌, IfErr, IfOk, drop, length, slice_index_or, true};
+ghost use Rattle.std.specs.Prelude.{◌≡◌, ◌≢◌, ◌≤◌, ◌==◌, ℕ, IfErr, IfOk, drop, false, length, slice_index_or};
 ghost use Rattle.byteorder.specs.Endian.{little_number};
 ghost use Rattle.heap_machine.specs.Making.{made};
 ghost use Rattle.heap_machine.specs.Parts.{MachineState};
@@ -10,7 +10,7 @@ ghost use Rattle.state_bytes.specs.Text.{text_of};
 ghost use Rattle.state_bytes.specs.Text as text;
 
 use crate::blocks::read_blocks;
-use crate::encoding::encode;
+use crate::comparing::is_text;
 use crate::fault::BytesFault;
 use crate::laws::texts;
 use crate::places::{HEAD, OPEN, PAGES, REGISTER, ROW, text_length};
@@ -44,23 +44,13 @@ pub fn decode(alloc: Global, cutting: Cutting, bytes: &[u8]) -> Result<Machine, 
         Ok(machine) => machine,
         Err(why) => return Err(why),
     };
-    let Ok(again) = encode(alloc, &machine) else {
-        return Err(BytesFault::Memory);
-    };
-    if !are_same(&again, bytes) {
+    if !is_text(bytes, &machine) {
         return Err(BytesFault::Spelling);
     }
     Ok(machine)
 }
 
-fn are_same(a: &[u8], b: &[u8]) -> bool
-    ensures yes { result ≡ true → a.now ≡ b.now }
-    ensures no { a.now ≡ b.now → result ≡ true }
-{
-    a == b
-}
-
-// A machine as the bytes say. Whether they are its own shows when it is told of again.
+// A machine as the bytes say. Whether they are its own shows when they are compared.
 fn read(alloc: Global, cutting: Cutting, bytes: &[u8]) -> Result<Machine, BytesFault>
     ensures exact { IfOk result (λ machine. AreExact machine.state.heap) }
     ensures cutting { IfOk result (λ machine. machine.cutting ≡ cutting) }
@@ -119,7 +109,8 @@ fn head_in(bytes: &[u8]) -> Head
 
 // The granules, the dirty pages and the registers.
 fn read_words(memory: &mut Memory, bytes: &[u8]) -> Registers
-    requires { length bytes.now ≡ text.text_length (length memory.old.dirty) }
+    requires length { length bytes.now ≡ text.text_length (length memory.old.dirty) }
+    requires zero { (k : ℕ) → slice_index_or memory.old.cells k (0, false) ≡ (0, false) }
     ensures base { memory.new.base ≡ memory.old.base }
     ensures memory { (m : MachineState) → IsState m → text_of m ≡ bytes.now → length m.dirty ≡ length memory.old.dirty
         → (memory.new.cells ≡ m.state.cells) × (memory.new.dirty ≡ m.dirty) }

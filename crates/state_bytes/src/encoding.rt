@@ -1,13 +1,14 @@
 //! A machine's state as bytes.
 
-ghost use Rattle.std.specs.Prelude.{◌≡◌, ◌<◌, ◌≤◌, ◌+◌, ◌*◌, ◌++◌, ◌∷◌, [], IfOk, OnOk, length};
+ghost use Rattle.std.specs.Prelude.{◌≡◌, ◌<◌, ◌≤◌, ◌+◌, ◌*◌, ◌∷◌, [], IfOk, length};
 ghost use Rattle.byteorder.specs.Endian.{little_bytes};
 ghost use Rattle.tag_memory.specs.Cells.{register_count};
-ghost use Rattle.state_bytes.specs.Start.{HasNoStart};
 ghost use Rattle.state_bytes.specs.State.{IsWhole};
 ghost use Rattle.state_bytes.specs.Text.{block_number, dirty_text, flag_byte, granule_text, head_text, kind_number, memory_text, register_text, text_of, texts_below};
+ghost use Rattle.state_bytes.specs.Text as text;
+ghost use Rattle.state_bytes.specs.Writing.{IsWritten};
 
-use crate::places::text_length;
+use crate::places::{HEAD, NUMBER, OPEN, PAGES, REGISTER, ROW, TAG, text_length};
 use byteorder::{ByteOrder, LittleEndian};
 use heap_core::{Heap, Kind};
 use heap_machine::Machine;
@@ -20,85 +21,85 @@ pub fn encode(alloc: Global, machine: &Machine) -> Result<Vec<u8>, AllocError>
     ensures text { IfOk result (λ bytes. bytes.items ≡ text_of machine.now) }
     ensures whole { IsWhole machine.now }
 {
-    machine.whole();
+    tell_whole(machine);
+    let mut bytes = vec![in alloc; 0; text_length(machine.memory().pages())]?;
+    encode_into(machine, &mut bytes);
+    Ok(bytes)
+}
+
+/// Writes the bytes that tell of a machine's state into a room that is as long.
+pub fn encode_into(machine: &Machine, out: &mut [u8])
+    requires room { length out.old ≡ text.text_length (length machine.now.dirty) }
+    ensures text { out.new ≡ text_of machine.now }
+    ensures whole { IsWhole machine.now }
+{
+    tell_whole(machine);
     let heap = machine.heap();
     let memory = machine.memory();
-    let registers = machine.registers();
-    memory.whole();
-    registers.whole();
-    let pages = memory.pages();
-    let mut out = Vec::with_capacity(alloc, text_length(pages))?;
-    put_head(&mut out, heap.base(), pages, heap.is_open())?;
-    put_memory(&mut out, heap, memory)?;
-    put_registers(&mut out, registers)?;
-    put_dirty(&mut out, memory)?;
-    Ok(out)
+    let at = HEAD + ROW * memory.granules();
+    put_head(out, heap.base(), memory.pages(), heap.is_open());
+    put_memory(out, heap, memory);
+    put_registers(out, at, machine.registers());
+    put_dirty(out, at + REGISTER * REGISTERS as usize, memory);
 }
 
-#[tactic(auto, unfolding(crate::specs::Text::head_text))]
-fn put_head(out: &mut Vec<u8>, base: u64, pages: u32, is_open: bool) -> Result<(), AllocError>
-    ensures { OnOk result (out.new.items ≡ out.old.items ++ head_text base pages is_open) }
+/// Tells what holds of every machine. Nothing is done.
+pub fn tell_whole(machine: &Machine)
+    ensures { IsWhole machine.now }
 {
-    put_8(out, base)?;
-    put_4(out, pages)?;
-    put_flag(out, is_open)?;
-    Ok(())
+    machine.whole();
+    machine.memory().whole();
+    machine.registers().whole();
 }
 
-// All granules. Past its start a block has no granule at which one could start, so none is looked for there.
-fn put_memory(out: &mut Vec<u8>, heap: &Heap, memory: &Memory) -> Result<(), AllocError>
-    requires { 16 * length memory.now.cells ≡ heap.now.size }
-    ensures { OnOk result (out.new.items ≡ out.old.items ++ memory_text heap.now memory.now.cells) }
+fn put_head(out: &mut [u8], base: u64, pages: u32, is_open: bool)
+    requires inside { 13 ≤ length out.old }
+    ensures { IsWritten out.old 0 (head_text base pages is_open) out.new }
 {
-    let mut end = 0;
+    put_8(out, 0, base);
+    put_4(out, PAGES, pages);
+    put_flag(out, OPEN, is_open);
+}
+
+// All granules.
+fn put_memory(out: &mut [u8], heap: &Heap, memory: &Memory)
+    requires same { 16 * length memory.now.cells ≡ heap.now.size }
+    requires inside { 13 + 21 * length memory.now.cells ≤ length out.old }
+    ensures { IsWritten out.old 13 (memory_text heap.now memory.now.cells) out.new }
+{
     for i in 0..memory.granules() {
         let (bits, tag) = memory.cell(i);
-        end = put_granule(out, heap, i, bits, tag, end)?;
+        put_granule(out, heap, i, bits, tag);
     }
-    Ok(())
 }
 
-// One granule. The last block found ends at `end`, or it is 0; the answer is the same once the granule is told of.
-fn put_granule(
-    out: &mut Vec<u8>,
-    heap: &Heap,
-    i: usize,
-    bits: u128,
-    tag: bool,
-    end: u128,
-) -> Result<u128, AllocError>
+// One granule.
+fn put_granule(out: &mut [u8], heap: &Heap, i: usize, bits: u128, tag: bool)
+    requires granule { 16 * i < heap.now.size }
+    requires inside { 13 + 21 * (i + 1) ≤ length out.old }
+    ensures { IsWritten out.old (13 + 21 * i) (granule_text heap.now i (bits, tag)) out.new }
+{
+    let at = HEAD + ROW * i;
+    put_16(out, at, bits);
+    put_flag(out, at + TAG, tag);
+    put_4(out, at + NUMBER, number_at(heap, i));
+}
+
+/// The number of the block that starts at a granule, or 0.
+pub fn number_at(heap: &Heap, i: usize) -> u32
     requires inside { 16 * i < heap.now.size }
-    requires none { HasNoStart heap.now (heap.now.base + 16 * i) end }
-    ensures text { OnOk result (out.new.items ≡ out.old.items ++ granule_text heap.now i (bits, tag)) }
-    ensures none { IfOk result (λ after. HasNoStart heap.now (heap.now.base + 16 * (i + 1)) after) }
+    ensures { result ≡ block_number heap.now (heap.now.base + 16 * i) }
 {
     heap.whole();
     let address = heap.base() + GRANULE * i as u64;
-    let (number, after) = number_at(heap, address, end);
-    put_16(out, bits)?;
-    put_flag(out, tag)?;
-    put_4(out, number)?;
-    Ok(after)
-}
-
-// The number of the block that starts at an address, or 0; and where the last block found ends then.
-fn number_at(heap: &Heap, address: u64, end: u128) -> (u32, u128)
-    requires { HasNoStart heap.now address end }
-    ensures number { result.0 ≡ block_number heap.now address }
-    ensures none { HasNoStart heap.now (address + 1) result.1 }
-{
-    if u128::from(address) < end {
-        return (0, end);
-    }
-    heap.whole();
     let Some((block, kind)) = heap.block_of(address) else {
-        return (0, end);
+        return 0;
     };
     if block.base != address {
-        return (0, end);
+        return 0;
     }
-    let length = (block.top - u128::from(address)) as u32;
-    (length + number_of_kind(kind), block.top)
+    let length = (block.top - u128::from(block.base)) as u32;
+    length + number_of_kind(kind)
 }
 
 /// The number of a kind of block.
@@ -113,55 +114,59 @@ pub fn number_of_kind(kind: Kind) -> u32
     }
 }
 
-fn put_registers(out: &mut Vec<u8>, registers: &Registers) -> Result<(), AllocError>
-    ensures { OnOk result (out.new.items ≡ out.old.items ++ texts_below (register_text registers.now) register_count) }
+fn put_registers(out: &mut [u8], start: usize, registers: &Registers)
+    requires inside { start + 17 * register_count ≤ length out.old }
+    ensures { IsWritten out.old start (texts_below (register_text registers.now) register_count) out.new }
 {
     for r in 0..REGISTERS {
         let (word, tag) = registers.get(r);
-        put_16(out, word.bits)?;
-        put_flag(out, tag)?;
+        let at = start + REGISTER * r as usize;
+        put_16(out, at, word.bits);
+        put_flag(out, at + TAG, tag);
     }
-    Ok(())
 }
 
-fn put_dirty(out: &mut Vec<u8>, memory: &Memory) -> Result<(), AllocError>
-    ensures { OnOk result (out.new.items ≡ out.old.items ++ texts_below (dirty_text memory.now.dirty) (length memory.now.dirty)) }
+fn put_dirty(out: &mut [u8], start: usize, memory: &Memory)
+    requires inside { start + length memory.now.dirty ≤ length out.old }
+    ensures { IsWritten out.old start (texts_below (dirty_text memory.now.dirty) (length memory.now.dirty)) out.new }
 {
     memory.whole();
     for page in 0..memory.pages() {
-        put_flag(out, memory.dirty(page))?;
+        put_flag(out, start + page as usize, memory.dirty(page));
     }
-    Ok(())
 }
 
-fn put_flag(out: &mut Vec<u8>, flag: bool) -> Result<(), AllocError>
-    ensures { OnOk result (out.new.items ≡ out.old.items ++ (flag_byte flag ∷ [])) }
+fn put_flag(out: &mut [u8], at: usize, flag: bool)
+    requires inside { at < length out.old }
+    ensures { IsWritten out.old at (flag_byte flag ∷ []) out.new }
 {
-    let byte = if flag { 1 } else { 0 };
-    out.push(byte)?;
-    Ok(())
+    out[at] = byte_of(flag);
 }
 
-fn put_4(out: &mut Vec<u8>, number: u32) -> Result<(), AllocError>
-    ensures { OnOk result (out.new.items ≡ out.old.items ++ little_bytes 4 number) }
+/// A flag in a byte.
+pub fn byte_of(flag: bool) -> u8
+    ensures { result ≡ flag_byte flag }
 {
-    let mut bytes = [0; 4];
-    LittleEndian::write_u32(&mut bytes, number);
-    out.extend_from_slice(&bytes)
+    if flag { 1 } else { 0 }
 }
 
-fn put_8(out: &mut Vec<u8>, number: u64) -> Result<(), AllocError>
-    ensures { OnOk result (out.new.items ≡ out.old.items ++ little_bytes 8 number) }
+fn put_4(out: &mut [u8], at: usize, number: u32)
+    requires inside { at + 4 ≤ length out.old }
+    ensures { IsWritten out.old at (little_bytes 4 number) out.new }
 {
-    let mut bytes = [0; 8];
-    LittleEndian::write_u64(&mut bytes, number);
-    out.extend_from_slice(&bytes)
+    LittleEndian::write_u32(&mut out[at..at + 4], number);
 }
 
-fn put_16(out: &mut Vec<u8>, number: u128) -> Result<(), AllocError>
-    ensures { OnOk result (out.new.items ≡ out.old.items ++ little_bytes 16 number) }
+fn put_8(out: &mut [u8], at: usize, number: u64)
+    requires inside { at + 8 ≤ length out.old }
+    ensures { IsWritten out.old at (little_bytes 8 number) out.new }
 {
-    let mut bytes = [0; 16];
-    LittleEndian::write_u128(&mut bytes, number);
-    out.extend_from_slice(&bytes)
+    LittleEndian::write_u64(&mut out[at..at + 8], number);
+}
+
+fn put_16(out: &mut [u8], at: usize, number: u128)
+    requires inside { at + 16 ≤ length out.old }
+    ensures { IsWritten out.old at (little_bytes 16 number) out.new }
+{
+    LittleEndian::write_u128(&mut out[at..at + 16], number);
 }

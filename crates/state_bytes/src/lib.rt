@@ -2,6 +2,7 @@
 #![tactic(auto)]
 
 mod blocks;
+mod comparing;
 mod decoding;
 mod encoding;
 mod fault;
@@ -10,6 +11,6 @@ mod places;
 mod words;
 
 pub use crate::decoding::decode;
-pub use crate::encoding::encode;
+pub use crate::encoding::{encode, encode_into};
 pub use crate::fault::BytesFault;
 pub use crate::laws::{exactness, texts};

@@ -1,6 +1,6 @@
 //! The granules, dirty pages and registers that bytes tell of.
 
-ghost use Rattle.std.specs.Prelude.{◌≡◌, ◌<◌, ◌≤◌, ◌+◌, ◌*◌, Bool, if◌then◌else◌, length, slice_set, true};
+ghost use Rattle.std.specs.Prelude.{◌≡◌, ◌<◌, ◌≤◌, ◌+◌, ◌*◌, ℕ, Bool, false, if◌then◌else◌, length, slice_index_or, slice_set, true};
 ghost use Rattle.heap_machine.specs.Parts.{MachineState};
 ghost use Rattle.tag_memory.specs.Cells.{register_count};
 ghost use Rattle.state_bytes.specs.State.{IsState};
@@ -11,9 +11,10 @@ use byteorder::{ByteOrder, LittleEndian};
 use cap_codec::Word;
 use tag_memory::{Memory, PAGE_GRANULES, REGISTERS, Registers};
 
-/// Writes the granules that bytes tell of.
+/// Writes the granules that bytes tell of into a memory that is zero and untagged.
 pub fn read_cells(memory: &mut Memory, bytes: &[u8])
     requires rows { 13 + 21 * length memory.old.cells ≤ length bytes.now }
+    requires zero { (k : ℕ) → slice_index_or memory.old.cells k (0, false) ≡ (0, false) }
     ensures count { length memory.new.cells ≡ length memory.old.cells }
     ensures pages { length memory.new.dirty ≡ length memory.old.dirty }
     ensures base { memory.new.base ≡ memory.old.base }
@@ -23,8 +24,22 @@ pub fn read_cells(memory: &mut Memory, bytes: &[u8])
     for i in 0..memory.granules() {
         let at = HEAD + ROW * i;
         let bits = LittleEndian::read_u128(&bytes[at..]);
-        memory.put(i, bits, bytes[at + TAG] == 1);
+        put_over_zero(memory, i, bits, bytes[at + TAG] == 1);
     }
+}
+
+// Writes a granule that is zero and untagged, if it is to be another.
+fn put_over_zero(memory: &mut Memory, granule: usize, bits: u128, tag: bool)
+    requires inside { granule < length memory.old.cells }
+    requires zero { slice_index_or memory.old.cells granule (0, false) ≡ (0, false) }
+    ensures cells { memory.new.cells ≡ slice_set memory.old.cells granule (bits, tag) }
+    ensures pages { length memory.new.dirty ≡ length memory.old.dirty }
+    ensures base { memory.new.base ≡ memory.old.base }
+{
+    if bits == 0 && !tag {
+        return;
+    }
+    memory.put(granule, bits, tag);
 }
 
 /// Makes the pages dirty that bytes tell of, from `start` on, and the others clean.

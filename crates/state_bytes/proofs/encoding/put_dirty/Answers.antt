@@ -1,11 +1,16 @@
+use Rattle.std.proofs.Common.{◌≡◌, ◌∙◌, ◌<◌, ◌≤◌, ◌+◌, ◌*◌, ◌^◌, ℕ, false, true, get_or, length, refl, sym, ap, subst, rules, eq-eqb, arith}
 use Rattle.state_bytes.specs.Text.{dirty_text}
-use Rattle.state_bytes.proofs.TextLaws.{dirty_is, texts_more, texts_none}
+use Rattle.state_bytes.proofs.PieceLaws.{dirty_long}
+use Rattle.state_bytes.proofs.TextLaws.{dirty_is}
+use Rattle.state_bytes.proofs.WritingLaws.{written_begin, written_more}
 use Rattle.state_bytes.proofs.encoding.put_dirty.Goals as goal
 
 pub loop-page-init : goal.loop-page-init
-loop-page-init c = texts_none _ _
+loop-page-init c = written_begin (dirty_text c.args.memory.now.dirty) c.args.out.now c.args.start
 
 pub loop-page-preserved : goal.loop-page-preserved
 loop-page-preserved c =
-    texts_more (dirty_text c.args.memory.now.dirty) c.loop-page.page _ _ _ _ c.loop-page.invariant c.in_ok-put_flag.ensures
-    (dirty_is c.args.memory.now.dirty c.loop-page.page c.dirty.result c.dirty.ensures)
+    let long = dirty_long c.args.memory.now.dirty c.loop-page.page in
+    let lt : c.loop-page.page < length c.args.memory.now.dirty = search rules in
+    written_more c.args.out.now c.loop-page.out c.put_flag.new.out (dirty_text c.args.memory.now.dirty) _ c.args.start (c.args.start + c.loop-page.page) c.loop-page.page
+    (omega (arith, long, c.requires.inside, lt)) (omega (arith, long)) (dirty_is c.args.memory.now.dirty c.loop-page.page c.dirty.result c.dirty.ensures) c.loop-page.invariant c.put_flag.ensures

@@ -1,27 +1,37 @@
-use Rattle.std.proofs.Common.{◌≡◌, ◌∙◌, ◌<◌, ◌+◌, ◌*◌, ◌==◌, List, false, get_or, length, length-set, refl, set, sym, ap, arith}
-use Rattle.std.proofs.lemmas.List.{ext_get_or}
-use Rattle.tag_memory.specs.Cells.{Granule, MemoryState}
-use Rattle.state_bytes.proofs.DirtyPut.{marks_length}
+use Rattle.std.proofs.Common.{◌≡◌, ◌∙◌, ◌<◌, ◌+◌, ◌*◌, ◌==◌, List, Bool, false, get_or, length, length-set, refl, sym, ap, arith}
+use Rattle.std.proofs.lemmas.List.{ext_get_or, get_or-set_other}
+use Rattle.tag_memory.specs.Cells.{Granule}
 use Rattle.state_bytes.proofs.ReadLaws.{cells_more}
 use Rattle.state_bytes.proofs.ReplayLaws.{from_place}
 use Rattle.state_bytes.proofs.words.read_cells.Goals as goal
 
+pub put_over_zero-requires-clause-zero : goal.put_over_zero-requires-clause-zero
+put_over_zero-requires-clause-zero c = c.loop-i.invariant.rest c.loop-i.i (omega arith)
+
+pub loop-i-init : goal.loop-i-init
+loop-i-init c = record {
+  count = refl;
+  pages = refl;
+  base = refl;
+  rest = λ k from. c.requires.zero k;
+  all = λ m state text count k less. absurd (omega (arith, less));
+}
+
 pub loop-i-preserved : goal.loop-i-preserved
 loop-i-preserved c =
-    let tag = get_or c.args.bytes.now (13 + 21 * c.loop-i.i + 16) 0 == 1 in
-    let cells : c.put.new.self.cells ≡ set c.loop-i.memory.cells c.loop-i.i (c.read_u128-bits.result, get_or c.args.bytes.now (13 + 21 * c.loop-i.i + 16) 0 == 1) =
-    ap (λ (s : MemoryState). s.cells) c.put.ensures in
+    let tag : Bool = get_or c.args.bytes.now (13 + 21 * c.loop-i.i + 16) 0 == 1 in
+    let cells = c.put_over_zero.ensures.cells in
     let lt : c.loop-i.i < length c.loop-i.memory.cells = omega (arith, c.loop-i-test.true, c.loop-i.invariant.count, c.granules-i-end.ensures) in
     record {
-      count = ap (λ (xs : List Granule). length xs) cells
-          ∙ (length-set c.loop-i.memory.cells c.loop-i.i (c.read_u128-bits.result, get_or c.args.bytes.now (13 + 21 * c.loop-i.i + 16) 0 == 1) ∙ c.loop-i.invariant.count);
-      pages = ap (λ (s : MemoryState). length s.dirty) c.put.ensures
-          ∙ (marks_length c.loop-i.memory.dirty c.loop-i.i (get_or c.args.bytes.now (13 + 21 * c.loop-i.i + 16) 0 == 1) ∙ c.loop-i.invariant.pages);
-      base = ap (λ (s : MemoryState). s.base) c.put.ensures ∙ c.loop-i.invariant.base;
+      count = ap (λ (xs : List Granule). length xs) cells ∙ (length-set c.loop-i.memory.cells c.loop-i.i (c.read_u128-bits.result, tag) ∙ c.loop-i.invariant.count);
+      pages = c.put_over_zero.ensures.pages ∙ c.loop-i.invariant.pages;
+      base = c.put_over_zero.ensures.base ∙ c.loop-i.invariant.base;
+      rest = λ k from.
+          ap (λ (xs : List Granule). get_or xs k (0, false)) cells
+          ∙ (get_or-set_other c.loop-i.memory.cells c.loop-i.i k (c.read_u128-bits.result, tag) (0, false) (λ same. omega (arith, from, same)) ∙ c.loop-i.invariant.rest k (omega (arith, from)));
       all = λ m state text count k less.
           ap (λ (xs : List Granule). get_or xs k (0, false)) cells
-          ∙ cells_more m c.args.bytes.now c.loop-i.memory.cells c.loop-i.i c.read_u128-bits.result (get_or c.args.bytes.now (13 + 21 * c.loop-i.i + 16) 0 == 1) state.whole text
-          (count ∙ sym c.loop-i.invariant.count) lt
+          ∙ cells_more m c.args.bytes.now c.loop-i.memory.cells c.loop-i.i c.read_u128-bits.result tag state.whole text (count ∙ sym c.loop-i.invariant.count) lt
           (from_place 16 (13 + 21 * c.loop-i.i) (13 + 21 * c.loop-i.i) c.args.bytes.now c.read_u128-bits.result c.read_u128-bits.ensures refl) refl
           (c.loop-i.invariant.all m state text count) k less;
     }

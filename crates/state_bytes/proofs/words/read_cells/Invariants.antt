@@ -1,5 +1,5 @@
--- The granules so far are the machine's.
-use Rattle.std.proofs.Common.{◌≡◌, ◌<◌, ℕ, false, get_or, length}
+-- The granules so far are the machine's, and the others are zero.
+use Rattle.std.proofs.Common.{◌≡◌, ◌<◌, ◌≤◌, ℕ, false, get_or, length}
 use Rattle.heap_machine.specs.Parts.{MachineState}
 use Rattle.state_bytes.specs.State.{IsState}
 use Rattle.state_bytes.specs.Text.{text_of}
@@ -10,6 +10,7 @@ invariant-loop-i l = record {
   count : length l.memory.cells ≡ length l.fn.memory.cells;
   pages : length l.memory.dirty ≡ length l.fn.memory.dirty;
   base : l.memory.base ≡ l.fn.memory.base;
+  rest : (k : ℕ) → l.i ≤ k → get_or l.memory.cells k (0, false) ≡ (0, false);
   all : (m : MachineState) → IsState m → text_of m ≡ l.bytes → length m.state.cells ≡ length l.fn.memory.cells
       → (k : ℕ) → k < l.i → get_or l.memory.cells k (0, false) ≡ get_or m.state.cells k (0, false);
 }
