@@ -13,7 +13,7 @@ use crate::block::{Block, Shape};
 use crate::painting::paint_row;
 use crate::rows::Rows;
 use crate::shadow::Shadow;
-use granule_rows::{count_both, place_of_both, row_bit};
+use granule_rows::{count_both, last_set, place_of_both, row_bit};
 use mark_board::{Board, MarkSeat};
 use std::alloc::{AllocError, Global};
 use std::marker::Model;
@@ -155,28 +155,14 @@ impl Table {
         ensures before { (k : ℕ) → k < result → k + slice_index self.now.lengths k ≤ granule }
         ensures last { (k : ℕ) → result < k → k ≤ granule → slice_index self.now.lengths k ≡ 0 }
     {
-        let mut start = granule;
-        while self.may_be_reached(start) {
-            start -= 1;
-        }
-        start
-    }
-
-    // Whether a block that starts before a granule may reach past it.
-    fn may_be_reached(&self, granule: usize) -> bool
-        requires inside { granule < length self.now.lengths }
-        requires apart { (j k : ℕ) → j < k → 0 < slice_index self.now.lengths k → j + slice_index self.now.lengths j ≤ k }
-        ensures some { result ≡ true → 0 < granule }
-        ensures start { result ≡ true → slice_index self.now.lengths granule ≡ 0 }
-        ensures none { result ≡ false → (k : ℕ) → k < granule → k + slice_index self.now.lengths k ≤ granule }
-    {
-        if granule == 0 {
-            return false;
-        }
+        // No block reaches past a free granule. A held or live one lies in the last block that starts up to it.
         if self.rows.free.is_free(granule) {
-            return false;
+            return granule;
         }
-        !row_bit(&self.rows.starts, granule)
+        let Some(start) = last_set(&self.rows.starts, granule) else {
+            return granule;
+        };
+        start
     }
 
     /// The block that starts at a granule, in the table of a heap at `base`.
