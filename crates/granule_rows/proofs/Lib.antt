@@ -2,6 +2,7 @@ pub mod AlignLaws
 pub mod CountLaws
 pub mod FindLaws
 pub mod JoinLaws
+pub mod LastLaws
 pub mod NextLaws
 pub mod RangeLaws
 pub mod RenewLaws

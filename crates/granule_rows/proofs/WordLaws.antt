@@ -175,7 +175,7 @@ IsLeaf-full word fits none =
     }
 
 -- the highest one of a number that has m digits
-highest : (a m : ℕ) → a < 2 ^ suc m → 2 ^ suc m ≤ 2 * a + 1 → bit_at a m ≡ 1
+pub highest : (a m : ℕ) → a < 2 ^ suc m → 2 ^ suc m ≤ 2 * a + 1 → bit_at a m ≡ 1
 highest a m lt le =
     let some : 0 < 2 ^ m = pow_pos m in
     let twice : 2 ^ suc m ≡ 2 * 2 ^ m = omega arith in

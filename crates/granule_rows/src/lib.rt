@@ -4,6 +4,7 @@
 
 mod count;
 mod find;
+mod last;
 mod ranges;
 mod row;
 mod summary;
@@ -11,5 +12,6 @@ mod tree;
 mod word;
 
 pub use crate::count::{count_both, place_of_both};
+pub use crate::last::last_set;
 pub use crate::ranges::{clear_run, clear_words, range_word, row_bit, set_run};
 pub use crate::row::FreeRow;

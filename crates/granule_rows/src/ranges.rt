@@ -15,7 +15,7 @@ pub fn row_bit(words: &[u64], k: usize) -> bool
 }
 
 // The word whose bits `low` to `high - 1` are 1.
-fn run_word(low: usize, high: usize) -> u64
+pub fn run_word(low: usize, high: usize) -> u64
     requires low { low < 64 }
     requires some { 0 < high }
     requires high { high ≤ 64 }

@@ -1,9 +1,9 @@
 -- The block in which an address lies, by the table.
-use Rattle.std.proofs.Common.{◌≡◌, ◌∙◌, ◌⊎◌, ◌<◌, ◌≤◌, ◌+◌, ◌-◌, ◌*◌, inl, inr, not, ◌||◌, ℕ, Bool, true, false, List, length, get_or, refl, sym, ap, arith}
+use Rattle.std.proofs.Common.{◌≡◌, ◌∙◌, ◌⊎◌, ◌<◌, ◌≤◌, ◌+◌, ◌-◌, ◌*◌, ◌==◌, if◌then◌else◌, inl, inr, not, ◌||◌, ℕ, Bool, true, false, List, length, get_or, refl, sym, ap, subst, arith}
 use Rattle.std.specs.Prelude.{All}
-use Rattle.std.proofs.lemmas.Bool.{cases_lt, true≢false}
+use Rattle.std.proofs.lemmas.Bool.{cases_Bool, cases_lt, ne_eqb, true≢false}
 use Rattle.std.proofs.lemmas.List.Elements.{All-nil}
-use Rattle.heap_core.specs.Blocks.{Span, has_address}
+use Rattle.heap_core.specs.Blocks.{Span, has_address, start_of}
 use Rattle.heap_core.specs.Consistent.{AreLate, either_mark, heap_state}
 use Rattle.heap_core.specs.Found.{IsFound, IsInNoBlock, blocks_in}
 use Rattle.heap_core.specs.Laws.{has_address-after, has_address-before}
@@ -111,6 +111,26 @@ IsFound-live base lengths marks lates is_open a start top p table are lies none 
       each true Painted = only_in is_held base lengths marks a start top p (Painted ≡ Live) table.apart lies (λ kept. absurd (true≢false (sym kept ∙ none)))
       each false Painted = All-nil (λ (b : Span). has_address a b ≡ true → (b ≡ (start, top - start)) × (Painted ≡ Live))
 
+-- So what is so of a block goes by both marks of its granule.
+pub IsFound-kind : (base : ℕ) (lengths : List ℕ) (marks lates : List Bool) (is_open : Bool) (a start top p : ℕ) (kind : Kind) → IsTable base lengths marks → AreLate lengths marks lates is_open
+    → LiesAt base lengths a start top p
+    → (get_or marks p false ≡ true → kind ≡ (if is_open then Painted else Waiting))
+    → (get_or marks p false ≡ false → get_or lates p false ≡ true → kind ≡ Waiting)
+    → (get_or marks p false ≡ false → get_or lates p false ≡ false → kind ≡ Live)
+    → IsFound (heap_state base lengths marks lates is_open) a start top kind
+IsFound-kind base lengths marks lates is_open a start top p kind table are lies due late live =
+    let found = IsFound (heap_state base lengths marks lates is_open) a start top in
+    elim (cases_Bool (get_or marks p false)) [
+      | inl held ↦ elim (cases_Bool is_open) [
+        | inl opened ↦ subst found (sym (due held ∙ ap (λ (b : Bool). if b then Painted else Waiting) opened)) (IsFound-painted base lengths marks lates is_open a start top p table are lies opened held)
+        | inr closed ↦ subst found (sym (due held ∙ ap (λ (b : Bool). if b then Painted else Waiting) closed)) (IsFound-waiting base lengths marks lates is_open a start top p table are lies closed held)
+      ]
+      | inr none ↦ elim (cases_Bool (get_or lates p false)) [
+        | inl waits ↦ subst found (sym (late none waits)) (IsFound-late base lengths marks lates is_open a start top p table are lies none waits)
+        | inr early ↦ subst found (sym (live none early)) (IsFound-live base lengths marks lates is_open a start top p table are lies none early)
+      ]
+    ]
+
 -- An address that lies in no block of the table lies in none of a list.
 none_in : (keeps : Bool → Bool) (base : ℕ) (lengths : List ℕ) (marks : List Bool) (a : ℕ)
     → ((k : ℕ) → k < length lengths → 0 < get_or lengths k 0 → has_address a (base + 16 * k, 16 * get_or lengths k 0) ≡ false)
@@ -147,3 +167,23 @@ IsInNoBlock-ends base lengths marks lates is_open a g from before ends =
       | inl more ↦ has_address-before a (base + 16 * k, 16 * get_or lengths k 0) (omega (arith, more, before))
       | inr le ↦ has_address-after a (base + 16 * k, 16 * get_or lengths k 0) (omega (arith, ends k le, from))
     ])
+
+-- ---- blocks that start at an address
+
+-- Where no block of the table starts at granule g, none of a list starts at its address.
+none_starts : (keeps : Bool → Bool) (base : ℕ) (lengths : List ℕ) (marks : List Bool) (g : ℕ) → get_or lengths g 0 ≡ 0
+    → All (λ (b : Span). (start_of b == base + 16 * g) ≡ false) (blocks_of keeps base 0 lengths marks)
+none_starts keeps base lengths marks g none =
+    All-blocks_of (λ (b : Span). (start_of b == base + 16 * g) ≡ false) keeps base 0 lengths marks false
+    (λ k s at lt some kept. ne_eqb s (base + 16 * g)
+    (λ same. let here : k ≡ g = omega (arith, same) in omega (arith, ap (λ (i : ℕ). get_or lengths i 0) here)))
+
+pub none_start : (base : ℕ) (lengths : List ℕ) (marks lates : List Bool) (is_open : Bool) (g : ℕ) → get_or lengths g 0 ≡ 0
+    → (kind : Kind) → All (λ (b : Span). (start_of b == base + 16 * g) ≡ false) (blocks_in (heap_state base lengths marks lates is_open) kind)
+none_start base lengths marks lates is_open g none = each is_open where
+  each : (opened : Bool) (kind : Kind) → All (λ (b : Span). (start_of b == base + 16 * g) ≡ false) (blocks_in (heap_state base lengths marks lates opened) kind)
+  each opened Live = none_starts is_live base lengths (either_mark marks lates) g none
+  each true Waiting = none_starts is_held base lengths lates g none
+  each false Waiting = none_starts is_held base lengths marks g none
+  each true Painted = none_starts is_held base lengths marks g none
+  each false Painted = All-nil (λ (b : Span). (start_of b == base + 16 * g) ≡ false)

@@ -1,7 +1,8 @@
 -- Blocks that have some of a run's granules, as blocks of the table and as those of the heap.
-use Rattle.std.proofs.Common.{◌≡◌, ◌∙◌, ◌<◌, ◌≤◌, ◌+◌, ◌-◌, ◌*◌, ◌==◌, ◌||◌, ◌++◌, inl, inr, ℕ, Bool, true, false, List, [], length, get_or, refl, sym, ap, arith}
+use Rattle.std.proofs.Common.{◌≡◌, ◌∙◌, ◌<◌, ◌≤◌, ◌+◌, ◌-◌, ◌*◌, ◌==◌, ◌||◌, ◌++◌, inl, inr, ℕ, Bool, true, false, List, [], Option, None, Some, MatchOption, length, get_or, refl, sym, ap, arith}
 use Rattle.std.proofs.lemmas.Bool.{and_from, and_parts, cases_lt, eq-eqb, not-true, or_cases, true≢false}
 use Rattle.std.proofs.lemmas.List.Elements.{All-append, All-nil, Contains-append_left, Contains-append_right}
+use Rattle.std.specs.Option.{unwrap_or}
 use Rattle.std.specs.Prelude.{All, nat_lt, not}
 use Rattle.std.specs.List.{Contains}
 use Rattle.heap_core.specs.Blocks.{IsApart, end_of, has_bounds, start_of}
@@ -37,6 +38,29 @@ some_at_start t stored k is =
 -- Where none starts there is no length.
 pub none_at_no_start : (t : Inside) → (k : ℕ) → is_set_for t.rows.starts.items k ≡ false → get_or (lengths_of t.rows.starts.items t.lengths.items) k 0 ≡ 0
 none_at_no_start t k is = get_or-lengths_of t.rows.starts.items t.lengths.items k ∙ length_in-none t.rows.starts.items t.lengths.items k is
+
+-- No block that starts before granule p reaches past granule g, and none starts between them.
+pub record IsReachingStart (lengths : List ℕ) (g p : ℕ) : Type 0 where
+  pub within : p ≤ g
+  pub before : (k : ℕ) → k < p → k + get_or lengths k 0 ≤ g
+  pub last : (k : ℕ) → p < k → k ≤ g → get_or lengths k 0 ≡ 0
+
+-- The last start up to a granule is such a one, and where there is none, the granule itself.
+pub IsReachingStart-last : (t : Inside) → AreStored t → (g : ℕ) (found : Option ℕ)
+    → ((j k : ℕ) → j < k → 0 < get_or (lengths_of t.rows.starts.items t.lengths.items) k 0 → j + get_or (lengths_of t.rows.starts.items t.lengths.items) j 0 ≤ k)
+    → MatchOption found ((k : ℕ) → k ≤ g → is_set_for t.rows.starts.items k ≡ false)
+    (λ p. (p ≤ g) × (is_set_for t.rows.starts.items p ≡ true) × ((k : ℕ) → p < k → k ≤ g → is_set_for t.rows.starts.items k ≡ false))
+    → IsReachingStart (lengths_of t.rows.starts.items t.lengths.items) g (unwrap_or found g)
+IsReachingStart-last t stored g None apart none = record {
+  within = omega arith;
+  before = λ k lt. omega (arith, none_at_no_start t k (none k (omega arith)));
+  last = λ k more le. absurd (omega arith);
+}
+IsReachingStart-last t stored g (Some p) apart last = record {
+  within = last.0;
+  before = λ k lt. omega (arith, apart k p lt (some_at_start t stored p last.1), last.0);
+  last = λ k more le. none_at_no_start t k (last.2 k more le);
+}
 
 -- ---- in the list of its blocks
 

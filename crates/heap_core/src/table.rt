@@ -1,6 +1,6 @@
 //! The blocks of a heap, by the granules at which they start.
 
-ghost use Rattle.std.specs.Prelude.{◌≡◌, ◌≢◌, ◌<◌, ◌≤◌, ◌+◌, ◌*◌, ◌/◌, ◌%◌, ◌^◌, ◌&&◌, ℕ, IfOk, IfSome, MatchOption, false, length, replicate, slice_index, slice_index_or, slice_set, true};
+ghost use Rattle.std.specs.Prelude.{◌≡◌, ◌≢◌, ◌<◌, ◌≤◌, ◌+◌, ◌*◌, ◌/◌, ◌%◌, ◌^◌, ◌&&◌, if◌then◌else◌, ℕ, IfOk, IfSome, MatchOption, false, length, replicate, slice_index, slice_index_or, slice_set, true};
 ghost use Rattle.granule_rows.specs.Runs.{is_within};
 ghost use Rattle.heap_core.specs.Painting.{IsPainted};
 ghost use Rattle.heap_core.specs.Consistent.{either_mark};
@@ -9,11 +9,11 @@ ghost use Rattle.heap_core.specs.Table.{AreBlocks, IsBlockAt, IsFirstGap, IsFirs
 ghost use Rattle.mark_board.specs.Board.{IsOf};
 ghost use Rattle.tag_memory.specs.Tags.{is_set, is_set_for};
 
-use crate::block::{Block, Shape};
+use crate::block::{Block, Kind, Shape};
 use crate::painting::paint_row;
 use crate::rows::Rows;
 use crate::shadow::Shadow;
-use granule_rows::{count_both, place_of_both, row_bit};
+use granule_rows::{count_both, last_set, place_of_both, row_bit};
 use mark_board::{Board, MarkSeat};
 use std::alloc::{AllocError, Global};
 use std::marker::Model;
@@ -146,6 +146,27 @@ impl Table {
         self.is_held_at(granule) || row_bit(late, granule)
     }
 
+    /// What is so of the block that starts at a granule, where an epoch is open or where none is. Late blocks wait: these
+    /// are their starts.
+    pub fn kind_at(&self, late: &[u64], is_open: bool, granule: usize) -> Kind
+        requires inside { granule < length self.now.lengths }
+        requires bits { 64 * length late.now ≡ length self.now.lengths }
+        ensures due { slice_index_or self.now.marks granule false ≡ true → result ≡ (if is_open then Kind.Painted else Kind.Waiting) }
+        ensures late { slice_index_or self.now.marks granule false ≡ false → slice_index_or (bits_of late.now) granule false ≡ true → result ≡ Kind.Waiting }
+        ensures live { slice_index_or self.now.marks granule false ≡ false → slice_index_or (bits_of late.now) granule false ≡ false → result ≡ Kind.Live }
+    {
+        if self.is_held_at(granule) {
+            if is_open {
+                return Kind::Painted;
+            }
+            return Kind::Waiting;
+        }
+        if row_bit(late, granule) {
+            return Kind::Waiting;
+        }
+        Kind::Live
+    }
+
     /// The granule at which the block starts that has this one, or this one where none has: no block that starts before
     /// reaches past it.
     pub fn reaching_start(&self, granule: usize) -> usize
@@ -155,28 +176,11 @@ impl Table {
         ensures before { (k : ℕ) → k < result → k + slice_index self.now.lengths k ≤ granule }
         ensures last { (k : ℕ) → result < k → k ≤ granule → slice_index self.now.lengths k ≡ 0 }
     {
-        let mut start = granule;
-        while self.may_be_reached(start) {
-            start -= 1;
-        }
-        start
-    }
-
-    // Whether a block that starts before a granule may reach past it.
-    fn may_be_reached(&self, granule: usize) -> bool
-        requires inside { granule < length self.now.lengths }
-        requires apart { (j k : ℕ) → j < k → 0 < slice_index self.now.lengths k → j + slice_index self.now.lengths j ≤ k }
-        ensures some { result ≡ true → 0 < granule }
-        ensures start { result ≡ true → slice_index self.now.lengths granule ≡ 0 }
-        ensures none { result ≡ false → (k : ℕ) → k < granule → k + slice_index self.now.lengths k ≤ granule }
-    {
-        if granule == 0 {
-            return false;
-        }
+        // No block reaches past a free granule, and any other one lies in the last block that starts up to it.
         if self.rows.free.is_free(granule) {
-            return false;
+            return granule;
         }
-        !row_bit(&self.rows.starts, granule)
+        last_set(&self.rows.starts, granule).unwrap_or(granule)
     }
 
     /// The block that starts at a granule, in the table of a heap at `base`.

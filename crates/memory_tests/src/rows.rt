@@ -1,6 +1,6 @@
 //! Runs found, taken and given, with places worked out by hand.
 
-use granule_rows::{FreeRow, count_both, place_of_both};
+use granule_rows::{FreeRow, count_both, last_set, place_of_both};
 
 #[test]
 fn runs_in_one_word_are_found(rt: HostRuntime) {
@@ -63,5 +63,33 @@ fn bits_of_both_rows_are_found_by_their_number(rt: HostRuntime) {
     assert_eq!(rt; count_both(&row, &other), 4);
     for (n, place) in [(0, 1), (1, 3), (2, 128), (3, 191), (4, 192), (5, 192)] {
         assert_eq!(rt; place_of_both(&row, &other, n), place, "number {n}");
+    }
+}
+
+#[test]
+fn last_bits_are_found(rt: HostRuntime) {
+    // A row, a place in it, and the last bit up to there.
+    let ends = [0x8000_0000_0000_0020, 0, 0, 0b101];
+    let first = [1, 0, 0, 0];
+    let none = [0, 0, 0, 0];
+    let places = [
+        (ends, 0, None),
+        (ends, 4, None),
+        (ends, 5, Some(5)),
+        (ends, 62, Some(5)),
+        (ends, 63, Some(63)),
+        (ends, 64, Some(63)),
+        (ends, 191, Some(63)),
+        (ends, 192, Some(192)),
+        (ends, 193, Some(192)),
+        (ends, 255, Some(194)),
+        (first, 0, Some(0)),
+        (first, 64, Some(0)),
+        (first, 255, Some(0)),
+        (none, 255, None),
+    ];
+    for (row, at, place) in places {
+        assert!(rt; at < 256);
+        assert_eq!(rt; last_set(&row, at), place, "up to {at}");
     }
 }

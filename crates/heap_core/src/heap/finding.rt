@@ -1,11 +1,11 @@
-//! The block in which an address lies.
+//! The block in which an address lies, and the one that starts at a granule.
 
-ghost use Rattle.std.specs.Prelude.{◌≡◌, IfSome, None};
-ghost use Rattle.heap_core.specs.Found.{IsFound, IsInNoBlock};
+ghost use Rattle.std.specs.Prelude.{◌≡◌, ◌<◌, ◌+◌, ◌*◌, ◌==◌, All, IfSome, None, false};
+ghost use Rattle.heap_core.specs.Blocks.{start_of};
+ghost use Rattle.heap_core.specs.Found.{IsFound, IsInNoBlock, blocks_in};
 
 use crate::block::{Block, Kind};
 use crate::heap::Heap;
-use granule_rows::row_bit;
 use tag_memory::GRANULE;
 
 impl Heap {
@@ -26,15 +26,22 @@ impl Heap {
             return None;
         }
         let block = self.table.block_from(self.base, start);
-        if self.table.is_held_at(start) {
-            if self.is_open {
-                return Some((block, Kind::Painted));
-            }
-            return Some((block, Kind::Waiting));
+        let kind = self.table.kind_at(&self.late, self.is_open, start);
+        Some((block, kind))
+    }
+
+    /// The live or held block that starts at a granule, counted from the heap's base.
+    pub fn block_starting_at(&self, granule: usize) -> Option<(Block, Kind)>
+        requires inside { 16 * granule < self.now.size }
+        ensures start { IfSome result (λ found. found.0.base ≡ self.now.base + 16 * granule) }
+        ensures some { IfSome result (λ found. IsFound self.now (self.now.base + 16 * granule) found.0.base found.0.top found.1) }
+        ensures none { result ≡ None → (kind : Kind) → All (λ block. (start_of block == self.now.base + 16 * granule) ≡ false) (blocks_in self.now kind) }
+    {
+        if self.table.length_at(granule) == 0 {
+            return None;
         }
-        if row_bit(&self.late, start) {
-            return Some((block, Kind::Waiting));
-        }
-        Some((block, Kind::Live))
+        let block = self.table.block_from(self.base, granule);
+        let kind = self.table.kind_at(&self.late, self.is_open, granule);
+        Some((block, kind))
     }
 }

@@ -174,3 +174,72 @@ fn blocks_have_their_addresses(rt: HostRuntime) {
     ];
     lie_there(&rt, &heap, &places);
 }
+
+// A granule, and the block that starts there.
+type Start = (usize, Option<(Block, Kind)>);
+
+fn start_there(rt: &impl Abort, heap: &Heap, starts: &[Start]) {
+    for (granule, found) in starts {
+        assert!(rt; *granule < heap.granules());
+        assert_eq!(rt;
+            heap.block_starting_at(*granule),
+            *found,
+            "at granule {granule}"
+        );
+    }
+}
+
+#[test]
+fn blocks_start_at_their_granules(rt: HostRuntime) {
+    let mut heap = heap_of_three(&rt, rt.alloc());
+    let lone = Block {
+        base: BASE,
+        top: 0x4000_0010,
+    };
+    assert_eq!(rt; heap.claim(lone.base, lone.top), Claim::Claimed);
+    let starts = [
+        (0, Some((lone, Kind::Live))),
+        (1, None),
+        (15, None),
+        (16, Some((LIVE, Kind::Live))),
+        (17, None),
+        (18, None),
+        (32, Some((HELD, Kind::Waiting))),
+        (35, None),
+        (4095, None),
+    ];
+    start_there(&rt, &heap, &starts);
+    assert!(rt; !heap.is_open());
+    heap.begin_epoch();
+    assert_eq!(rt; heap.release(LATER.base, LATER.top), Ok(Freed::Held));
+    let starts = [
+        (16, Some((LIVE, Kind::Live))),
+        (32, Some((HELD, Kind::Painted))),
+        (48, Some((LATER, Kind::Waiting))),
+        (49, None),
+    ];
+    start_there(&rt, &heap, &starts);
+    heap.give_back();
+    let starts = [(32, None), (48, Some((LATER, Kind::Waiting)))];
+    start_there(&rt, &heap, &starts);
+}
+
+// Whole words of a row lie between those of the block's first and last granule, 63 and 262.
+#[test]
+fn a_long_block_has_the_addresses_of_its_end(rt: HostRuntime) {
+    let mut heap = Heap::new(rt.alloc(), BASE, 16).expect(&rt, "a heap");
+    let long = Block {
+        base: 0x4000_03f0,
+        top: 0x4000_1070,
+    };
+    assert_eq!(rt; heap.claim(BASE, 0x4000_0010), Claim::Claimed);
+    assert_eq!(rt; heap.claim(long.base, long.top), Claim::Claimed);
+    let places = [
+        (0x4000_03ef, None),
+        (0x4000_03f0, Some((long, Kind::Live))),
+        (0x4000_0400, Some((long, Kind::Live))),
+        (0x4000_106f, Some((long, Kind::Live))),
+        (0x4000_1070, None),
+    ];
+    lie_there(&rt, &heap, &places);
+}

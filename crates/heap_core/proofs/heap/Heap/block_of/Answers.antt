@@ -1,7 +1,6 @@
-use Rattle.std.proofs.Common.{◌≡◌, ◌∙◌, ◌<◌, ◌≤◌, ◌+◌, ◌-◌, ◌*◌, ◌/◌, inl, inr, length, get_or, sym, ap, arith}
+use Rattle.std.proofs.Common.{◌≡◌, ◌≤◌, ◌+◌, ◌-◌, ◌*◌, ◌/◌, inl, inr, length, get_or, ap, arith}
 use Rattle.std.proofs.lemmas.Bool.{cases_lt}
-use Rattle.heap_core.proofs.FoundLaws.{IsFound-late, IsFound-live, IsFound-painted, IsFound-waiting, IsInNoBlock-ends, IsInNoBlock-outside, LiesAt}
-use Rattle.heap_core.proofs.LateLaws.{read_late}
+use Rattle.heap_core.proofs.FoundLaws.{IsFound-kind, IsInNoBlock-ends, IsInNoBlock-outside, LiesAt}
 use Rattle.heap_core.proofs.ShadowLaws.{length-bits_of}
 use Rattle.heap_core.proofs.heap.Heap.block_of.Goals as goal
 
@@ -28,71 +27,15 @@ returns-then-start-length_at-clause-none c _ =
       ]
     ]))
 
-pub returns-then-self-clause-some : goal.returns-then-self-clause-some
-returns-then-self-clause-some c =
-    let h = c.self.invariant in
-    let g = (c.args.address - c.self.inside.base) / 16 in
-    let block = c.block_from-block in
-    let p = c.reaching_start-start.result in
-    let lies : LiesAt c.self.inside.base c.self.inside.table.lengths c.args.address c.block_from-block.result.base c.block_from-block.result.top c.reaching_start-start.result = record {
-      at = record {
-        within = omega (arith, c.reaching_start-start.ensures.within, c.if-granule-granules.false, c.granules.ensures);
-        some = omega (arith, c.reaching_start-start.ensures.within, c.if-start-length_at.false, c.length_at.ensures);
-        start_is = block.ensures.base;
-        top_is = omega (arith, block.ensures.base, block.ensures.top);
-      };
-      from = omega (arith, block.ensures.base, c.reaching_start-start.ensures.within, c.if-address-self.false);
-      before = omega (arith, block.ensures.top, c.if-start-length_at.false, c.length_at.ensures, c.if-address-self.false);
-    } in
-    rw (← c.self.view_is) (IsFound-painted _ _ _ _ _ c.args.address _ _ p h.table h.lates lies c.if-self.true (sym c.is_held_at.ensures ∙ c.if-is_held_at.true))
-
-pub returns-then-is_held_at-clause-some : goal.returns-then-is_held_at-clause-some
-returns-then-is_held_at-clause-some c =
-    let h = c.self.invariant in
-    let g = (c.args.address - c.self.inside.base) / 16 in
-    let block = c.block_from-block in
-    let p = c.reaching_start-start.result in
-    let lies : LiesAt c.self.inside.base c.self.inside.table.lengths c.args.address c.block_from-block.result.base c.block_from-block.result.top c.reaching_start-start.result = record {
-      at = record {
-        within = omega (arith, c.reaching_start-start.ensures.within, c.if-granule-granules.false, c.granules.ensures);
-        some = omega (arith, c.reaching_start-start.ensures.within, c.if-start-length_at.false, c.length_at.ensures);
-        start_is = block.ensures.base;
-        top_is = omega (arith, block.ensures.base, block.ensures.top);
-      };
-      from = omega (arith, block.ensures.base, c.reaching_start-start.ensures.within, c.if-address-self.false);
-      before = omega (arith, block.ensures.top, c.if-start-length_at.false, c.length_at.ensures, c.if-address-self.false);
-    } in
-    rw (← c.self.view_is) (IsFound-waiting _ _ _ _ _ c.args.address _ _ p h.table h.lates lies c.if-self.false (sym c.is_held_at.ensures ∙ c.if-is_held_at.true))
-
-pub row_bit-requires : goal.row_bit-requires
-row_bit-requires c =
-    omega (arith, c.reaching_start-start.ensures.within, c.if-granule-granules.false, c.granules.ensures, c.self.invariant.lates.same, length-bits_of c.self.inside.late.items, ap length c.deref.ensures.value)
-
-pub returns-then-row_bit-clause-some : goal.returns-then-row_bit-clause-some
-returns-then-row_bit-clause-some c =
-    let h = c.self.invariant in
-    let g = (c.args.address - c.self.inside.base) / 16 in
-    let block = c.block_from-block in
-    let p = c.reaching_start-start.result in
-    let lies : LiesAt c.self.inside.base c.self.inside.table.lengths c.args.address c.block_from-block.result.base c.block_from-block.result.top c.reaching_start-start.result = record {
-      at = record {
-        within = omega (arith, c.reaching_start-start.ensures.within, c.if-granule-granules.false, c.granules.ensures);
-        some = omega (arith, c.reaching_start-start.ensures.within, c.if-start-length_at.false, c.length_at.ensures);
-        start_is = block.ensures.base;
-        top_is = omega (arith, block.ensures.base, block.ensures.top);
-      };
-      from = omega (arith, block.ensures.base, c.reaching_start-start.ensures.within, c.if-address-self.false);
-      before = omega (arith, block.ensures.top, c.if-start-length_at.false, c.length_at.ensures, c.if-address-self.false);
-    } in
-    let within : c.reaching_start-start.result < 64 * length c.self.inside.late.items = omega (arith, lies.at.within, h.lates.same, length-bits_of c.self.inside.late.items) in
-    let late = read_late c.self.inside.late.items c.deref.result.now c.reaching_start-start.result c.row_bit.result within c.deref.ensures.value c.row_bit.ensures ∙ c.if-row_bit.true in
-    rw (← c.self.view_is) (IsFound-late _ _ _ _ _ c.args.address _ _ p h.table h.lates lies (sym c.is_held_at.ensures ∙ c.if-is_held_at.false) late)
+pub kind_at-kind-requires-clause-bits : goal.kind_at-kind-requires-clause-bits
+kind_at-kind-requires-clause-bits c = omega (arith, c.self.invariant.lates.same, length-bits_of c.self.inside.late.items, ap length c.deref.ensures.value)
 
 pub returns-clause-some : goal.returns-clause-some
 returns-clause-some c =
     let h = c.self.invariant in
-    let g = (c.args.address - c.self.inside.base) / 16 in
     let block = c.block_from-block in
+    let late = c.kind_at-kind.ensures.late in
+    let live = c.kind_at-kind.ensures.live in
     let p = c.reaching_start-start.result in
     let lies : LiesAt c.self.inside.base c.self.inside.table.lengths c.args.address c.block_from-block.result.base c.block_from-block.result.top c.reaching_start-start.result = record {
       at = record {
@@ -104,6 +47,5 @@ returns-clause-some c =
       from = omega (arith, block.ensures.base, c.reaching_start-start.ensures.within, c.if-address-self.false);
       before = omega (arith, block.ensures.top, c.if-start-length_at.false, c.length_at.ensures, c.if-address-self.false);
     } in
-    let within : c.reaching_start-start.result < 64 * length c.self.inside.late.items = omega (arith, lies.at.within, h.lates.same, length-bits_of c.self.inside.late.items) in
-    let early = read_late c.self.inside.late.items c.deref.result.now c.reaching_start-start.result c.row_bit.result within c.deref.ensures.value c.row_bit.ensures ∙ c.if-row_bit.false in
-    rw (← c.self.view_is) (IsFound-live _ _ _ _ _ c.args.address _ _ p h.table h.lates lies (sym c.is_held_at.ensures ∙ c.if-is_held_at.false) early)
+    rw (← c.self.view_is) (IsFound-kind _ _ _ _ _ c.args.address _ _ p c.kind_at-kind.result h.table h.lates lies c.kind_at-kind.ensures.due
+    (rw c.deref.ensures.value at late) (rw c.deref.ensures.value at live))

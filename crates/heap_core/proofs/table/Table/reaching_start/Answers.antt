@@ -1,26 +1,28 @@
-use Rattle.std.proofs.Common.{◌≡◌, inl, inr, get_or, ap, ◌∙◌, arith}
-use Rattle.std.proofs.lemmas.Bool.{cases_lt}
+use Rattle.std.proofs.Common.{◌∙◌, ◌≤◌, ◌+◌, get_or, sym, subst, arith}
+use Rattle.heap_core.specs.Table.{TableState}
+use Rattle.heap_core.proofs.OverLaws.{IsReachingStart, IsReachingStart-last, ends_at_free}
+use Rattle.heap_core.proofs.StoredLaws.{row_reaches}
 use Rattle.heap_core.proofs.table.Table.reaching_start.Goals as goal
 
-pub loop-start-init : goal.loop-start-init
-loop-start-init c = (omega arith, λ k above le. absurd (omega arith))
+pub is_free-requires : goal.is_free-requires
+is_free-requires c =
+    let inside = c.requires.inside in
+    omega (arith, c.self.invariant.rows.free, row_reaches c.self.inside c.self.invariant c.args.granule (rw (← c.self.view_is) at inside))
 
-pub loop-start-preserved : goal.loop-start-preserved
-loop-start-preserved c =
-    let lengths = c.args.self.now.lengths in
-    let here = c.may_be_reached.ensures.start c.loop-start-test.true in (
-      omega (arith, c.loop-start.invariant.0),
-      λ k above le. elim (cases_lt c.loop-start.start k) [
-        | inl more ↦ c.loop-start.invariant.1 k more le
-        | inr up ↦ (let same : k ≡ c.loop-start.start = omega arith in ap (λ i. get_or lengths i 0) same ∙ here)
-      ],
-    )
+pub returns-then-is_free-clause-before : goal.returns-then-is_free-clause-before
+returns-then-is_free-clause-before c = λ k lt.
+    subst (λ (s : TableState). k + get_or s.lengths k 0 ≤ c.args.granule) c.self.view_is
+    (ends_at_free c.self.inside c.self.invariant c.args.granule k (sym c.is_free.ensures ∙ c.if-is_free.true) lt)
 
-pub returns-clause-within : goal.returns-clause-within
-returns-clause-within c = c.loop-start.invariant.0
+pub last_set-requires : goal.last_set-requires
+last_set-requires c =
+    let inside = c.requires.inside in
+    omega (arith, c.deref.ensures.len, row_reaches c.self.inside c.self.invariant c.args.granule (rw (← c.self.view_is) at inside))
 
-pub returns-clause-before : goal.returns-clause-before
-returns-clause-before c = λ k lt. omega (arith, c.loop-start.invariant.0, c.may_be_reached.ensures.none c.loop-start-test.false k lt)
-
-pub returns-clause-last : goal.returns-clause-last
-returns-clause-last c = c.loop-start.invariant.1
+pub returns : goal.returns
+returns c =
+    let apart = c.requires.apart in
+    let found = c.last_set.ensures in
+    let start = IsReachingStart-last c.self.inside c.self.invariant c.args.granule c.last_set.result (rw (← c.self.view_is) at apart) (rw c.deref.ensures.value at found) in
+    let here = subst (λ (s : TableState). IsReachingStart s.lengths c.args.granule c.unwrap_or.result) c.self.view_is (rw (← c.unwrap_or.ensures) at start) in
+    record { within = here.within; before = here.before; last = here.last }
