@@ -11,13 +11,13 @@ returns-in-Some c =
       omega (arith, found.0),
       omega (arith, found.1, c.requires.words, c.if-end-from.false),
       sym (c.tag_word.ensures.bits c.in-Some.j found.1) ∙ found.2,
-      λ k from before. untagged-in_word (is_tagged c.args.memory.now.cells) c.tag_word.result w (c.args.from % 64) c.in-Some.j
+      λ k from before. untagged-in_word (is_tagged c.args.memory.now.cells) c.tag_word.result w _ c.in-Some.j
           c.tag_word.ensures.bits (omega (arith, found.1)) found.3 k (omega (arith, from)) before,
     )
 
 pub loop-w-init : goal.loop-w-init
 loop-w-init c = λ k from before.
-    untagged-in_word (is_tagged c.args.memory.now.cells) c.tag_word.result (c.args.from / 64) (c.args.from % 64) 64
+    untagged-in_word (is_tagged c.args.memory.now.cells) c.tag_word.result (c.args.from / 64) _ 64
     c.tag_word.ensures.bits (omega arith) (λ j low high. c.in_default.ensures j low) k (omega (arith, from)) (omega (arith, before))
 
 pub returns-in-Some-lowest_from : goal.returns-in-Some-lowest_from
