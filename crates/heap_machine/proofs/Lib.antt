@@ -18,4 +18,5 @@ mod SoundLaws
 mod SweepStep
 mod SweptMalloc
 mod SweptState
+mod TaggedLaws
 mod UnusedLaws

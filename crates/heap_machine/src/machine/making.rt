@@ -1,10 +1,12 @@
 //! A machine of given parts.
 
-ghost use Rattle.std.specs.Prelude.{◌≡◌, ◌<◌, All, IfErr, IfOk, MatchOption, false, length, true};
+ghost use Rattle.std.specs.Prelude.{◌≡◌, ◌<◌, ◌≤◌, ◌+◌, ◌*◌, ◌/◌, ◌%◌, ℕ, All, IfErr, IfOk, MatchOption, false, length, true};
 ghost use Rattle.cap_codec.specs.Words.{base_of};
 ghost use Rattle.heap_core.specs.Blocks.{lies_in};
 ghost use Rattle.sweep_pool.specs.Sweep.{AreInDirtyPages};
 ghost use Rattle.tag_memory.specs.Cells.{register_count};
+ghost use Rattle.tag_memory.specs.Extent.{page_granules};
+ghost use Rattle.tag_memory.specs.Tags.{is_set, is_tagged};
 ghost use Rattle.heap_machine.specs.Making.{FirstLacks, HasGuarded, HasGuardedAt, IsFlaw, IsMakeable, LieTogether, StandsDirty, made};
 ghost use Rattle.heap_machine.specs.Safety.{HoldsGuarded, IsGuarded};
 
@@ -13,7 +15,7 @@ use crate::parts::Parts;
 use cap_codec::{Word, bounds};
 use heap_core::Heap;
 use sweep_pool::Cutting;
-use tag_memory::{Memory, PAGE_GRANULES, REGISTERS, Registers};
+use tag_memory::{Memory, PAGE_GRANULES, REGISTERS, Registers, WORD_GRANULES, lowest_bit};
 
 /// Why parts are no machine: the first of these that is true, of registers and granules the first by its number.
 #[derive(Debug, Clone, Copy, PartialEq, Eq)]
@@ -102,15 +104,52 @@ fn first_unguarded_register(heap: &Heap, registers: &Registers) -> Option<u8>
     None
 }
 
+// The lowest bit of a word that is 1, of those from bit `first` on.
+fn lowest_from(word: u64, first: usize) -> Option<usize>
+    requires { first < 64 }
+    ensures { MatchOption result ((j : ℕ) → first ≤ j → is_set word j ≡ false) (λ j. (first ≤ j) × (j < 64) × (is_set word j ≡ true) × ((k : ℕ) → first ≤ k → k < j → is_set word k ≡ false)) }
+{
+    let rest = word >> first;
+    if rest == 0 {
+        return None;
+    }
+    Some(first + lowest_bit(rest))
+}
+
+// The first tagged granule of those from `from` to `end - 1`. Where a word of tags is 0, none of its granules is looked at.
+fn first_tagged(memory: &Memory, from: usize, end: usize) -> Option<usize>
+    requires within { end ≤ length memory.now.cells }
+    requires words { end % 64 ≡ 0 }
+    ensures { MatchOption result ((k : ℕ) → from ≤ k → k < end → is_tagged memory.now.cells k ≡ false) (λ i. (from ≤ i) × (i < end) × (is_tagged memory.now.cells i ≡ true) × ((k : ℕ) → from ≤ k → k < i → is_tagged memory.now.cells k ≡ false)) }
+{
+    if end <= from {
+        return None;
+    }
+    let first = from / WORD_GRANULES;
+    if let Some(j) = lowest_from(memory.tag_word(first), from % WORD_GRANULES) {
+        return Some(WORD_GRANULES * first + j);
+    }
+    for w in first + 1..end / WORD_GRANULES {
+        if let Some(j) = lowest_from(memory.tag_word(w), 0) {
+            return Some(WORD_GRANULES * w + j);
+        }
+    }
+    None
+}
+
 // The first granule that isn't.
 fn first_unguarded_granule(heap: &Heap, memory: &Memory) -> Option<usize>
     ensures { MatchOption result (All (HoldsGuarded heap.now) memory.now.cells) (λ i. (i < length memory.now.cells) × FirstLacks (HasGuardedAt heap.now memory.now) i) }
 {
-    for i in 0..memory.granules() {
+    memory.whole();
+    let end = memory.granules();
+    let mut from = 0;
+    while let Some(i) = first_tagged(memory, from, end) {
         let (bits, tag) = memory.cell(i);
         if !is_guarded(heap, Word { bits }, tag) {
             return Some(i);
         }
+        from = i + 1;
     }
     None
 }
@@ -123,15 +162,33 @@ fn is_painted(heap: &Heap, word: Word) -> bool
     heap.is_open() && heap.is_due(bounds(word).base)
 }
 
+// The first granule of a page that is tagged, with a base in a painted block: none, where the page is dirty.
+fn first_in_page(heap: &Heap, memory: &Memory, page: u32) -> Option<usize>
+    requires { page_granules * page + page_granules ≤ length memory.now.cells }
+    ensures { MatchOption result ((k : ℕ) → k / page_granules ≡ page → StandsDirty heap.now memory.now k) (λ i. (i / page_granules ≡ page) × (¬ StandsDirty heap.now memory.now i) × ((k : ℕ) → k < i → k / page_granules ≡ page → StandsDirty heap.now memory.now k)) }
+{
+    if memory.dirty(page) {
+        return None;
+    }
+    let start = PAGE_GRANULES as usize * page as usize;
+    let end = start + PAGE_GRANULES as usize;
+    let mut from = start;
+    while let Some(i) = first_tagged(memory, from, end) {
+        let (bits, _) = memory.cell(i);
+        if is_painted(heap, Word { bits }) {
+            return Some(i);
+        }
+        from = i + 1;
+    }
+    None
+}
+
 // The first granule that is tagged, with a base in a painted block, in a clean page.
 fn first_in_clean_page(heap: &Heap, memory: &Memory) -> Option<usize>
     ensures { MatchOption result (AreInDirtyPages memory.now.cells memory.now.dirty heap.now.painted) (λ i. (i < length memory.now.cells) × FirstLacks (StandsDirty heap.now memory.now) i) }
 {
-    memory.whole();
-    for i in 0..memory.granules() {
-        let (bits, tag) = memory.cell(i);
-        let is_dirty = memory.dirty(i as u32 / PAGE_GRANULES);
-        if tag && !is_dirty && is_painted(heap, Word { bits }) {
+    for page in 0..memory.pages() {
+        if let Some(i) = first_in_page(heap, memory, page) {
             return Some(i);
         }
     }

@@ -11,9 +11,9 @@ use trace_text::Command;
 
 const BASE: u64 = 0x4000_0000;
 
-// A heap of a page with a live block of 32 bytes in it, and one that is painted.
-fn heap_of_two(rt: &impl Abort, alloc: Global) -> Heap {
-    let mut heap = Heap::new(alloc, BASE, 1).expect(rt, "a heap");
+// A heap of so many pages with a live block of 32 bytes in the first, and one that is painted.
+fn heap_of_two(rt: &impl Abort, alloc: Global, pages: u32) -> Heap {
+    let mut heap = Heap::new(alloc, BASE, pages).expect(rt, "a heap");
     assert_eq!(rt; heap.claim(0x4000_0200, 0x4000_0220), Claim::Claimed);
     assert!(rt; heap.release(0x4000_0200, 0x4000_0220).is_ok());
     assert!(rt; !heap.is_open());
@@ -36,7 +36,51 @@ fn put(memory: &mut Memory, granule: usize, word: Word) {
 // The flaw of the heap above with these.
 fn flaw(rt: &impl Abort, alloc: Global, memory: Memory, registers: Registers) -> Option<Flaw> {
     let cutting = Cutting::new(1, 16).expect(rt, "it is a cutting");
-    Machine::of(heap_of_two(rt, alloc), memory, registers, cutting).err()
+    Machine::of(heap_of_two(rt, alloc, 1), memory, registers, cutting).err()
+}
+
+// A capability with the bounds of the live block, of the painted one, and of none.
+fn live() -> Word {
+    block_capability(0x4000_0100, 0x4000_0120)
+}
+
+fn painted() -> Word {
+    block_capability(0x4000_0200, 0x4000_0220)
+}
+
+fn unguarded() -> Word {
+    block_capability(0x4000_0400, 0x4000_0410)
+}
+
+// Two pages, of which the first `tagged` granules have the live block's capability.
+fn two_pages(rt: &impl Abort, alloc: Global, tagged: usize) -> Memory {
+    let mut memory = memory_at(rt, alloc, BASE, 2);
+    for granule in 0..tagged {
+        put(&mut memory, granule, live());
+    }
+    memory
+}
+
+// The flaw of the heap of two pages with this memory.
+fn flaw_of_two(rt: &impl Abort, alloc: Global, memory: Memory) -> Option<Flaw> {
+    let cutting = Cutting::new(1, 16).expect(rt, "it is a cutting");
+    Machine::of(heap_of_two(rt, alloc, 2), memory, Registers::new(), cutting).err()
+}
+
+// The same of two clean pages with this word in these granules, in their order.
+fn flaw_at(
+    rt: &impl Abort,
+    alloc: Global,
+    tagged: usize,
+    granules: &[usize],
+    word: Word,
+) -> Option<Flaw> {
+    let mut memory = two_pages(rt, alloc, tagged);
+    for granule in granules {
+        put(&mut memory, *granule, word);
+    }
+    memory.mark_clean();
+    flaw_of_two(rt, alloc, memory)
 }
 
 #[test]
@@ -50,7 +94,7 @@ fn parts_make_a_machine(rt: HostRuntime) {
     // Without its tag a word may have any bounds.
     registers.set(2, block_capability(0x4000_0800, 0x4000_0820), false);
     let cutting = Cutting::new(1, 16).expect(&rt, "it is a cutting");
-    let made = Machine::of(heap_of_two(&rt, alloc), memory, registers, cutting);
+    let made = Machine::of(heap_of_two(&rt, alloc, 1), memory, registers, cutting);
     let Ok(mut machine) = made else {
         assert!(rt; false);
         return;
@@ -104,4 +148,60 @@ fn the_first_flaw_is_told(rt: HostRuntime) {
         flaw(&rt, alloc, memory, Registers::new()),
         Some(Flaw::Clean(9))
     );
+}
+
+// At the edges of words of tags and of pages, where nothing else is tagged, and where all is.
+#[test]
+fn a_flaw_is_told_wherever_it_stands(rt: HostRuntime) {
+    let alloc = rt.alloc();
+    for granule in [0, 63, 64, 255, 256, 511] {
+        for tagged in [0, 512] {
+            assert_eq!(rt;
+                flaw_at(&rt, alloc, tagged, &[granule], unguarded()),
+                Some(Flaw::Granule(granule))
+            );
+            assert_eq!(rt;
+                flaw_at(&rt, alloc, tagged, &[granule], painted()),
+                Some(Flaw::Clean(granule))
+            );
+        }
+    }
+}
+
+// In one word, in two, and in two pages.
+#[test]
+fn the_first_of_two_flaws_is_told(rt: HostRuntime) {
+    let alloc = rt.alloc();
+    for (first, second) in [(0, 1), (62, 63), (63, 64), (0, 255), (255, 256), (5, 511)] {
+        assert_eq!(rt;
+            flaw_at(&rt, alloc, 0, &[second, first], unguarded()),
+            Some(Flaw::Granule(first))
+        );
+        assert_eq!(rt;
+            flaw_at(&rt, alloc, 512, &[second, first], painted()),
+            Some(Flaw::Clean(first))
+        );
+    }
+}
+
+// Either page may be the dirty one, and both.
+#[test]
+fn a_dirty_page_has_no_flaw(rt: HostRuntime) {
+    let alloc = rt.alloc();
+    let mut memory = two_pages(&rt, alloc, 0);
+    put(&mut memory, 255, painted());
+    put(&mut memory, 256, painted());
+    assert_eq!(rt; flaw_of_two(&rt, alloc, memory), None);
+
+    let mut memory = two_pages(&rt, alloc, 0);
+    put(&mut memory, 256, painted());
+    memory.mark_clean();
+    put(&mut memory, 255, painted());
+    assert_eq!(rt; flaw_of_two(&rt, alloc, memory), Some(Flaw::Clean(256)));
+
+    let mut memory = two_pages(&rt, alloc, 0);
+    put(&mut memory, 255, painted());
+    memory.mark_clean();
+    put(&mut memory, 256, painted());
+    assert_eq!(rt; flaw_of_two(&rt, alloc, memory), Some(Flaw::Clean(255)));
 }

@@ -1,0 +1,12 @@
+use Rattle.std.proofs.Common.{◌≡◌, ◌<◌, ◌≤◌, ◌-◌, ◌*◌, ◌/◌, ℕ}
+use Rattle.heap_machine.specs.Making.{StandsDirty}
+use Rattle.heap_machine.proofs.machine.making.first_in_page.Given as goal
+
+abbrev pub invariant-loop-i : goal.invariant-loop-i
+invariant-loop-i l = record {
+  start : 256 * l.page ≤ l.from;
+  done : (k : ℕ) → k < l.from → k / 256 ≡ l.page → StandsDirty l.heap l.memory k;
+}
+
+abbrev pub decreases-loop-i : goal.decreases-loop-i
+decreases-loop-i l = l.end - l.from
