@@ -1,12 +1,14 @@
 -- The number of the block that starts at an address.
-use Rattle.std.proofs.Common.{◌≡◌, ◌∙◌, ◌<◌, ◌≤◌, ◌+◌, ◌-◌, ◌*◌, ◌%◌, ℕ, zero, suc, refl, eq-eqb, arith}
-use Rattle.std.proofs.lemmas.Bool.{ne_eqb}
-use Rattle.heap_core.specs.Found.{IsFound, IsInNoBlock, blocks_in}
+use Rattle.std.proofs.Common.{◌≡◌, ◌∙◌, ◌<◌, ◌≤◌, ◌+◌, ◌-◌, ◌*◌, ◌%◌, ◌==◌, ℕ, zero, suc, false, get_or, refl, sym, eq-eqb, arith}
+use Rattle.std.specs.Prelude.{All}
+use Rattle.std.proofs.lemmas.Bool.{ne_eqb, true≢false}
+use Rattle.heap_core.specs.Blocks.{start_of}
+use Rattle.heap_core.specs.Found.{IsFound, blocks_in}
 use Rattle.heap_core.specs.Heap.{HeapState, IsSound}
 use Rattle.heap_core.specs.declared.block.Kind.{Kind}
 use Rattle.heap_core.specs.declared.block.Kind.TheVariants.{Live, Painted, Waiting}
 use Rattle.state_bytes.specs.Text.{block_number, kind_number, length_told, numbered, starts_in}
-use Rattle.state_bytes.proofs.StartsLaws.{length_in-found, length_in-none, length_in-other, starts_apart, starts_even}
+use Rattle.state_bytes.proofs.StartsLaws.{length_in-found, length_in-other, starts_apart, starts_even, starts_in-zero}
 
 -- ---- three lengths in one number
 
@@ -107,16 +109,11 @@ number_of s a l w p live waiting painted = λ i. in_one (live i) (waiting i) (pa
 
 -- ---- what is found
 
--- No block starts where none lies.
-pub number-none : (s : HeapState) (a : ℕ) → IsSound s → IsInNoBlock s a → block_number s a ≡ 0
-number-none s a sound none =
-    number_of s a 0 0 0 (length_in-none s a Live sound none) (length_in-none s a Waiting sound none) (length_in-none s a Painted sound none)
-
--- Nor where one lies that starts elsewhere.
-pub number-other : (s : HeapState) (a base top : ℕ) (kind : Kind) → IsSound s → IsFound s a base top kind → (base ≡ a → ⊥) → block_number s a ≡ 0
-number-other s a base top kind sound found other =
-    let none = λ (wanted : Kind). length_in-other s a base top kind wanted sound found (λ at same. other at) in
-    number_of s a 0 0 0 (none Live) (none Waiting) (none Painted)
+-- No block starts at the address.
+pub number-none : (s : HeapState) (a : ℕ) → ((kind : Kind) → All (λ b. (start_of b == a) ≡ false) (blocks_in s kind)) → block_number s a ≡ 0
+number-none s a none =
+    let zero_in = λ (kind : Kind). starts_in-zero (blocks_in s kind) a (λ k d lt same. true≢false (sym (eq-eqb (start_of (get_or (blocks_in s kind) k d)) a same) ∙ none kind k d lt)) in
+    number_of s a 0 0 0 (zero_in Live) (zero_in Waiting) (zero_in Painted)
 
 -- One that starts there is told.
 pub number-found : (s : HeapState) (a base top : ℕ) (kind : Kind) → IsSound s → IsFound s a base top kind → base ≡ a → block_number s a ≡ (top - a) + kind_number kind

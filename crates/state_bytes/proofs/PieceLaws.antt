@@ -1,9 +1,8 @@
 -- The texts of one granule, register or page, which stand in bytes piece by piece.
-use Rattle.std.proofs.Common.{◌≡◌, ◌∙◌, ◌≤◌, ◌<◌, ◌+◌, ◌*◌, ℕ, Bool, false, List, [], ◌∷◌, ◌++◌, Some, get_or, length, sym, ap, subst, arith}
-use Rattle.std.specs.Prelude.{slice_get}
+use Rattle.std.proofs.Common.{◌≡◌, ◌∙◌, ◌+◌, ◌*◌, ℕ, Bool, false, List, [], ◌∷◌, ◌++◌, get_or, length, sym, ap, arith}
 use Rattle.byteorder.specs.Endian.{little_bytes}
 use Rattle.heap_core.specs.Heap.{HeapState}
-use Rattle.tag_memory.specs.Cells.{Cell, Granule, is_dirty_at, register_at}
+use Rattle.tag_memory.specs.Cells.{Cell, Granule, register_at}
 use Rattle.state_bytes.specs.Text.{block_number, dirty_text, flag_byte, granule_text, head_text, memory_text, register_text, texts_below}
 use Rattle.state_bytes.specs.Writing.{StandsAt}
 use Rattle.state_bytes.proofs.ReadLaws.{offset_is_1, offset_is_17, offset_is_21, texts_long}

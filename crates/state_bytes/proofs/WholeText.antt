@@ -1,5 +1,5 @@
 -- The whole text of a machine, written and compared in four pieces.
-use Rattle.std.proofs.Common.{◌≡◌, ◌∙◌, ◌≤◌, ◌+◌, ◌*◌, ℕ, Bool, List, ◌++◌, length, refl, sym, ap, subst, length-append, arith}
+use Rattle.std.proofs.Common.{◌≡◌, ◌∙◌, ◌+◌, ◌*◌, ℕ, Bool, List, ◌++◌, length, refl, sym, ap, subst, arith}
 use Rattle.heap_core.specs.Heap.{HeapState}
 use Rattle.heap_machine.specs.Parts.{MachineState}
 use Rattle.tag_memory.specs.Cells.{Cell, Granule}
@@ -22,11 +22,11 @@ pub record ArePieces (m : MachineState) (head granules registers pages : List �
   pub last_is : last ≡ at + 17 * 32
 
 -- How long they are.
-record AreLong (m : MachineState) (head granules registers pages : List ℕ) : Type 0 where
-  head : length head ≡ 13
-  granules : length granules ≡ 21 * length m.state.cells
-  registers : length registers ≡ 17 * 32
-  pages : length pages ≡ length m.dirty
+record AreLong (m : MachineState) (h g r p : List ℕ) : Type 0 where
+  head : length h ≡ 13
+  granules : length g ≡ 21 * length m.state.cells
+  registers : length r ≡ 17 * 32
+  pages : length p ≡ length m.dirty
 
 long_of : (m : MachineState) (h g r p : List ℕ) (at last : ℕ) → ArePieces m h g r p at last → AreLong m h g r p
 long_of m h g r p at last are = record {
@@ -86,7 +86,7 @@ pieces_of_text m bytes h g r p at last are text =
 
 pub own_pieces : (m : MachineState)
     → ArePieces m (head_text m.state.heap.base (length m.dirty) m.state.heap.is_open) (memory_text m.state.heap m.state.cells) (texts_below (register_text m.state.registers) 32)
-        (texts_below (dirty_text m.dirty) (length m.dirty)) (13 + 21 * length m.state.cells) (13 + 21 * length m.state.cells + 17 * 32)
+    (texts_below (dirty_text m.dirty) (length m.dirty)) (13 + 21 * length m.state.cells) (13 + 21 * length m.state.cells + 17 * 32)
 own_pieces m = record { head_is = refl; granules_are = refl; registers_are = refl; pages_are = refl; at_is = refl; last_is = refl }
 
 pub head_same_as : (m : MachineState) (heap : HeapState) (cells : List Granule) (base pages : ℕ) (is_open : Bool) → IsWhole m → heap ≡ m.state.heap → cells ≡ m.state.cells → base ≡ heap.base

@@ -13,7 +13,7 @@ use byteorder::{ByteOrder, LittleEndian};
 use heap_core::{Heap, Kind};
 use heap_machine::Machine;
 use std::alloc::{AllocError, Global};
-use tag_memory::{GRANULE, Memory, REGISTERS, Registers};
+use tag_memory::{Memory, REGISTERS, Registers};
 
 /// The bytes that tell of a machine's state: its blocks, whether an epoch is open, its granules with their tags, its
 /// registers, and which pages are dirty. How its sweeps are cut isn't told. It errs where an allocation is refused.
@@ -91,13 +91,9 @@ pub fn number_at(heap: &Heap, i: usize) -> u32
     ensures { result ≡ block_number heap.now (heap.now.base + 16 * i) }
 {
     heap.whole();
-    let address = heap.base() + GRANULE * i as u64;
-    let Some((block, kind)) = heap.block_of(address) else {
+    let Some((block, kind)) = heap.block_starting_at(i) else {
         return 0;
     };
-    if block.base != address {
-        return 0;
-    }
     let length = (block.top - u128::from(block.base)) as u32;
     length + number_of_kind(kind)
 }

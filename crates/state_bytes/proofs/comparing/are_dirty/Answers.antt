@@ -1,6 +1,6 @@
-use Rattle.std.proofs.Common.{◌≡◌, ◌∙◌, ◌<◌, ◌≤◌, ◌+◌, ◌*◌, ◌^◌, ℕ, false, true, get_or, length, refl, sym, ap, subst, rules, eq-eqb, arith}
+use Rattle.std.proofs.Common.{◌∙◌, ◌<◌, ◌+◌, ℕ, length, sym, subst, rules, arith}
 use Rattle.std.proofs.Common.{List}
-use Rattle.state_bytes.specs.Text.{dirty_text, texts_below}
+use Rattle.state_bytes.specs.Text.{dirty_text}
 use Rattle.state_bytes.specs.Writing.{StandsAt}
 use Rattle.state_bytes.proofs.PieceLaws.{dirty_long}
 use Rattle.state_bytes.proofs.StandingLaws.{stands_begin, stands_each, stands_more}

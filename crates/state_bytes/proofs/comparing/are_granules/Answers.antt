@@ -1,4 +1,4 @@
-use Rattle.std.proofs.Common.{◌≡◌, ◌∙◌, ◌<◌, ◌≤◌, ◌+◌, ◌*◌, ◌^◌, ℕ, false, true, get_or, length, refl, sym, ap, subst, rules, eq-eqb, arith}
+use Rattle.std.proofs.Common.{◌∙◌, ◌+◌, ◌*◌, false, length, refl, sym, ap, subst, arith}
 use Rattle.tag_memory.specs.Cells.{Granule}
 use Rattle.state_bytes.specs.Text.{granule_text}
 use Rattle.state_bytes.specs.Writing.{StandsAt}

@@ -1,4 +1,4 @@
-use Rattle.std.proofs.Common.{◌≡◌, ◌∙◌, ◌<◌, ◌≤◌, ◌+◌, ◌*◌, ◌^◌, ℕ, false, true, get_or, length, refl, sym, ap, subst, rules, eq-eqb, arith}
+use Rattle.std.proofs.Common.{◌∙◌, ◌+◌, ◌*◌, refl, sym, arith}
 use Rattle.state_bytes.specs.Text.{register_text}
 use Rattle.state_bytes.proofs.PieceLaws.{registers_long}
 use Rattle.state_bytes.proofs.StandingLaws.{stands_begin, stands_each, stands_more}

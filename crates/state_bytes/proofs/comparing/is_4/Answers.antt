@@ -1,4 +1,4 @@
-use Rattle.std.proofs.Common.{◌≡◌, ◌∙◌, ◌<◌, ◌≤◌, ◌+◌, ◌*◌, ◌^◌, ℕ, false, true, get_or, length, refl, sym, ap, subst, rules, eq-eqb, arith}
+use Rattle.std.proofs.Common.{◌≡◌, ◌∙◌, refl, sym, rules, eq-eqb, arith}
 use Rattle.std.proofs.lemmas.Bool.Decides.{nat_tests}
 use Rattle.state_bytes.proofs.ReplayLaws.{from_place}
 use Rattle.state_bytes.proofs.StandingLaws.{reads_standing, stands_read}

@@ -1,4 +1,4 @@
-use Rattle.std.proofs.Common.{◌≡◌, ◌∙◌, ◌<◌, ◌≤◌, ◌+◌, ◌*◌, ◌^◌, ℕ, false, true, get_or, length, refl, sym, ap, subst, rules, eq-eqb, arith}
+use Rattle.std.proofs.Common.{◌∙◌, ◌+◌, ◌*◌, refl, sym}
 use Rattle.state_bytes.proofs.PieceLaws.{granule_stands, pieces_of_granule}
 use Rattle.state_bytes.proofs.comparing.is_granule.Goals as goal
 

@@ -1,4 +1,4 @@
-use Rattle.std.proofs.Common.{◌≡◌, ◌∙◌, ◌<◌, ◌≤◌, ◌+◌, ◌*◌, ◌^◌, ℕ, false, true, get_or, length, refl, sym, ap, subst, rules, eq-eqb, arith}
+use Rattle.std.proofs.Common.{◌∙◌, ◌+◌, ◌*◌, sym}
 use Rattle.state_bytes.proofs.PieceLaws.{pieces_of_register, register_stands_by}
 use Rattle.state_bytes.proofs.comparing.is_register.Goals as goal
 

@@ -1,4 +1,4 @@
-use Rattle.std.proofs.Common.{◌≡◌, ◌∙◌, ◌+◌, ◌*◌, ℕ, length, refl, sym, ap, arith}
+use Rattle.std.proofs.Common.{◌∙◌, ◌+◌, ◌*◌, ℕ, length, refl, sym, ap}
 use Rattle.state_bytes.proofs.ReadLaws.{text_long}
 use Rattle.state_bytes.proofs.WholeText.{granules_same_as, head_same_as, own_pieces, pages_same_as, pieces_of_text, place_of, registers_same_as, room_of, stands_as, text_of_pieces}
 use Rattle.state_bytes.proofs.comparing.is_text.Goals as goal

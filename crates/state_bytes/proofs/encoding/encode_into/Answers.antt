@@ -1,4 +1,4 @@
-use Rattle.std.proofs.Common.{◌≡◌, ◌∙◌, ◌+◌, ◌*◌, ℕ, length, refl, sym, ap, arith}
+use Rattle.std.proofs.Common.{◌+◌, ◌*◌, refl}
 use Rattle.state_bytes.proofs.WholeText.{all_written, granules_same_as, head_same_as, pages_same_as, place_of, registers_same_as}
 use Rattle.state_bytes.proofs.encoding.encode_into.Goals as goal
 

@@ -1,4 +1,4 @@
-use Rattle.std.proofs.Common.{◌≡◌, ◌∙◌, ◌<◌, ◌≤◌, ◌+◌, ◌*◌, ◌^◌, ℕ, false, true, get_or, length, refl, sym, ap, subst, rules, eq-eqb, arith}
+use Rattle.std.proofs.Common.{◌<◌, ◌+◌, length, rules, arith}
 use Rattle.state_bytes.specs.Text.{dirty_text}
 use Rattle.state_bytes.proofs.PieceLaws.{dirty_long}
 use Rattle.state_bytes.proofs.TextLaws.{dirty_is}

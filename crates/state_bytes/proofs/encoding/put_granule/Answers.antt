@@ -1,4 +1,4 @@
-use Rattle.std.proofs.Common.{◌≡◌, ◌∙◌, ◌<◌, ◌≤◌, ◌+◌, ◌*◌, ◌^◌, ℕ, false, true, get_or, length, refl, sym, ap, subst, rules, eq-eqb, arith}
+use Rattle.std.proofs.Common.{◌+◌, ◌*◌, arith}
 use Rattle.state_bytes.proofs.WritingLaws.{granule_written}
 use Rattle.state_bytes.proofs.encoding.put_granule.Goals as goal
 

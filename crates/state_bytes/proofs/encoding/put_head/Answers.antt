@@ -1,4 +1,3 @@
-use Rattle.std.proofs.Common.{◌≡◌, ◌∙◌, ◌<◌, ◌≤◌, ◌+◌, ◌*◌, ◌^◌, ℕ, false, true, get_or, length, refl, sym, ap, subst, rules, eq-eqb, arith}
 use Rattle.state_bytes.proofs.WritingLaws.{head_written}
 use Rattle.state_bytes.proofs.encoding.put_head.Goals as goal
 

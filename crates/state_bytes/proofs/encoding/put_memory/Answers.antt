@@ -1,7 +1,6 @@
-use Rattle.std.proofs.Common.{◌≡◌, ◌∙◌, ◌<◌, ◌≤◌, ◌+◌, ◌*◌, ◌^◌, ℕ, false, true, get_or, length, refl, sym, ap, subst, rules, eq-eqb, arith}
+use Rattle.std.proofs.Common.{◌+◌, ◌*◌, false, ap, arith}
 use Rattle.tag_memory.specs.Cells.{Granule}
 use Rattle.state_bytes.specs.Text.{granule_text}
-use Rattle.state_bytes.specs.Writing.{IsWritten}
 use Rattle.state_bytes.proofs.PieceLaws.{granule_at, granules_long, memory_as_texts}
 use Rattle.state_bytes.proofs.TextLaws.{cell_is}
 use Rattle.state_bytes.proofs.WritingLaws.{written_begin, written_more}

@@ -1,4 +1,4 @@
-use Rattle.std.proofs.Common.{◌≡◌, ◌∙◌, ◌<◌, ◌+◌, ◌*◌, ◌==◌, List, Bool, false, get_or, length, length-set, refl, sym, ap, arith}
+use Rattle.std.proofs.Common.{◌∙◌, ◌<◌, ◌+◌, ◌*◌, ◌==◌, List, Bool, false, get_or, length, length-set, refl, sym, ap, arith}
 use Rattle.std.proofs.lemmas.List.{ext_get_or, get_or-set_other}
 use Rattle.tag_memory.specs.Cells.{Granule}
 use Rattle.state_bytes.proofs.ReadLaws.{cells_more}
