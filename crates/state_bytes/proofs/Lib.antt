@@ -1,5 +1,6 @@
 pub mod DirtyPut
 pub mod ExactLaws
+pub mod HalfLaws
 pub mod NumberLaws
 pub mod OneText
 pub mod PartLaws
@@ -11,7 +12,6 @@ pub mod SameTexts
 pub mod StandingLaws
 pub mod StartReplay
 pub mod StartsLaws
-pub mod TextLaws
 pub mod UptoLaws
 pub mod WholeText
 pub mod WritingLaws

@@ -1,8 +1,9 @@
 -- The texts of one granule, register or page, which stand in bytes piece by piece.
-use Rattle.std.proofs.Common.{◌≡◌, ◌∙◌, ◌+◌, ◌*◌, ℕ, Bool, false, List, [], ◌∷◌, ◌++◌, get_or, length, sym, ap, arith}
+use Rattle.std.proofs.Common.{◌≡◌, ◌∙◌, ◌+◌, ◌*◌, ℕ, zero, suc, Bool, false, Some, List, [], ◌∷◌, ◌++◌, get_or, length, sym, ap, arith}
+use Rattle.std.specs.Prelude.{slice_get}
 use Rattle.byteorder.specs.Endian.{little_bytes}
 use Rattle.heap_core.specs.Heap.{HeapState}
-use Rattle.tag_memory.specs.Cells.{Cell, Granule, register_at}
+use Rattle.tag_memory.specs.Cells.{Cell, Granule, is_dirty_at, register_at}
 use Rattle.state_bytes.specs.Text.{block_number, dirty_text, flag_byte, granule_text, head_text, memory_text, register_text, texts_below}
 use Rattle.state_bytes.specs.Writing.{StandsAt}
 use Rattle.state_bytes.proofs.ReadLaws.{offset_is_1, offset_is_17, offset_is_21, texts_long}
@@ -96,3 +97,14 @@ pieces_of_register registers r cell bytes at is stands =
 pub memory_as_texts : (heap : HeapState) (cells : List Granule) (n : ℕ) → n ≡ length cells → memory_text heap cells ≡ texts_below (granule_at heap cells) n
 unfolding memory_text
 memory_as_texts heap cells n is = ap (texts_below (granule_at heap cells)) (sym is)
+
+-- ---- one of many
+
+pub dirty_is : (dirty : List Bool) (page : ℕ) (flag : Bool) → flag ≡ is_dirty_at dirty page → (flag_byte flag ∷ []) ≡ dirty_text dirty page
+unfolding dirty_text
+dirty_is dirty page flag is = ap (λ (b : Bool). flag_byte b ∷ []) is
+
+pub cell_is : (cells : List Granule) (i : ℕ) (cell d : Granule) → slice_get cells i ≡ Some cell → cell ≡ get_or cells i d
+cell_is [] i cell d is = absurd cc
+cell_is (x ∷ cells) zero cell d is = cc
+cell_is (x ∷ cells) (suc i) cell d is = cell_is cells i cell d is

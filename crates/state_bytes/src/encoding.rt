@@ -160,9 +160,11 @@ fn put_8(out: &mut [u8], at: usize, number: u64)
     LittleEndian::write_u64(&mut out[at..at + 8], number);
 }
 
+// Two halves are written sooner than one number of 16 bytes.
 fn put_16(out: &mut [u8], at: usize, number: u128)
     requires inside { at + 16 ≤ length out.old }
     ensures { IsWritten out.old at (little_bytes 16 number) out.new }
 {
-    LittleEndian::write_u128(&mut out[at..at + 16], number);
+    put_8(out, at, (number % (1 << 64)) as u64);
+    put_8(out, at + 8, (number >> 64) as u64);
 }

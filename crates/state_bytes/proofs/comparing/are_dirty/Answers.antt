@@ -4,7 +4,7 @@ use Rattle.state_bytes.specs.Text.{dirty_text}
 use Rattle.state_bytes.specs.Writing.{StandsAt}
 use Rattle.state_bytes.proofs.PieceLaws.{dirty_long}
 use Rattle.state_bytes.proofs.StandingLaws.{stands_begin, stands_each, stands_more}
-use Rattle.state_bytes.proofs.TextLaws.{dirty_is}
+use Rattle.state_bytes.proofs.PieceLaws.{dirty_is}
 use Rattle.state_bytes.proofs.comparing.are_dirty.Goals as goal
 
 pub loop-page-init : goal.loop-page-init

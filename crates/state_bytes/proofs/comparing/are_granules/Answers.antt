@@ -4,7 +4,7 @@ use Rattle.state_bytes.specs.Text.{granule_text}
 use Rattle.state_bytes.specs.Writing.{StandsAt}
 use Rattle.state_bytes.proofs.PieceLaws.{granule_at, granules_long, memory_as_texts}
 use Rattle.state_bytes.proofs.StandingLaws.{stands_begin, stands_each, stands_more}
-use Rattle.state_bytes.proofs.TextLaws.{cell_is}
+use Rattle.state_bytes.proofs.PieceLaws.{cell_is}
 use Rattle.state_bytes.proofs.comparing.are_granules.Goals as goal
 
 pub loop-i-init : goal.loop-i-init

@@ -1,8 +1,6 @@
-use Rattle.std.proofs.Common.{arith}
-use Rattle.byteorder.specs.Endian.{little_bytes}
-use Rattle.state_bytes.proofs.SameTexts.{length_little}
-use Rattle.state_bytes.proofs.WritingLaws.{put_is}
+use Rattle.std.proofs.Common.{refl}
+use Rattle.state_bytes.proofs.HalfLaws.{halves_written}
 use Rattle.state_bytes.proofs.encoding.put_16.Goals as goal
 
 pub returns : goal.returns
-returns c = put_is c.args.out.now (little_bytes 16 c.args.number) c.write_u128.new.buf c.args.at 16 _ (length_little 16 c.args.number) (omega arith) c.requires.inside c.write_u128.ensures
+returns c = halves_written c.args.out.now _ _ c.args.at c.args.number _ _ c.requires.inside refl refl c.put_8.ensures c.put_8-2.ensures

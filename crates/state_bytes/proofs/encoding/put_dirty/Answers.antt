@@ -1,7 +1,7 @@
 use Rattle.std.proofs.Common.{◌<◌, ◌+◌, length, rules, arith}
 use Rattle.state_bytes.specs.Text.{dirty_text}
 use Rattle.state_bytes.proofs.PieceLaws.{dirty_long}
-use Rattle.state_bytes.proofs.TextLaws.{dirty_is}
+use Rattle.state_bytes.proofs.PieceLaws.{dirty_is}
 use Rattle.state_bytes.proofs.WritingLaws.{written_begin, written_more}
 use Rattle.state_bytes.proofs.encoding.put_dirty.Goals as goal
 

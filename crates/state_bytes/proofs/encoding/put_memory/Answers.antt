@@ -2,7 +2,7 @@ use Rattle.std.proofs.Common.{◌+◌, ◌*◌, false, ap, arith}
 use Rattle.tag_memory.specs.Cells.{Granule}
 use Rattle.state_bytes.specs.Text.{granule_text}
 use Rattle.state_bytes.proofs.PieceLaws.{granule_at, granules_long, memory_as_texts}
-use Rattle.state_bytes.proofs.TextLaws.{cell_is}
+use Rattle.state_bytes.proofs.PieceLaws.{cell_is}
 use Rattle.state_bytes.proofs.WritingLaws.{written_begin, written_more}
 use Rattle.state_bytes.proofs.encoding.put_memory.Goals as goal
 
