@@ -54,10 +54,10 @@ module _ (P : ℕ → Type 0) (tagged : ℕ → Bool) (holds : (k : ℕ) → tag
     | inr le ↦ holds k (none k le before)
   ]
 
-  pub holds-through : P i → (k : ℕ) → k < i + 1 → P k
-  holds-through here k before = elim (cases_lt k i) [
+  pub holds-through : P i → (next : ℕ) → next ≤ i + 1 → (k : ℕ) → k < next → P k
+  holds-through here next through k before = elim (cases_lt k i) [
     | inl lt ↦ holds-before k lt
-    | inr le ↦ subst P (omega (arith, le, before)) here
+    | inr le ↦ subst P (omega (arith, le, before, through)) here
   ]
 
 -- ---- untagged granules

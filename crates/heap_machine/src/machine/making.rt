@@ -172,13 +172,13 @@ fn first_in_page(heap: &Heap, memory: &Memory, page: u32) -> Option<usize>
     }
     let start = PAGE_GRANULES as usize * page as usize;
     let end = start + PAGE_GRANULES as usize;
-    let mut from = start;
-    while let Some(i) = first_tagged(memory, from, end) {
+    let mut next = start;
+    while let Some(i) = first_tagged(memory, next, end) {
         let (bits, _) = memory.cell(i);
         if is_painted(heap, Word { bits }) {
             return Some(i);
         }
-        from = i + 1;
+        next = i + 1;
     }
     None
 }

@@ -1,4 +1,4 @@
-use Rattle.std.proofs.Common.{◌*◌, ◌/◌, ◌%◌, ◌∙◌, ℕ, inl, inr, sym, arith}
+use Rattle.std.proofs.Common.{◌*◌, ◌/◌, ◌∙◌, ℕ, inl, inr, sym, arith}
 use Rattle.std.proofs.lemmas.Bool.{cases_lt}
 use Rattle.tag_memory.specs.Tags.{is_tagged}
 use Rattle.heap_machine.proofs.TaggedLaws.{untagged-in_word}

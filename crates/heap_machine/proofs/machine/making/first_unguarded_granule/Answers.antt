@@ -26,7 +26,7 @@ loop-i-preserved c =
     let memory = c.args.memory.now in
     let i = c.in-Some.i in
     let here = HasGuardedAt-read heap memory i c.cell-bits.result c.cell-bits.ensures (c.is_guarded.ensures.yes c.if-not-is_guarded.false) in
-    holds-through (HasGuardedAt heap memory) (is_tagged memory.cells) (HasGuardedAt-untagged heap memory) c.loop-i.from i c.loop-i.invariant c.in-Some.ensures.3 here
+    holds-through (HasGuardedAt heap memory) (is_tagged memory.cells) (HasGuardedAt-untagged heap memory) c.loop-i.from i c.loop-i.invariant c.in-Some.ensures.3 here _ (omega arith)
 
 pub returns : goal.returns
 returns c =
