@@ -1,6 +1,6 @@
 use Rattle.std.proofs.Common.{arith}
 use Rattle.mark_board.specs.Laws.{mask-whole}
-use Rattle.memory_tests.proofs.board.threads.mark_all.Goals as goal
+use Rattle.test_memory.proofs.board.threads.mark_all.Goals as goal
 
 pub mark-requires-clause-mask : goal.mark-requires-clause-mask
 mark-requires-clause-mask c =

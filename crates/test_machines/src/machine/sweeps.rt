@@ -9,7 +9,7 @@ use trace_text::Command;
 // Tagged registers, tagged granules, and the bytes of live, held and free blocks.
 pub type Sums = (usize, usize, u64, u64, u64);
 
-pub fn sums(machine: &Machine) -> Sums {
+pub(crate) fn sums(machine: &Machine) -> Sums {
     (
         machine.registers().tagged(),
         machine.memory().tagged(),
