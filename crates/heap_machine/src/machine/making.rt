@@ -116,7 +116,7 @@ fn lowest_from(word: u64, first: usize) -> Option<usize>
     Some(first + lowest_bit(rest))
 }
 
-// The first tagged granule of those from `from` to `end - 1`. Where a word of tags is 0, none of its granules is looked at.
+// The first of the granules `from` to `end - 1` that is tagged. They are passed over by whole words of tags where these are 0.
 fn first_tagged(memory: &Memory, from: usize, end: usize) -> Option<usize>
     requires within { end ≤ length memory.now.cells }
     requires words { end % 64 ≡ 0 }
@@ -137,7 +137,7 @@ fn first_tagged(memory: &Memory, from: usize, end: usize) -> Option<usize>
     None
 }
 
-// The first granule that isn't.
+// The first granule that isn't guarded. One without a tag always is.
 fn first_unguarded_granule(heap: &Heap, memory: &Memory) -> Option<usize>
     ensures { MatchOption result (All (HoldsGuarded heap.now) memory.now.cells) (λ i. (i < length memory.now.cells) × FirstLacks (HasGuardedAt heap.now memory.now) i) }
 {

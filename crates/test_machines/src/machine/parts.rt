@@ -88,9 +88,8 @@ fn parts_make_a_machine(rt: HostRuntime) {
     let alloc = rt.alloc();
     let mut memory = memory_at(&rt, alloc, BASE, 1);
     let mut registers = Registers::new();
-    let painted = block_capability(0x4000_0200, 0x4000_0220);
-    put(&mut memory, 16, painted);
-    registers.set(1, block_capability(0x4000_0100, 0x4000_0120), true);
+    put(&mut memory, 16, painted());
+    registers.set(1, live(), true);
     // Without its tag a word may have any bounds.
     registers.set(2, block_capability(0x4000_0800, 0x4000_0820), false);
     let cutting = Cutting::new(1, 16).expect(&rt, "it is a cutting");
@@ -135,14 +134,14 @@ fn the_first_flaw_is_told(rt: HostRuntime) {
     );
 
     let mut memory = memory_at(&rt, alloc, BASE, 1);
-    put(&mut memory, 5, block_capability(0x4000_0400, 0x4000_0410));
+    put(&mut memory, 5, unguarded());
     assert_eq!(rt;
         flaw(&rt, alloc, memory, Registers::new()),
         Some(Flaw::Granule(5))
     );
 
     let mut memory = memory_at(&rt, alloc, BASE, 1);
-    put(&mut memory, 9, block_capability(0x4000_0200, 0x4000_0220));
+    put(&mut memory, 9, painted());
     memory.mark_clean();
     assert_eq!(rt;
         flaw(&rt, alloc, memory, Registers::new()),
