@@ -8,10 +8,12 @@
  * tests pointers before it calls an export; and, for the functions of the machine, which take memory, the ten lines of
  * bindings/c/allocator.c and the program's malloc, realloc and free.
  *
- * No function keeps a state, waits or prints, and each may be called by any thread at any time.
+ * No function waits or prints, and none but those of kernelstint_machine keeps anything. Each may be called by any thread at any
+ * time, those on one machine by one thread at a time.
  *
  * A code is 0 (KERNELSTINT_DONE) where a function did what it was asked, and else says why it did not. Where several would be
- * true, it is the first of these: KERNELSTINT_NULL, KERNELSTINT_OVERLAP, KERNELSTINT_SHORT_TEXT of kernelstint_step_line, those of a
+ * true, it is the first of these: KERNELSTINT_NULL, KERNELSTINT_OVERLAP, KERNELSTINT_NO_MACHINE, KERNELSTINT_IS_OPEN,
+ * KERNELSTINT_SHORT_TEXT of kernelstint_step_line, those of a
  * number, a record or a line (in the order of the function's comment), KERNELSTINT_BAD_ROOM, KERNELSTINT_NO_MEMORY,
  * KERNELSTINT_BAD_STATE or KERNELSTINT_BAD_TRACE, and what is left.
  */
@@ -83,6 +85,10 @@ uint32_t kernelstint_version(void);
 #define KERNELSTINT_BAD_TRACE 18u
 /* Two places lie over one another, of which one is written. */
 #define KERNELSTINT_OVERLAP 19u
+/* No machine is held there. */
+#define KERNELSTINT_NO_MACHINE 20u
+/* A machine is held there already. */
+#define KERNELSTINT_IS_OPEN 21u
 
 /* ---- Permissions, each by its bit ---- */
 
@@ -463,6 +469,35 @@ uint32_t kernelstint_trace_fault(const uint8_t *trace, size_t length, kernelstin
  * KERNELSTINT_PASSED_OVER. It takes no memory.
  */
 uint32_t kernelstint_line_fault(const uint8_t *line, size_t length, kernelstint_fault *fault);
+
+/* ---- Machines that are held: for long runs, in which no state is wanted after each command ---- */
+
+/*
+ * A machine that the library holds in memory from malloc. It begins as {NULL}, which holds none; what is put there by
+ * kernelstint_machine_open or kernelstint_machine_copy stays until kernelstint_machine_close. Conditions: no other hand writes
+ * it, and of a machine that is held no second one is made by an assignment.
+ */
+typedef struct kernelstint_machine {
+    void *at; /* NULL where no machine is held */
+} kernelstint_machine;
+
+/* Opens a machine in a state, where none is held. KERNELSTINT_IS_OPEN or KERNELSTINT_BAD_STATE. */
+uint32_t kernelstint_machine_open(const uint8_t *state, size_t length, kernelstint_machine *machine);
+
+/*
+ * Does a command, as kernelstint_step does, and writes the reply. KERNELSTINT_NO_MACHINE or KERNELSTINT_BAD_COMMAND. Where the
+ * code is not 0, the machine is in the state before.
+ */
+uint32_t kernelstint_machine_step(kernelstint_machine *machine, kernelstint_command command, kernelstint_reply *reply);
+
+/* Opens another machine in the same state, where none is held. KERNELSTINT_NO_MACHINE or KERNELSTINT_IS_OPEN. */
+uint32_t kernelstint_machine_copy(kernelstint_machine *machine, kernelstint_machine *copy);
+
+/* Writes the machine's state to `out`, which is as long. KERNELSTINT_NO_MACHINE or KERNELSTINT_BAD_ROOM. */
+uint32_t kernelstint_machine_bytes(kernelstint_machine *machine, uint8_t *out, size_t out_length);
+
+/* Gives the machine's memory back; none is held then. KERNELSTINT_NO_MACHINE. */
+uint32_t kernelstint_machine_close(kernelstint_machine *machine);
 
 #ifdef __cplusplus
 }

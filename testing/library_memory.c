@@ -1,9 +1,10 @@
 /*
- * What the calls of the machine take of memory: malloc and realloc are wrapped by the linker (--wrap), so that each allocation of
- * a call is counted, and then refused in turn, which has to be answered KERNELSTINT_NO_MEMORY with nothing written. First it tries
- * bindings/c/allocator.c, by which they take it, and which is compiled with it, since the library has no name for it. It prints
- * the least and the most allocations of a step on a heap of one page, and the code of a step without memory. It ends with status
- * 1 where an answer is wrong.
+ * What the calls of the machine take of memory: malloc, realloc and free are wrapped by the linker (--wrap), so that each
+ * allocation of a call is counted, and then refused in turn, which has to be answered KERNELSTINT_NO_MEMORY with nothing written;
+ * and no call leaves a block behind, but for a machine that is held, until it is closed. First it tries bindings/c/allocator.c, by
+ * which they take memory, and which is compiled with it, since the library has no name for it. It prints the least and the most
+ * allocations of a step on a heap of one page, and the code of a step without memory. It ends with status 1 where an answer is
+ * wrong.
  */
 #include "kernelstint.h"
 #include <stdio.h>
@@ -22,12 +23,14 @@ void rattle_dealloc(void *block);
 
 enum { LENGTH = 5934 };
 
-static long allocations, granted = -1;
+static long allocations, blocks, granted = -1;
 
 void *__real_malloc(size_t size);
 void *__real_realloc(void *block, size_t size);
+void __real_free(void *block);
 void *__wrap_malloc(size_t size);
 void *__wrap_realloc(void *block, size_t size);
+void __wrap_free(void *block);
 
 /* Whether one more is granted: all of them where `granted` is below 0. */
 static bool is_granted(void) {
@@ -36,11 +39,18 @@ static bool is_granted(void) {
 }
 
 void *__wrap_malloc(size_t size) {
-    return is_granted() ? __real_malloc(size) : NULL;
+    void *block = is_granted() ? __real_malloc(size) : NULL;
+    blocks += block != NULL;
+    return block;
 }
 
 void *__wrap_realloc(void *block, size_t size) {
     return is_granted() ? __real_realloc(block, size) : NULL;
+}
+
+void __wrap_free(void *block) {
+    blocks -= block != NULL;
+    __real_free(block);
 }
 
 static void want(bool is_so, const char *what) {
@@ -65,6 +75,62 @@ static void try_allocator(void) {
     rattle_dealloc(none.at);
     tried refused = rattle_alloc(SIZE_MAX / 2, 16);
     want(!refused.ok && refused.at != NULL, "all of memory is given, or a null pointer is");
+}
+
+/* ---- Machines that are held ---- */
+
+/* One more allocation is granted each time, until the call is done; before that it is refused, and nothing is left behind. */
+#define DONE_AT_LAST(call, is_as_before)                                                        \
+    for (long some = 0, before = blocks;; some++) {                                             \
+        granted = some;                                                                         \
+        uint32_t code = (call);                                                                 \
+        granted = -1;                                                                           \
+        if (code == KERNELSTINT_DONE) break;                                                    \
+        want(code == KERNELSTINT_NO_MEMORY, #call ": a refused allocation isn't told");         \
+        want((is_as_before) && blocks == before, #call ": something is left of a refused call"); \
+    }
+
+static bool is_in(kernelstint_machine *machine, const uint8_t *state) {
+    uint8_t told[LENGTH];
+    return kernelstint_machine_bytes(machine, told, LENGTH) == KERNELSTINT_DONE && memcmp(told, state, LENGTH) == 0;
+}
+
+/* A command leads the machine where it leads its state. */
+static void step_both(kernelstint_machine *machine, uint8_t *state, kernelstint_command command) {
+    uint8_t next[LENGTH];
+    kernelstint_reply told, wanted;
+    memset(&told, 0, sizeof told);
+    memset(&wanted, 0, sizeof wanted);
+    want(kernelstint_step(state, LENGTH, command, next, LENGTH, &wanted) == KERNELSTINT_DONE, "a command is refused");
+    DONE_AT_LAST(kernelstint_machine_step(machine, command, &told), is_in(machine, state));
+    want(memcmp(&told, &wanted, sizeof told) == 0 && is_in(machine, next), "a machine that is held does another step");
+    memcpy(state, next, LENGTH);
+}
+
+static void try_machines(void) {
+    static const kernelstint_command commands[] = {{KERNELSTINT_MALLOC, 1, 0, 64, 0, 0}, {KERNELSTINT_MALLOC, 2, 0, 32, 0, 0}, {KERNELSTINT_STORECAP, 1, 2, 0, 0, 0},
+                                                   {KERNELSTINT_FREE, 2, 0, 0, 0, 0},    {KERNELSTINT_BEGIN, 0, 0, 0, 0, 0},   {KERNELSTINT_STORECAP, 1, 1, 0, 0, 0},
+                                                   {KERNELSTINT_END, 0, 0, 0, 0, 0},     {KERNELSTINT_FREE, 1, 0, 0, 0, 0},    {KERNELSTINT_MALLOC, 4, 0, 4096, 0, 0}};
+    static uint8_t state[LENGTH], other[LENGTH];
+    const long before = blocks;
+    kernelstint_machine machine = {NULL}, copy = {NULL};
+    want(kernelstint_first(0x40000000, 1, state, LENGTH) == KERNELSTINT_DONE, "no first state");
+    want(kernelstint_machine_open(state, LENGTH - 1, &machine) == KERNELSTINT_BAD_STATE && machine.at == NULL, "a machine of too few bytes");
+    DONE_AT_LAST(kernelstint_machine_open(state, LENGTH, &machine), machine.at == NULL);
+    for (size_t i = 0; i < sizeof commands / sizeof *commands; i++) step_both(&machine, state, commands[i]);
+    DONE_AT_LAST(kernelstint_machine_copy(&machine, &copy), copy.at == NULL && is_in(&machine, state));
+    memcpy(other, state, LENGTH);
+    want(is_in(&copy, state), "a copy is in another state");
+    step_both(&copy, other, (kernelstint_command){KERNELSTINT_FREE, 4, 0, 0, 0, 0});
+    want(is_in(&machine, state), "a copy's step leads the machine elsewhere");
+    kernelstint_reply reply;
+    memset(&reply, 7, sizeof reply);
+    want(kernelstint_machine_step(&machine, (kernelstint_command){KERNELSTINT_SHOW, 32, 0, 0, 0, 0}, &reply) == KERNELSTINT_BAD_COMMAND && reply.kind == 7, "register 32");
+    want(kernelstint_machine_bytes(&machine, other, LENGTH - 1) == KERNELSTINT_BAD_ROOM && is_in(&machine, state), "a room too short");
+    want(kernelstint_machine_close(&machine) == KERNELSTINT_DONE && machine.at == NULL, "a machine isn't closed");
+    step_both(&copy, memcpy(state, other, LENGTH), commands[0]);
+    want(kernelstint_machine_close(&copy) == KERNELSTINT_DONE && blocks == before, "a machine that is closed leaves memory behind");
+    want(kernelstint_machine_close(&copy) == KERNELSTINT_NO_MACHINE, "a machine is closed twice");
 }
 
 int main(void) {
@@ -98,6 +164,9 @@ int main(void) {
         }
         memcpy(state, after, LENGTH);
     }
+    granted = -1;
+    want(blocks == 0, "a call leaves memory behind");
+    try_machines();
     granted = 0;
     kernelstint_counts_of counts;
     memset(out, 0, LENGTH);

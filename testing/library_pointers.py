@@ -1,5 +1,6 @@
 """What testing/library tries of bindings/c/pointers.c: each pointer of each function null, and each two of its places over one
-another by a byte, at both ends, touching, and one of no bytes inside another. Nothing may be written beside a code. The table (calls_of) has all that is tried,
+another by a byte, at both ends, touching, and one of no bytes inside another; and each machine held where none may be, and none
+where one has to be. Nothing may be written beside a code. The table (calls_of) has all that is tried,
 and is held to the header, so that a function with pointers, or a pointer, without a row fails. Then a pointers.c of which one
 test is left out or changed is made for each of its tests, and fails just the rows of that test.
 
@@ -22,7 +23,7 @@ from typing import NamedTuple
 ROOT = pathlib.Path(__file__).resolve().parent.parent
 BASE = 0x40000000
 # As the header has them.
-DONE, NULL, OVERLAP = 0, 4, 19
+DONE, NULL, OVERLAP, NO_MACHINE, IS_OPEN = 0, 4, 19, 20, 21
 # How far places that have nothing to do with one another begin apart, which is more than two of them are long; and what stands
 # where nothing was written.
 APART, UNWRITTEN = 16384, 0xA5
@@ -37,6 +38,8 @@ class Place(NamedTuple):
     data: bytes = b""
     is_written: bool = False
     is_record: bool = False
+    # Of a machine: what stands there where it is refused, and the code of that.
+    refused: tuple = ()
 
 
 def read(name, data):
@@ -48,12 +51,22 @@ def written(name, room):
     return Place(name, room, is_written=True) if isinstance(room, int) else Place(name, ctypes.sizeof(room), is_written=True, is_record=True)
 
 
+def machines_of(library, first):
+    """A machine that is held, where one has to be, and a place without one, where one is made."""
+    record = library._Machine()
+    library._library.kernelstint_machine_open(first, len(first), record)
+    held, none = bytes(record), bytes(ctypes.sizeof(record))
+    place = written("machine", library._Machine)
+    return place._replace(data=held, refused=(none, NO_MACHINE)), place._replace(data=none, refused=(held, IS_OPEN))
+
+
 def calls_of(library):
     """Each function that is given pointers, with what it takes in a call that is answered by the code 0."""
     first = bytes(library.State.first(BASE, 1))
     state, out, report = read("state", first), written("out", len(first)), written("out", 4000)
     malloc, block = library._Command(library.CommandKind.MALLOC, 1, number=20), library._Reply(library.ReplyKind.BLOCK, base=BASE, top=BASE + 32)
     line, trace = read("line", b"malloc c1 20"), read("trace", b"heap 0x40000000 1\nmalloc c1 20\n")
+    machine, none = machines_of(library, first)
     count, word, fault = written("count", ctypes.c_size_t), written("word", library._TaggedWord), written("fault", library._Fault)
     return {
         "word_from_bytes": (read("bytes", bytes(16)),),
@@ -69,6 +82,11 @@ def calls_of(library):
         "states": (trace, report, count),
         "trace_fault": (trace, fault),
         "line_fault": (line, fault),
+        "machine_open": (state, none),
+        "machine_step": (machine, malloc, written("reply", library._Reply)),
+        "machine_copy": (machine, none._replace(name="copy")),
+        "machine_bytes": (machine, out),
+        "machine_close": (machine,),
     }
 
 
@@ -84,6 +102,8 @@ class Row(NamedTuple):
     lengths: list
     is_wanted: object
     may_write: bool = False
+    # What stands at the places of these numbers in place of their own.
+    instead: dict = {}
 
 
 def pairs_of(places):
@@ -93,6 +113,10 @@ def pairs_of(places):
 
 def null_rows(place):
     return {f"{place.name} null"} | (set() if place.is_record else {f"{place.name} null beside 0"})
+
+
+def refused_row(place):
+    return f"{place.name} with {'one' if place.refused[1] == IS_OPEN else 'none'}"
 
 
 def over_rows(*pairs):
@@ -108,6 +132,9 @@ def rows_of(places):
         yield Row(f"{place.name} null", nowhere, lengths, lambda code: code == NULL)
         if not place.is_record:
             yield Row(f"{place.name} null beside 0", nowhere, [*lengths[:number], 0, *lengths[number + 1 :]], lambda code: code == NULL)
+        if place.refused:
+            data, wanted = place.refused
+            yield Row(refused_row(place), at, lengths, lambda code, wanted=wanted: code == wanted, instead={number: data})
     for first, second in itertools.permutations(range(len(places)), 2):
         names = places[first].name, places[second].name
         is_refused = places[first].is_written or places[second].is_written
@@ -134,9 +161,10 @@ def is_right(function, taken, row):
     """Whether the call is answered as the row wants it, and writes nothing but what it may."""
     places = [it for it in taken if isinstance(it, Place)]
     before = bytearray(bytes([UNWRITTEN]) * (APART * (len(places) + 1)))
-    for place, at in zip(places, row.at):
+    for number, (place, at) in enumerate(zip(places, row.at)):
         if at is not None:
-            before[at : at + len(place.data)] = place.data
+            data = row.instead.get(number, place.data)
+            before[at : at + len(data)] = data
     memory, handed = ctypes.create_string_buffer(bytes(before)), iter(zip(row.at, row.lengths))
     passed = []
     for it in taken:
@@ -237,6 +265,10 @@ class Tested:
                 yield self.tested("without its test of overlap", *([it] for it in self.entries), rows=over_rows(*self.pairs))
             for number in range(len(self.entries)):
                 yield from self.of_entry(number, *self.entries[number])
+            for place in self.places:
+                if place.refused:
+                    line = re.search(rf"    if \({place.name}->at [!=]= NULL\) return [^;]*;\n", self.body)
+                    yield self.change(f"without its test of what {place.name} holds", line[0] if line else "no such line", "", {refused_row(place)})
             for one, other in self.pairs if len(self.pairs) > 1 else ():
                 parts = self.without(one.name), self.without(other.name)
                 yield self.tested(f"without the test of {one.name} over {other.name}", *parts, rows=over_rows((one, other)))

@@ -24,6 +24,11 @@ uint32_t kernelstint_proved_states(const uint8_t *trace, size_t length, uint8_t 
 
 uint32_t kernelstint_proved_trace_fault(const uint8_t *trace, size_t length, kernelstint_fault *fault);
 uint32_t kernelstint_proved_line_fault(const uint8_t *line, size_t length, kernelstint_fault *fault);
+uint32_t kernelstint_proved_machine_open(const uint8_t *state, size_t length, kernelstint_machine *machine);
+uint32_t kernelstint_proved_machine_step(kernelstint_machine *machine, kernelstint_command command, kernelstint_reply *reply);
+uint32_t kernelstint_proved_machine_copy(kernelstint_machine *machine, kernelstint_machine *copy);
+uint32_t kernelstint_proved_machine_bytes(kernelstint_machine *machine, uint8_t *out, size_t out_length);
+void kernelstint_proved_machine_close(kernelstint_machine *machine);
 
 /* A place in memory that a call reads, or writes. */
 typedef struct place {
@@ -125,4 +130,36 @@ PUBLIC uint32_t kernelstint_trace_fault(const uint8_t *trace, size_t length, ker
 PUBLIC uint32_t kernelstint_line_fault(const uint8_t *line, size_t length, kernelstint_fault *fault) {
     TEST_PLACES(READ(line, length), WRITTEN(fault, sizeof *fault));
     return kernelstint_proved_line_fault(line, length, fault);
+}
+
+PUBLIC uint32_t kernelstint_machine_open(const uint8_t *state, size_t length, kernelstint_machine *machine) {
+    TEST_PLACES(READ(state, length), WRITTEN(machine, sizeof *machine));
+    if (machine->at != NULL) return KERNELSTINT_IS_OPEN;
+    return kernelstint_proved_machine_open(state, length, machine);
+}
+
+PUBLIC uint32_t kernelstint_machine_step(kernelstint_machine *machine, kernelstint_command command, kernelstint_reply *reply) {
+    TEST_PLACES(WRITTEN(machine, sizeof *machine), WRITTEN(reply, sizeof *reply));
+    if (machine->at == NULL) return KERNELSTINT_NO_MACHINE;
+    return kernelstint_proved_machine_step(machine, command, reply);
+}
+
+PUBLIC uint32_t kernelstint_machine_copy(kernelstint_machine *machine, kernelstint_machine *copy) {
+    TEST_PLACES(WRITTEN(machine, sizeof *machine), WRITTEN(copy, sizeof *copy));
+    if (machine->at == NULL) return KERNELSTINT_NO_MACHINE;
+    if (copy->at != NULL) return KERNELSTINT_IS_OPEN;
+    return kernelstint_proved_machine_copy(machine, copy);
+}
+
+PUBLIC uint32_t kernelstint_machine_bytes(kernelstint_machine *machine, uint8_t *out, size_t out_length) {
+    TEST_PLACES(WRITTEN(machine, sizeof *machine), WRITTEN(out, out_length));
+    if (machine->at == NULL) return KERNELSTINT_NO_MACHINE;
+    return kernelstint_proved_machine_bytes(machine, out, out_length);
+}
+
+PUBLIC uint32_t kernelstint_machine_close(kernelstint_machine *machine) {
+    TEST_PLACES(WRITTEN(machine, sizeof *machine));
+    if (machine->at == NULL) return KERNELSTINT_NO_MACHINE;
+    kernelstint_proved_machine_close(machine);
+    return KERNELSTINT_DONE;
 }

@@ -28,8 +28,8 @@ del annotations
 
 __all__ = [
     "BadAddress", "BadBase", "BadBounds", "BadCommand", "BadFields", "BadLength", "BadLine", "BadNumber", "BadRegister",
-    "BadReply", "BadSize", "BadState", "BadTrace", "Claim", "Command", "CommandKind", "Corrections", "Differs", "Error", "Fields",
-    "LibraryError", "NULL", "NoMemory", "PassedOver", "Permission", "Reply", "ReplyKind", "State", "TaggedWord", "Trap",
+    "BadReply", "BadSize", "BadState", "BadTrace", "Claim", "Closed", "Command", "CommandKind", "Corrections", "Differs", "Error",
+    "Fields", "LibraryError", "Machine", "NULL", "NoMemory", "PassedOver", "Permission", "Reply", "ReplyKind", "State", "TaggedWord", "Trap",
     "VERSION", "Why", "WhyKind", "Word", "alignment_mask", "block_capability", "representable_length", "run", "states",
 ]  # fmt: skip
 
@@ -109,6 +109,10 @@ class BadLine(Error, ValueError):
 
 class NoMemory(Error, MemoryError):
     """The library could get no memory."""
+
+
+class Closed(Error, ValueError):
+    """The machine was closed."""
 
 
 class BadCommand(Error, ValueError):
@@ -388,6 +392,10 @@ class _Fault(_ctypes.Structure):
     _fields_ = [("line", _ctypes.c_uint32), ("kind", _ctypes.c_uint8)]
 
 
+class _Machine(_ctypes.Structure):
+    _fields_ = [("at", _ctypes.c_void_p)]
+
+
 class _TaggedWord(_ctypes.Structure):
     _fields_ = [("low", _ctypes.c_uint64), ("high", _ctypes.c_uint64), ("tag", _ctypes.c_uint8)]
 
@@ -426,13 +434,18 @@ _FUNCTIONS = [
     ("states", _ctypes.c_uint32, [*_READ, *_WRITTEN, _COUNT]),
     ("trace_fault", _ctypes.c_uint32, [*_READ, _ctypes.POINTER(_Fault)]),
     ("line_fault", _ctypes.c_uint32, [*_READ, _ctypes.POINTER(_Fault)]),
+    ("machine_open", _ctypes.c_uint32, [*_READ, _ctypes.POINTER(_Machine)]),
+    ("machine_step", _ctypes.c_uint32, [_ctypes.POINTER(_Machine), _Command, _ctypes.POINTER(_Reply)]),
+    ("machine_copy", _ctypes.c_uint32, [_ctypes.POINTER(_Machine), _ctypes.POINTER(_Machine)]),
+    ("machine_bytes", _ctypes.c_uint32, [_ctypes.POINTER(_Machine), *_WRITTEN]),
+    ("machine_close", _ctypes.c_uint32, [_ctypes.POINTER(_Machine)]),
 ]
 # The codes of include/kernelstint.h that are raised. Rooms and pointers are this file's own, and so never wrong.
 _ERRORS = {
     1: BadLength, 2: BadFields, 3: BadBounds, 6: BadState, 7: BadSize, 8: BadBase, 9: BadRegister, 10: BadAddress, 12: PassedOver,
     14: NoMemory, 15: BadCommand, 16: BadReply,
 }  # fmt: skip
-_SHORT_TEXT, _BAD_LINE, _DIFFERS, _BAD_TRACE, _LONGEST_REPLY = 11, 13, 17, 18, 200
+_SHORT_TEXT, _BAD_LINE, _DIFFERS, _BAD_TRACE, _NO_MACHINE, _LONGEST_REPLY = 11, 13, 17, 18, 20, 200
 # The faults, by their numbers from 1.
 _FAULTS = ["too-long", "no-heap", "bad-heap", "bad-command", "bad-count", "bad-register", "bad-number", "bad-data"]
 
@@ -820,6 +833,68 @@ class State:
         code = _library.kernelstint_granule(self._bytes, len(self._bytes), _within(address, 64, "the address"), told)
         _done(code, f"no granule starts at {address:#x}")
         return TaggedWord(Word(told.high << 64 | told.low), told.tag == 1)
+
+
+class Machine:
+    """A machine for long runs, in which no state is wanted after each command: it begins in a state, and each command changes it.
+    One is equal to itself alone. It holds memory of the library until it is closed, at the end of a `with`, or when nothing names
+    it any more; one that is closed answers every call but `close` with Closed. Its calls are for one thread at a time."""
+
+    __slots__ = ("_held", "_length")
+
+    def __init__(self, state: State) -> None:
+        _instance(state, State, "a state")
+        data = bytes(state)
+        self._held, self._length = _Machine(), len(data)
+        _done(_library.kernelstint_machine_open(data, len(data), self._held), "no machine can be opened")
+
+    def step(self, command: Command) -> Reply:
+        """Does a command, and answers the reply. Raises BadCommand."""
+        told = _Reply()
+        self._answered(_library.kernelstint_machine_step(self._held, _passed_command(command), told), f"no command: {command}")
+        return _reply_of(told)
+
+    @property
+    def state(self) -> State:
+        """The state that it is in."""
+        room = (_ctypes.c_uint8 * self._length)()
+        self._answered(_library.kernelstint_machine_bytes(self._held, room, len(room)), "the state can't be told")
+        return State._of(bytes(room))
+
+    def copy(self) -> Machine:
+        """Another machine in the same state."""
+        made = object.__new__(type(self))
+        made._held, made._length = _Machine(), self._length
+        self._answered(_library.kernelstint_machine_copy(self._held, made._held), "no machine can be opened")
+        return made
+
+    def close(self) -> None:
+        """Gives its memory back. A second time that does nothing."""
+        _library.kernelstint_machine_close(self._held)
+
+    def _answered(self, code: int, wrong: str) -> None:
+        if code == _NO_MACHINE:
+            raise Closed("the machine is closed")
+        _done(code, wrong)
+
+    def __copy__(self) -> Machine:
+        return self.copy()
+
+    def __deepcopy__(self, memo: dict) -> Machine:
+        return self.copy()
+
+    def __enter__(self) -> Machine:
+        return self
+
+    def __exit__(self, *_: object) -> None:
+        self.close()
+
+    def __del__(self) -> None:
+        if hasattr(self, "_held"):
+            self.close()
+
+    def __repr__(self) -> str:
+        return f"<Machine in {self.state}>" if self._held.at else "<Machine, closed>"
 
 
 def _whole(call: _ctypes._CFuncPtr, text: str | bytes) -> bytes:

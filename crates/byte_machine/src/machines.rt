@@ -1,12 +1,14 @@
-//! Machines from bytes.
+//! Machines from bytes and into them.
 
-ghost use Rattle.std.specs.Prelude.{◌≡◌, IfErr, IfOk, length};
-ghost use Rattle.state_bytes.specs.Text.{text_length};
+ghost use Rattle.std.specs.Prelude.{◌≡◌, ◌≢◌, ◌↔◌, IfErr, IfOk, IfSome, false, length, true};
+ghost use Rattle.state_bytes.specs.State.{IsSameState};
+ghost use Rattle.state_bytes.specs.Text.{text_of};
+ghost use Rattle.state_bytes.specs.Text as text;
 ghost use Rattle.byte_machine.specs.Calls.{IsTextOf, IsUnreadable};
 
 use crate::fault::CallFault;
 use heap_machine::Machine;
-use state_bytes::{BytesFault, decode, texts};
+use state_bytes::{BytesFault, decode, encode, encode_into, text_length, texts};
 use std::alloc::Global;
 use sweep_pool::Cutting;
 
@@ -21,10 +23,10 @@ pub fn alone() -> Cutting {
     }
 }
 
-// The machine of these bytes.
+/// The machine of these bytes. Its passes are made by the calling thread.
 pub fn machine_in(alloc: Global, state: &[u8]) -> Result<Machine, CallFault>
     ensures told { IfOk result (λ machine. IsTextOf state.now machine) }
-    ensures room { IfOk result (λ machine. text_length (length machine.dirty) ≡ length state.now) }
+    ensures room { IfOk result (λ machine. text.text_length (length machine.dirty) ≡ length state.now) }
     ensures fault { IfErr result (IsUnreadable state.now) }
 {
     texts();
@@ -33,4 +35,31 @@ pub fn machine_in(alloc: Global, state: &[u8]) -> Result<Machine, CallFault>
         Err(BytesFault::Memory) => Err(CallFault::Memory),
         Err(why) => Err(CallFault::State(why)),
     }
+}
+
+/// Another machine in the same state; `None` where memory runs out.
+pub fn copy_of(alloc: Global, machine: &Machine) -> Option<Machine>
+    ensures { IfSome result (λ copy. IsSameState copy machine.now) }
+{
+    let Ok(bytes) = encode(alloc, machine) else {
+        return None;
+    };
+    match decode(alloc, alone(), &bytes) {
+        Ok(copy) => Some(copy),
+        Err(_) => None,
+    }
+}
+
+/// Writes the bytes of a machine's state into a room that is as long, and answers whether it was.
+pub fn put_state(machine: &Machine, out: &mut [u8]) -> bool
+    ensures text { result ≡ true → out.new ≡ text_of machine.now }
+    ensures still { result ≡ false → out.new ≡ out.old }
+    ensures room { (result ≡ false) ↔ (length out.old ≢ text.text_length (length machine.now.dirty)) }
+{
+    machine.memory().whole();
+    if out.len() != text_length(machine.memory().pages()) {
+        return false;
+    }
+    encode_into(machine, out);
+    true
 }

@@ -3,7 +3,7 @@
 ghost use Rattle.std.specs.Prelude.{◌≡◌, ◌≢◌, ◌↔◌, IfErr, IfOk, MatchOption, OnErr, OnOk, Some, None, false, length, true};
 ghost use Rattle.heap_machine.specs.Follow.{Follows};
 ghost use Rattle.heap_machine.specs.Step.{Step};
-ghost use Rattle.state_bytes.specs.Text.{text_length};
+ghost use Rattle.state_bytes.specs.Text as text;
 ghost use Rattle.tag_memory.specs.Extent as extent;
 ghost use Rattle.trace_text.specs.Command.{IsValid};
 ghost use Rattle.byte_machine.specs.Calls.{IsFirst, IsJudged, IsNotFirst, IsStep, IsUnreadable, LeadsTo};
@@ -11,23 +11,18 @@ ghost use Rattle.byte_machine.specs.Calls.{IsFirst, IsJudged, IsNotFirst, IsStep
 use crate::fault::CallFault;
 use crate::machines::{alone, machine_in};
 use heap_machine::{Followed, Machine, Reply};
-use state_bytes::{encode_into, exactness};
+use state_bytes::{encode_into, exactness, text_length};
 use std::alloc::Global;
 use sweep_pool::Open;
 use tag_memory::{is_base, is_size};
 use trace_text::Command;
 
-// How long a state is beside what each page takes, and what that is.
-const LEAST: u64 = 557;
-
-const PAGE: u64 = 5377;
-
 /// How many bytes a state of so many pages has; nothing where no heap has so many.
 pub fn state_length(pages: u32) -> Option<usize>
-    ensures { MatchOption result (extent.is_size pages ≡ false) (λ length. (extent.is_size pages ≡ true) × (length ≡ text_length pages)) }
+    ensures { MatchOption result (extent.is_size pages ≡ false) (λ length. (extent.is_size pages ≡ true) × (length ≡ text.text_length pages)) }
 {
     if is_size(u64::from(pages)) {
-        Some((LEAST + PAGE * u64::from(pages)) as usize)
+        Some(text_length(pages))
     } else {
         None
     }
@@ -60,7 +55,7 @@ pub fn first(alloc: Global, base: u64, pages: u32, out: &mut [u8]) -> Result<(),
 fn stepped(alloc: Global, state: &[u8], command: Command) -> Result<(Machine, Reply), CallFault>
     requires { IsValid command }
     ensures leads { IfOk result (λ done. LeadsTo Step state.now command done.1 done.0) }
-    ensures room { IfOk result (λ done. text_length (length done.0.dirty) ≡ length state.now) }
+    ensures room { IfOk result (λ done. text.text_length (length done.0.dirty) ≡ length state.now) }
     ensures fault { IfErr result (IsUnreadable state.now) }
 {
     let mut machine = machine_in(alloc, state)?;

@@ -10,8 +10,10 @@ mod codes;
 mod crossing;
 mod decoding;
 mod faults;
+mod handle;
 mod looks;
 mod machine;
+mod machines;
 mod making;
 mod texts;
 mod words;
@@ -24,12 +26,18 @@ pub use crate::decoding::{
     kernelstint_is_allowed, kernelstint_representable,
 };
 pub use crate::faults::{kernelstint_proved_line_fault, kernelstint_proved_trace_fault};
+pub use crate::handle::MachineHandle;
 pub use crate::looks::{
     kernelstint_proved_counts, kernelstint_proved_granule, kernelstint_proved_register,
 };
 pub use crate::machine::{
     kernelstint_proved_first, kernelstint_proved_follow, kernelstint_proved_step,
     kernelstint_proved_step_line, kernelstint_state_length,
+};
+pub use crate::machines::{
+    kernelstint_proved_machine_bytes, kernelstint_proved_machine_close,
+    kernelstint_proved_machine_copy, kernelstint_proved_machine_open,
+    kernelstint_proved_machine_step,
 };
 pub use crate::making::{
     kernelstint_alignment_mask, kernelstint_and_perms, kernelstint_block_capability,

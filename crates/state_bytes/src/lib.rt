@@ -14,3 +14,4 @@ pub use crate::decoding::decode;
 pub use crate::encoding::{encode, encode_into};
 pub use crate::fault::BytesFault;
 pub use crate::laws::{exactness, texts};
+pub use crate::places::text_length;

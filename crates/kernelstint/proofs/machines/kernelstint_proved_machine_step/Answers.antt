@@ -1,0 +1,19 @@
+use Rattle.std.proofs.Common.{rules}
+use Rattle.kernelstint.proofs.machines.kernelstint_proved_machine_step.Goals as goal
+
+pub returns-in-Ok-clause-step : goal.returns-in-Ok-clause-step
+returns-in-Ok-clause-step c = λ _. record {
+  from = c.take-held.result.value;
+  to = c.step_alone-answered.new.self;
+  command = c.in-Some.command;
+  reply = c.in-Ok.told;
+  old_is = c.take-held.ensures.taken;
+  new_is = c.put.ensures;
+  command_is = search rules;
+  reply_is = c.reply_record.ensures.value;
+  step = search rules;
+  dirty = search rules;
+  unused = search rules;
+  revoked = search rules;
+  exact = λ exact.
+    c.exactness.ensures.steps c.take-held.result.value.state c.in-Some.command c.in-Ok.told c.step_alone-answered.new.self.state (search rules) exact (search rules) }

@@ -1,0 +1,15 @@
+-- What a handle owns: nothing at null, or the value behind the pointer with the right to free its block.
+use base.Fml.{Fml, feq}
+use denote.RattleType.{RattleType}
+use denote.RawPtr.{Ptr, null_ptr}
+use Rattle.std.specs.Prelude.{Option, Some, None}
+use Rattle.std.specs.Box.Ownership.{box_owns}
+use Rattle.libc.specs.Heap.{chunk}
+use Rattle.heap_machine.specs.contracts.machine.Machine.{the_row}
+
+abbrev pub handle_owns : (R : RattleType) → Ptr → Option R.Denot → Fml
+handle_owns R p None = feq Ptr p null_ptr
+handle_owns R p (Some x) = box_owns chunk R p x
+
+abbrev pub machine_owns : Ptr → Option the_row.Denot → Fml
+machine_owns = handle_owns the_row
