@@ -21,9 +21,9 @@ FAULTS = {
     b"# one\nheap 1 1\n": f"line 2 of the trace, 'heap 1 1': bad-heap: {HEAP_LINE}",
     b"heap 0 1\nmalloc c1 0x\n": "line 2 of the trace, 'malloc c1 0x': bad-number: a number is decimal, or hexadecimal with 0x, and below 2^64; a mask is below 65536",
     b"heap 0 1\nwrite c1 00\n": "line 2 of the trace, 'write c1 00': bad-data: data is exactly 32 hexadecimal digits",
-    b"heap 0 1\n\tnarrow c1  c2\n": "line 2 of the trace, ' narrow c1  c2': bad-count: it is 'narrow cD cS LENGTH'",
+    b"heap 0 1\n\tnarrow c1  c2\n": "line 2 of the trace, 'narrow c1  c2': bad-count: it is 'narrow cD cS LENGTH'",
     b"heap 0 1\nsweep 1\n": "line 2 of the trace, 'sweep 1': bad-count: it is 'sweep'",
-    b"heap 0 1\nfrob \x1b[31m\xff\n": "line 2 of the trace, 'frob  [31m ': bad-command: a line begins with malloc, free, copy, setaddr, narrow, andperm, storecap, loadcap, "
+    b"heap 0 1\nfrob \x1b[31m\xff\n": "line 2 of the trace, 'frob ?[31m?': bad-command: a line begins with malloc, free, copy, setaddr, narrow, andperm, storecap, loadcap, "
                                        "write, show, sweep, begin, end or #",
     b"#" * 4_194_305: "too-long: a trace has at most 4194304 bytes",
 }
