@@ -26,7 +26,7 @@ TRACES = {
              "setaddr c0 c1 5", "show c0", "storecap c1 c2", "loadcap c0 c1", "loadcap c5 c1", "begin", "end", "sweep", "free c1", "begin", "malloc c6 4096",
              "end", "malloc c7 4096", "malloc c8 16", "free c7", "malloc c0 16"],
     "traps": ["heap 0x40000000 1", "show c9", "free c9", "malloc c1 48", "narrow c2 c1 0", "narrow c2 c1 49", "setaddr c2 c1 0x40000001",
-              "loadcap c3 c2", "write c2 " + "0f" * 16, "free c2", "andperm c4 c1 0", "loadcap c5 c4", "free c4", "free c1", "copy c0 c1", "loadcap c0 c1"],
+              "loadcap c3 c2", "write c2 " + "0f" * 16, "free c2", "andperm c4 c1 0", "loadcap c5 c4", "storecap c4 c1", "free c4", "free c1", "copy c0 c1", "loadcap c0 c1"],
 }
 
 
