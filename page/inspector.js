@@ -19,18 +19,23 @@ function drawInspector() {
   const typed = view.chosen && view.chosen.kind === 'word';
   byId('follow').checked = view.follow;
   byId('shown').replaceChildren('Shown is ', element('b', {}, name), typed ? '.' : cell.tag ? ', tagged.' : ', without a tag.');
-  if (drawnWord !== cell.word) {
-    drawnWord = cell.word;
-    const word = cell.meaning;
-    byId('word').replaceChildren(...bytesOf(cell.word, word), fieldTable(word),
+  const isData = !typed && !cell.tag && !cell.isNull, drawn = cell.word + isData;
+  if (drawnWord !== drawn) {
+    drawnWord = drawn;
+    const word = cell.meaning, heading = isData ? element('h3', {}, 'If these bytes were a capability') : null;
+    byId('word').replaceChildren(...bytesOf(cell.word, word, isData), ...[heading].filter(Boolean), fieldTable(word),
       element('div', { class: 'two' }, derivation(word), meaningTable(word)));
   }
   drawWindow();
 }
 
-function bytesOf(text, word) {
+// The bytes as text, with a dot for each that is no letter, digit or sign.
+const textOfBytes = word => word.match(/../g).map(byte => String.fromCharCode(parseInt(byte, 16))).join('').replace(/[^ -~]/g, '·');
+
+function bytesOf(text, word, isData) {
   const bytes = text.match(/../g), note = content => element('span', { class: 'muted' }, content);
   return [
+    ...(isData ? [element('p', { class: 'as-text' }, 'As text: ', element('b', {}, textOfBytes(text)))] : []),
     element('p', {}, 'Bytes in memory: ', code(bytes.slice(0, 8).join(' ')), note(' (the address, its lowest byte first) '),
       code(bytes.slice(8).join(' ')), note(' (the metadata)')),
     element('p', {}, 'Metadata: ', code(digits(word.stored, 16)), ' ⊕ ', code(digits(NULL_METADATA, 16)), ' = ',

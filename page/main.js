@@ -1,20 +1,31 @@
 // What the reader looks at, the controls and the keys, and how the page begins.
 
-const view = { step: 0, before: false, chosen: null, follow: true, probe: null, cursor: null,
+const view = { step: 0, side: 'after', chosen: null, follow: true, probe: null, cursor: null,
   columns: 32, cell: 0, whole: false, mapWidth: 600, mapHeight: 600, windowWidth: 600, timer: null };
 
 function go(to) {
   view.step = clamp(to, 0, run.steps.length - 1);
-  view.before = false;
+  view.side = 'after';
   moveTo(view.step);
   if (view.follow) follow();
   draw(true);
 }
 
-// The state that is shown: that after the step, or before a pass.
-function show(before) {
-  view.before = before;
-  moveTo(before ? view.step - 1 : view.step);
+// The sides from which a pass can be looked at, each with its name. A malloc that sweeps has one more, between the two.
+function sidesOf(step) {
+  if (!step.taken) return [];
+  return step.words[0] === 'malloc' ? [['before', 'before'], ['between', 'after the sweep'], ['after', 'after the malloc']]
+    : [['before', 'before'], ['after', 'after']];
+}
+
+// The side on which the pass is done, and no more than that.
+const passedSide = step => (step.words[0] === 'malloc' ? 'between' : 'after');
+
+// The state that is shown: that after the step, before a pass, or between the two.
+function show(side) {
+  view.side = side;
+  moveTo(side === 'after' ? view.step : view.step - 1);
+  if (side === 'between') enterBetween(run.steps[view.step]);
   draw(false);
 }
 
@@ -61,11 +72,11 @@ function drawStep() {
   byId('what').replaceChildren(element('p', { class: 'command' }, code(step.text), step.reply ? [' → ', code(step.reply)] : null),
     element('p', {}, ...explain(step)));
   byId('epoch').hidden = !state.open;
-  const side = before => element('button', { 'aria-pressed': String(view.before === before), 'data-before': String(before), onclick() {
-    show(before);
-    byId('sides').querySelector(`[data-before=${before}]`).focus();
-  } }, before ? 'before' : 'after');
-  byId('sides').replaceChildren(...(step.taken ? [side(true), side(false)] : []));
+  const button = ([side, name]) => element('button', { 'aria-pressed': String(view.side === side), 'data-side': side, onclick() {
+    show(side);
+    byId('sides').querySelector(`[data-side=${side}]`).focus();
+  } }, name);
+  byId('sides').replaceChildren(...sidesOf(step).map(button));
   byId('taken').replaceChildren(...(step.taken && step.taken.rows.length ? [takenTable(step.taken)] : []));
 }
 

@@ -105,19 +105,19 @@ function drawMap(scroll) {
 
 // What stands out at this step, and goes at the next.
 function drawOverlays(L) {
-  const step = run.steps[view.step], now = !view.before;
+  const step = run.steps[view.step], now = view.side === 'after', passed = step.taken && view.side !== 'before';
   for (const drawn of map.fresh) drawn.classList.remove('new');
   const { released, changes, reasons, chosen } = map.layers;
   for (const layer of [released, changes, reasons, chosen, map.chips]) layer.replaceChildren();
   map.fresh = now ? step.blocks.map(change => map.blocks.get(change.block)).filter(Boolean) : [];
   for (const drawn of map.fresh) drawn.classList.add('new');
-  map.struck = now && step.taken ? step.taken.rows.filter(row => row.kind === 'granule').map(row => row.place) : [];
+  map.struck = passed ? step.taken.rows.filter(row => row.kind === 'granule').map(row => row.place) : [];
   for (const place of map.struck) drawMark(place, true);
-  if (now) {
-    released.append(...step.blocks.filter(change => change.now === null).map(change => blockShape(L, change.block, 'released')));
-    changes.append(...step.granules.map(change => ringOf(L, change.place)));
-  }
-  const chips = step.taken ? drawReasons(L, step.taken) : 0;
+  const ended = now ? step.blocks.filter(change => change.now === null).map(change => change.block) : passed ? step.taken.due : [];
+  released.append(...ended.map(block => blockShape(L, block, 'released')));
+  if (view.side !== 'before') changes.append(...step.granules.map(change => ringOf(L, change.place)));
+  // A malloc may hand out the blocks to which the lines go, so it has none once that is done.
+  const chips = step.taken && (view.side === 'before' || view.side === passedSide(step)) ? drawReasons(L, step.taken) : 0;
   const bands = Math.max(Math.ceil(chips / L.chipsInRow), run.most ? 1 : 0); // one is kept, so that the map stays in its place
   map.top = (bands ? CHIP.height * bands + 8 : 0) + 32;
   map.body.setAttribute('transform', `translate(0 ${map.top})`);
@@ -163,11 +163,13 @@ function drawReasons(L, taken) {
 
 function chipOf(row, x, y) {
   return shape('g', { 'data-taken': row.name }, shape('rect', { class: 'chip', x, y, width: 54, height: 24, rx: 6 }),
-    shape('text', { class: 'name', x: x + 7, y: y + 16 }, row.name), tagMark(x + 41, y + 12, 5, view.before));
+    shape('text', { class: 'name', x: x + 7, y: y + 16 }, row.name), tagMark(x + 41, y + 12, 5, view.side === 'before'));
 }
 
-// The bounds of the word that is chosen, with its base and its address: broken lines where it has no tag.
-function drawChosen(L, { tag, meaning }) {
+// The bounds of the word that is chosen, with its base and its address: broken lines where it has no tag. Null has no bounds
+// to speak of: all addresses.
+function drawChosen(L, { tag, meaning, isNull }) {
+  if (isNull) return;
   const layer = map.layers.chosen, end = addressOf(L.shown), inside = clippedTo(end, meaning.base, meaning.top);
   if (inside) {
     const told = `${hex(meaning.base)} ${hex(meaning.top)}`;
@@ -177,16 +179,16 @@ function drawChosen(L, { tag, meaning }) {
     const late = x > L.right - 100;
     layer.append(shape('text', { class: 'pinned', x: late ? x - 8 : x + 8, y, 'text-anchor': late ? 'end' : 'start' }, text));
   };
-  const within = address => run.base <= address && address < end;
+  const within = address => run.base <= address && address < end, corner = clamp(Math.min(L.width, L.height) * .45, 2, 12);
   const isBoth = meaning.base === meaning.address;
   if (within(meaning.base)) {
     const [x, y] = spotOf(L, granulesTo(meaning.base));
-    layer.append(shape('path', { class: 'pin', d: `M${x + 1} ${y + 3}l-6 -10h12Z` }));
+    layer.append(shape('path', { class: 'pin', d: `M${x} ${y}h${corner}l${-corner} ${corner}Z` }));
     note(isBoth ? 'base, address' : 'base', x, y - 2);
   }
   if (!isBoth && within(meaning.address)) {
     const [x, y] = spotOf(L, granulesTo(meaning.address)), low = y + L.height;
-    layer.append(shape('path', { class: 'pin', d: `M${x + 1} ${low - 3}l-6 10h12Z` }));
+    layer.append(shape('path', { class: 'pin', d: `M${x} ${low}h${corner}l${-corner} ${-corner}Z` }));
     note('address', x, low + 11);
   }
 }
@@ -229,7 +231,7 @@ function drawDetail() {
   const cell = state.granules[place], block = state.owners[place], { meaning } = cell;
   box.replaceChildren(element('b', {}, `Granule ${place} at ${hex(addressOf(place))}`), ', ',
     block ? `in the ${stateName(block.state)} block ${rangeOf(block)}` : 'free', cell.tag ? '. Tagged. ' : '. No tag. ',
-    'Bytes ', code(cell.word.match(/.{1,8}/g).join(' ')), '. ',
+    'Bytes ', code(cell.word.match(/.{1,8}/g).join(' ')), ...(cell.tag || cell.isNull ? ['. '] : [', as text ', code(textOfBytes(cell.word)), '. ']),
     ...(cell.tag ? ['A capability of ', code(hex(meaning.base)), ' to ', code(hex(meaning.top)), ', address ', code(hex(meaning.address)),
       '; its base lies ', placeOfBase(meaning.base), '.'] : []));
 }

@@ -48,9 +48,9 @@ function makeRegisterRows() {
 }
 
 function drawRegisters() {
-  const step = run.steps[view.step], now = !view.before, bands = heldBands();
-  const changed = new Set(now ? step.registers.map(change => change.place) : []);
-  const taken = new Set(now && step.taken ? step.taken.rows.filter(row => row.kind === 'register').map(row => row.place) : []);
+  const step = run.steps[view.step], bands = heldBands();
+  const taken = new Set(view.side !== 'before' && step.taken ? step.taken.rows.filter(row => row.kind === 'register').map(row => row.place) : []);
+  const changed = new Set(view.side === 'after' ? step.registers.map(change => change.place) : view.side === 'between' ? taken : []);
   for (const [register, kept] of registerRows) {
     const cell = state.registers[register], chosen = view.chosen && view.chosen.kind === 'register' && view.chosen.place === register;
     const { base, top } = cell.meaning, told = cell.isNull ? 'null' : `bounds ${hex(base)} to ${hex(top)}, base ${placeOfBase(base)}`;

@@ -135,6 +135,26 @@ function setBlock(block, now) {
   touched.blocks.add(block);
 }
 
+// Of a malloc that swept, the state between: the pass has taken its tags and set its blocks free, and no more has changed.
+let between = null; // while its state is the one, what the pass took, and what its blocks were before
+
+const setCell = ({ kind, place }, cell) => {
+  state[kind + 's'][place] = cell;
+  touched[kind + 's'].add(place);
+};
+
+function enterBetween(step) {
+  between = { taken: step.taken, were: step.taken.due.map(block => block.state) };
+  for (const row of step.taken.rows) setCell(row, new Cell({ tag: false, word: row.cell.word }));
+  for (const block of step.taken.due) setBlock(block, null);
+}
+
+function leaveBetween() {
+  between.taken.due.forEach((block, index) => setBlock(block, between.were[index]));
+  for (const row of between.taken.rows) setCell(row, row.cell);
+  between = null;
+}
+
 function apply(step, side) {
   for (const change of step.registers) {
     state.registers[change.place] = change[side];
@@ -149,6 +169,7 @@ function apply(step, side) {
 }
 
 function moveTo(index) {
+  if (between) leaveBetween();
   while (state.index < index) apply(run.steps[++state.index], 'now');
   while (state.index > index) apply(run.steps[state.index--], 'was');
   state.open = run.steps[index].open;

@@ -1,6 +1,7 @@
 """What testing/page_tests.py asks the page, and what the answer has to be."""
 
 import page_model
+import page_sentences
 from page_model import NAMES, COLOURS, PATTERNS, NULL_WORD, Word, block_key, grouped, hexadecimal
 
 # All that the page shows of a step, as its document has it.
@@ -32,7 +33,7 @@ LOOK = r"""(() => {
     bounds: document.querySelector('#map [data-bounds]')?.dataset.bounds ?? null,
     broken: document.querySelector('#map [data-bounds]')?.classList.contains('off') ?? null,
     pins: all('#map .pinned').map((node, index) => [text(node), middle(all('#map .pin')[index])]),
-    shown: text(document.querySelector('#shown')), meaning: all('.meaning tr').map(line => [...line.cells].map(text)),
+    shown: text(document.querySelector('#shown')), heading: text(document.querySelector('#word > h3')), asText: text(document.querySelector('#word .as-text')), meaning: all('.meaning tr').map(line => [...line.cells].map(text)),
     steps: all('.steps li').map(text).join(' '), fields: all('.fields code').map(text), bytes: all('#word p code').map(text),
     window: document.querySelector('#window svg').getAttribute('aria-label'), edges: all('#window text').map(text),
     verdict: text(document.querySelector('#verdict')), exact: document.querySelector('#exact').value, detail: text(document.querySelector('#detail')),
@@ -69,7 +70,8 @@ OPENED = r"""JSON.stringify([performance.getEntriesByType('navigation')[0].loadE
 PICTURES = [
     ("sweep_light", "lesson_a_derived_pointer_goes_by_its_base", 9, False, (1440, 900), ""),
     ("sweep_dark", "lesson_a_derived_pointer_goes_by_its_base", 9, True, (1440, 900), ""),
-    ("sweep_before", "lesson_contents_stay", 5, False, (1280, 800), "show(true)"),
+    ("sweep_before", "lesson_contents_stay", 5, False, (1280, 800), "show('before')"),
+    ("malloc_between", "lesson_malloc_sweeps_when_full", 4, False, (1280, 800), "show('between')"),
     ("use_after_free", "lesson_use_after_free", 4, False, (1280, 800), ""),
     ("epoch_light", "lesson_an_epoch_with_a_store", 6, False, (1440, 900), ""),
     ("epoch_dark", "lesson_an_epoch_with_a_store", 9, True, (1440, 900), ""),
@@ -97,16 +99,19 @@ class Expected:
         check(f"{name}: the row is in view", seen["inView"], True)
         check(f"{name}: the step", [seen["command"], seen["count"], seen["slider"]],
               [text + (f" → {value['reply']}" if value["reply"] else ""), f"step {grouped(index)} of {grouped(len(run.values) - 1)}", str(index)])
-        self.compare_sentence(name, value, state, seen["sentence"])
-        self.compare_state(name, index, state, seen, True)
-        self.compare_taken(name, index, seen, True)
+        self.compare_sentence(name, index, value, state, seen["sentence"])
+        self.compare_state(name, index, state, seen, "after")
+        self.compare_taken(name, index, seen, "after")
         check(f"{name}: changed granules", [place for place, _ in sorted(seen["rings"])], run.changes(index, "granules"))
         check(f"{name}: their rings stand in their cells", [place for place, ring in seen["rings"] if not self.is_in_cell(seen, place, ring)], [])
         check(f"{name}: an open epoch is told", seen["epoch"], state.open)
         check(f"{name}: no fault", seen["fault"], "")
         self.compare_shown(name, index, state, seen)
 
-    def compare_sentence(self, name, value, state, sentence):
+    def compare_sentence(self, name, index, value, state, sentence):
+        must, must_not = page_sentences.facts(self.run, index)
+        self.check(f"{name}: the sentence says what is true", [text for text in must if text not in sentence], [])
+        self.check(f"{name}: the sentence says nothing else", [text for text in must_not if text in sentence], [])
         answer = value["reply"].split()
         is_trap = answer[:1] == ["trap"]
         self.check(f"{name}: the sentence says whether it was refused", sentence.startswith("Refused: "), is_trap)
@@ -119,28 +124,28 @@ class Expected:
         if not is_trap and name_of != "show":
             self.check(f"{name}: the sentence has the numbers of the reply", [number for number in numbers if number not in sentence], [])
 
-    def compare_state(self, name, index, state, seen, is_after):
-        check, run = self.check, self.run
+    def compare_state(self, name, index, state, seen, side):
+        check, run, is_after = self.check, self.run, side == "after"
         blocks = {key: rest for key, *rest in seen["blocks"] if rest[0] != "released"}
         new = {block for block in state.blocks if is_after and run.before(index).blocks.get(block) != state.blocks[block]}
         check(f"{name}: blocks, with colour and pattern", {key: [of[0], of[1], of[2], of[4]] for key, of in blocks.items()},
               {block_key(block): [of, COLOURS[of], PATTERNS[of], block in new] for block, of in state.blocks.items()})
         check(f"{name}: names on blocks", [key for key, of in blocks.items() if of[3] not in (None, NAMES[of[0]])], [])
-        ended = {block for block in run.before(index).blocks if block not in state.blocks} if is_after else set()
+        ended = {block for block in run.before(index).blocks if block not in state.blocks}
         check(f"{name}: blocks that ended", sorted(key for key, of, *_ in seen["blocks"] if of == "released"), sorted(map(block_key, ended)))
         check(f"{name}: the table of blocks", seen["table"], [
             [hexadecimal(base), hexadecimal(top), grouped(top - base), NAMES[of]] for (base, top), of in sorted(state.blocks.items())])
-        lost = {row[1] for row in run.taken(index) or [] if row[0] == "granule"} if is_after else set()
+        lost = {row[1] for row in run.taken(index) or [] if row[0] == "granule"} if side != "before" else set()
         wanted = {place: ["1", "tag"] if tag else ["0", "lost"] if place in lost else ["0", "data"]
                   for place, (tag, word) in state.granules.items() if tag or word != NULL_WORD}
         check(f"{name}: tags and data in memory", {place: [tag, kind] for place, tag, kind, _ in seen["marks"]}, wanted)
         check(f"{name}: each mark stands once, in its cell", [place for place, *_, at in seen["marks"] if not self.is_in_cell(seen, place, [*at, 0, 0])]
               + [len(seen["marks"]) - len(wanted)], [0])
-        self.compare_registers(name, index, state, seen["registers"], is_after)
+        self.compare_registers(name, index, state, seen["registers"], side)
 
-    def compare_registers(self, name, index, state, rows, is_after):
-        changed = self.run.changes(index, "registers") if is_after else []
-        lost = {row[1] for row in self.run.taken(index) or [] if row[0] == "register"} if is_after else set()
+    def compare_registers(self, name, index, state, rows, side):
+        lost = {row[1] for row in self.run.taken(index) or [] if row[0] == "register"} if side != "before" else set()
+        changed = self.run.changes(index, "registers") if side == "after" else lost
         wanted = []
         for number in self.run.written:
             tag, text = state.register(number)
@@ -167,18 +172,21 @@ class Expected:
             return f"in the {NAMES[state.blocks[block]]} block {block[0]:#x} to {block[1]:#x}"
         return "in free bytes" if self.run.base <= base < self.run.base + 4096 * self.run.pages else "outside of the heap"
 
-    def compare_taken(self, name, index, seen, is_after):
-        rows = self.run.taken(index)
-        self.check(f"{name}: before and after", seen["sides"], [] if rows is None else ["after" if is_after else "before"])
+    def compare_taken(self, name, index, seen, side):
+        """The table has what was taken on every side, the map its lines before the pass and once it is done, and no longer."""
+        rows, sides = self.run.taken(index), self.run.sides(index)
+        named = {"before": "before", "between": "after the sweep", "after": "after the malloc" if "between" in sides else "after"}
+        self.check(f"{name}: the sides", seen["sides"], [] if rows is None else [named[side]])
         rows = rows or []
         self.check(f"{name}: what was taken had a tag, and its base lies in a block in quarantine",
                    [row[2] for row in rows if not row[3] or row[5] is None or self.run.before(index).blocks[row[5]] == "live"], [])
         self.check(f"{name}: tags taken, with the reasons", seen["taken"], [
             [called, hexadecimal(word.address), hexadecimal(word.base), f"{block[0]:#x} to {block[1]:#x}"] for _, _, called, _, word, block in rows])
+        rows = [] if side == "after" and "between" in sides else rows
         self.check(f"{name}: a line for each", [reason for reason, _ in seen["reasons"]], [f"{row[2]} {block_key(row[5])}" for row in rows])
         chips = {called: box for called, box, _ in seen["chips"]}
         self.check(f"{name}: a sign for each register", [[called, kind] for called, _, kind in seen["chips"]],
-                   [[row[2], "lost" if is_after else "tag"] for row in rows if row[0] == "register"])
+                   [[row[2], "tag" if side == "before" else "lost"] for row in rows if row[0] == "register"])
         for row, (_, (start, end)) in zip(rows, seen["reasons"]):
             base = (row[4].base - self.run.base) / 16
             shape = seen["shape"]
@@ -191,10 +199,12 @@ class Expected:
                 at = start[0], start[1] + shape["top"]
                 self.check(f"{name}: the line of {row[2]} begins at its sign", left <= at[0] <= left + width and top <= at[1] <= top + height + 1, True)
 
-    def before(self, name, index, seen):
-        self.compare_state(name, index, self.run.before(index), seen, False)
-        self.compare_taken(name, index, seen, False)
-        self.check(f"{name}: nothing has changed yet", seen["rings"], [])
+    def side(self, name, index, side, seen):
+        """What is shown before a pass, or between that and the rest of its step."""
+        self.compare_state(name, index, self.run.sides(index)[side], seen, side)
+        self.compare_taken(name, index, seen, side)
+        changed = [] if side == "before" else self.run.changes(index, "granules")
+        self.check(f"{name}: changed granules", [place for place, _ in sorted(seen["rings"])], changed)
 
     def compare_shown(self, name, index, state, seen):
         """What the inspector and the map show of the word that the step is about."""
@@ -210,19 +220,24 @@ class Expected:
         compare_try(self.check, name, word, word.address, seen)
         about = f"{called}: the base {word.base:#x} lies {self.place(state, word.base)}. " if tag else f"{called} has no tag: 16 bytes of data. "
         self.check(f"{name}: where its base lies", seen["detail"].startswith(about), text != NULL_WORD)
-        if not hidden_by(self.run, index):
+        if not hidden_by(self.run, index):  # of null there are none
             self.check(f"{name}: broken lines where it has no tag", seen["broken"], None if seen["bounds"] is None else not tag)
         end = self.run.base + 16 * seen["shape"]["shown"]
         hidden = hidden_by(self.run, index)
+        is_null = not tag and text == NULL_WORD
+        hidden = hidden or is_null  # which has all addresses for bounds, and so none to speak of
         self.check(f"{name}: its bounds on the map", seen["bounds"],
                    f"{word.base:#x} {word.top:#x}" if not hidden and max(word.base, self.run.base) < min(word.top, end) else None)
+        is_data = not tag and not is_null
+        self.check(f"{name}: data is headed so, and told as text", [seen["heading"], seen["asText"]],
+                   ["If these bytes were a capability", "As text: " + page_model.text_of(text)] if is_data else [None, None])
         both = [("base, address", word.base)] if word.base == word.address else [("base", word.base), ("address", word.address)]
         pins = [] if hidden else [(pin, address) for pin, address in both if self.run.base <= address < end]
         self.check(f"{name}: base and address on the map", [pin for pin, _ in seen["pins"]], [pin for pin, _ in pins])
         for (pin, address), (_, at) in zip(pins, seen["pins"]):
             shape, place = seen["shape"], (address - self.run.base) / 16
             x, y = shape["gutter"] + place % shape["columns"] * shape["width"], place // shape["columns"] * shape["height"]
-            self.check(f"{name}: the {pin} stands in its place", [abs(at[0] - x) < 3, -10 < at[1] - y < shape["height"] + 10], [True, True])
+            self.check(f"{name}: the {pin} stands in its cell", [0 <= at[0] - x < shape["width"], 0 < at[1] - y < shape["height"]], [True, True])
 
     def areas(self, name, index, found):
         """Each granule lies in the area of its own block and in no other, and in the bounds chosen where they have it."""

@@ -22,8 +22,11 @@ TRACES = {
     "low": ["heap 0 64", "malloc c1 100000", "malloc c2 70000", "setaddr c3 c1 99999", "narrow c4 c1 65536", "free c1", "free c1", "sweep", "malloc c5 262144"],
     "epochs": ["heap 0x1000 2", "malloc c1 4096", "malloc c2 32", "storecap c1 c2", "end", "free c2", "begin", "begin", "sweep", "free c1", "malloc c3 8192",
                "storecap c1 c2", "end", "begin", "end", "begin"],
+    "past": ["heap 0x40000000 1", "malloc c1 16", "setaddr c2 c1 0x50000000", "setaddr c3 c2 0x60000000", "setaddr c4 c3 0x60000001", "setaddr c3 c3 0x40000004",
+             "setaddr c0 c1 5", "show c0", "storecap c1 c2", "loadcap c0 c1", "loadcap c5 c1", "begin", "end", "sweep", "free c1", "begin", "malloc c6 4096",
+             "end", "malloc c7 4096", "malloc c8 16", "free c7", "malloc c0 16"],
     "traps": ["heap 0x40000000 1", "show c9", "free c9", "malloc c1 48", "narrow c2 c1 0", "narrow c2 c1 49", "setaddr c2 c1 0x40000001",
-              "loadcap c3 c2", "write c2 " + "0f" * 16, "free c2", "andperm c4 c1 0", "loadcap c5 c4", "free c4", "free c1", "copy c0 c1", "loadcap c0 c1"],
+              "loadcap c3 c2", "write c2 " + "0f" * 16, "free c2", "andperm c4 c1 0", "loadcap c5 c4", "storecap c4 c1", "free c4", "free c1", "copy c0 c1", "loadcap c0 c1"],
 }
 
 
@@ -182,6 +185,23 @@ class Run:
     def before(self, index):
         return self.states[max(index - 1, 0)]
 
+    def sides(self, index):
+        """From where a pass can be looked at, with the state there and what is told of it: a malloc that sweeps has one more side."""
+        if self.taken(index) is None:
+            return {}
+        if self.values[index]["text"].split()[0] != "malloc":
+            return {"before": self.before(index), "after": self.states[index]}
+        return {"before": self.before(index), "between": self.between(index), "after": self.states[index]}
+
+    def between(self, index):
+        """Of a malloc that swept: the tags are taken and the blocks that waited are free, and nothing else has changed."""
+        state = State(self.before(index))
+        for kind, number, *_ in self.taken(index):
+            cells = getattr(state, kind + "s")
+            cells[number] = (False, cells[number][1])
+        state.blocks = {block: of for block, of in state.blocks.items() if of == "live"}
+        return state
+
     def changes(self, index, kind):
         """What differs from the state before, found by comparing both."""
         old, new = getattr(self.before(index), kind), getattr(self.states[index], kind)
@@ -211,6 +231,11 @@ class Run:
         if names:
             return "register", int(names[1 if value["text"].split()[0] in ("narrow", "loadcap") else 0][1:])
         return self.followed(index - 1)
+
+
+def text_of(word):
+    """The bytes of a word as text, with a dot for each that is no printable one of ASCII."""
+    return "".join(chr(byte) if 32 <= byte < 127 else "·" for byte in bytes.fromhex(word))
 
 
 def block_key(block):

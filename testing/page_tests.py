@@ -13,6 +13,20 @@ import page_model
 from page_model import Word, block_key, grouped, hexadecimal
 
 PICTURED = "lesson_use_after_free"
+HEAP_LINE = "the first line is 'heap BASE PAGES': BASE a multiple of 4096, PAGES 1 to 1024, the end at most 2^64"
+FAULTS = {
+    b"heap 0 1\n\ncopy c1 c99\n": "line 3 of the trace, 'copy c1 c99': bad-register: a register is c0 to c31",
+    b"": f"line 1 of the trace, '': no-heap: {HEAP_LINE}",
+    b"malloc c1 16\n": f"line 1 of the trace, 'malloc c1 16': no-heap: {HEAP_LINE}",
+    b"# one\nheap 1 1\n": f"line 2 of the trace, 'heap 1 1': bad-heap: {HEAP_LINE}",
+    b"heap 0 1\nmalloc c1 0x\n": "line 2 of the trace, 'malloc c1 0x': bad-number: a number is decimal, or hexadecimal with 0x, and below 2^64; a mask is below 65536",
+    b"heap 0 1\nwrite c1 00\n": "line 2 of the trace, 'write c1 00': bad-data: data is exactly 32 hexadecimal digits",
+    b"heap 0 1\n\tnarrow c1  c2\n": "line 2 of the trace, 'narrow c1  c2': bad-count: it is 'narrow cD cS LENGTH'",
+    b"heap 0 1\nsweep 1\n": "line 2 of the trace, 'sweep 1': bad-count: it is 'sweep'",
+    b"heap 0 1\nfrob \x1b[31m\xff\n": "line 2 of the trace, 'frob ?[31m?': bad-command: a line begins with malloc, free, copy, setaddr, narrow, andperm, storecap, loadcap, "
+                                       "write, show, sweep, begin, end or #",
+    b"#" * 4_194_305: "too-long: a trace has at most 4194304 bytes",
+}
 EVIL = "\"'><img src=x onerror=\"window.evil=1\"><script>window.evil=2</script><!-- <b>bold</b> ]]> \u2028"
 
 
@@ -83,8 +97,7 @@ class Tests:
             self.browser.run(f"document.querySelector('[data-step=\"{index}\"]').click()")
             expected.compare(f"{name} at once at step {index}", index, self.look())
         for index in range(last + 1):
-            if run.taken(index) is not None:
-                self.before_a_pass(expected, name, index)
+            self.sides(expected, name, index)
         self.no_noise(name)
 
     def areas(self, expected, name, index, columns):
@@ -93,11 +106,19 @@ class Tests:
                 self.browser.run(f"(() => {{ byId('columns').value = {count}; byId('columns').dispatchEvent(new Event('change')); }})()")
             expected.areas(f"{name}, a row of {count or 'as many as it has'}", index, json.loads(self.browser.run(page_look.AREAS)))
 
-    def before_a_pass(self, expected, name, index):
-        self.browser.run(f"document.querySelector('[data-step=\"{index}\"]').click(); document.querySelector('[data-before=true]').click()")
-        expected.before(f"{name} before step {index}", index, self.look())
-        self.browser.run("document.querySelector('[data-before=false]').click()")
-        expected.compare(f"{name} after step {index} again", index, self.look())
+    def sides(self, expected, name, index):
+        """Each side of a pass, from each other one, and from there to other steps."""
+        sides = list(expected.run.sides(index))
+        for side in [*sides, *reversed(sides), *sides[::2], *sides[1:2]]:
+            self.browser.run(f"if (view.step !== {index}) go({index}); document.querySelector('[data-side={side}]').click()")
+            if side == "after":
+                expected.compare(f"{name} after step {index} again", index, self.look())
+            else:
+                expected.side(f"{name} {side}, step {index}", index, side, self.look())
+        for other in (index - 1, index + 1, 0) if sides else ():
+            self.browser.run(f"go({index}); show('{sides[-2]}'); go({other})")
+            other = min(other, len(expected.run.values) - 1)
+            expected.compare(f"{name} from within step {index} to {other}", other, self.look())
 
     # Words and addresses
 
@@ -173,11 +194,11 @@ class Tests:
         self.browser.key("ArrowDown")
         check("an arrow in the list makes a step, and the keyboard stays there", (step(), run("document.activeElement.dataset.step")), (4, "4"))
         run("document.activeElement.blur(); go(6)")
-        for side, tags in (("true", 2), ("false", 1)):
-            check(f"tab reaches the state before or after a sweep, {side}", self.tab_to(f"[data-before={side}]"), True)
+        for side, tags in (("before", 2), ("after", 1)):
+            check(f"tab reaches the state before or after a sweep, {side}", self.tab_to(f"[data-side={side}]"), True)
             self.browser.key("Enter")
             check(f"it is shown, {side}", run("document.querySelectorAll('#rows [data-tag=\"1\"], #map [data-tag=\"1\"]').length"), tags)
-            check(f"the keyboard stays there, {side}", run("document.activeElement.dataset.before"), side)
+            check(f"the keyboard stays there, {side}", run("document.activeElement.dataset.side"), side)
         self.pointer(step)
         run("byId('slider').focus()")
         self.browser.key("ArrowRight")
@@ -279,7 +300,10 @@ class Tests:
                                   ("a word that is none", raw, ("--nothing",))):
             wanted, made = states(text, words), self.make(self.root, text, words)
             check(f"{name}: the answer is that of ./heap_states", (made.returncode, made.stdout), (wanted.returncode, wanted.stdout))
-            check(f"{name}: that is no page", made.returncode in (2, 3) and made.stdout != b"", True)
+            check(f"{name}: that is no page", made.returncode in (2, 3) and made.stdout != b"" and b"<" not in made.stdout, True)
+        for text, told in FAULTS.items():
+            made = self.make(self.root, text)
+            check(f"{text[:60]}: the fault is told with its line and what is wanted there", (made.returncode, made.stderr.decode()), (3, f"heap_page: {told}\n"))
         for name, text, commands, pages in (("20,001 commands", b"heap 0 1\n" + b"sweep\n" * 20001, 20001, 1), ("65 pages", b"heap 0 65\nsweep\n", 1, 65)):
             made = self.make(self.root, text)
             told = f"heap_page: a trace for a page has at most 20000 commands and 64 pages, and this one has {commands} and {pages}\n"
@@ -381,6 +405,8 @@ class Tests:
             try:
                 if "lesson" in edit:
                     self.lesson(copy, edit["lesson"])
+                elif "trace" in edit:
+                    self.lesson(copy, edit["trace"], "\n".join(page_model.TRACES[edit["trace"]]).encode())
                 else:
                     getattr(self, edit["test"])(copy)
                 faults = self.failed
