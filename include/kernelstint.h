@@ -13,9 +13,8 @@
  *
  * A code is 0 (KERNELSTINT_DONE) where a function did what it was asked, and else says why it did not. Where several would be
  * true, it is the first of these: KERNELSTINT_NULL, KERNELSTINT_OVERLAP, KERNELSTINT_NO_MACHINE, KERNELSTINT_IS_OPEN,
- * KERNELSTINT_SHORT_TEXT of kernelstint_step_line, those of a
- * number, a record or a line (in the order of the function's comment), KERNELSTINT_BAD_ROOM, KERNELSTINT_NO_MEMORY,
- * KERNELSTINT_BAD_STATE or KERNELSTINT_BAD_TRACE, and what is left.
+ * KERNELSTINT_SHORT_TEXT of kernelstint_step_line, those of a number, a record or a line (in the order of the function's comment),
+ * KERNELSTINT_BAD_ROOM, KERNELSTINT_NO_MEMORY, KERNELSTINT_BAD_STATE or KERNELSTINT_BAD_TRACE, and what is left.
  */
 #ifndef KERNELSTINT_H
 #define KERNELSTINT_H
@@ -270,7 +269,7 @@ uint64_t kernelstint_alignment_mask(uint64_t length);
  * KERNELSTINT_NULL, also beside a length of 0, and places that lie over one another, of which one is written, by
  * KERNELSTINT_OVERLAP; a place of no bytes lies over none. States and texts may begin at any address: no alignment is asked.
  * Where the code is not 0, nothing is written but what the function's comment names. Each function takes memory from malloc while it runs, and answers
- * KERNELSTINT_NO_MEMORY where it gets none; a step on a heap of one page makes 14 to 16 allocations.
+ * KERNELSTINT_NO_MEMORY where it gets none; a step on a heap of one page makes 12 to 14 allocations.
  */
 #define KERNELSTINT_GRANULES(pages) ((size_t)256 * (pages))
 #define KERNELSTINT_GRANULE_AT(i) ((size_t)13 + (size_t)21 * (i))

@@ -162,6 +162,10 @@ class Rows:
         self.row("BAD_ROOM", "The room for a state is not as long as that state.", step(passed, 5934, show, short, 5933, reply), 5)
         self.row("SHORT_TEXT", "The room for a text is too short.", step_line(passed, 5934, b"show c0", 7, room, 5934, text, 199, count), 11)
         self.row("OVERLAP", "Two places lie over one another, of which one is written.", in_place, 19)
+        none, held, open_at = it._Machine(), it._Machine(), it._library.kernelstint_machine_open
+        self.row("NO_MACHINE", "No machine is held there.", it._library.kernelstint_machine_step(none, it._Command(255), reply), 20)
+        self.row("IS_OPEN", "A machine is held there already.", [open_at(passed, 5934, held), open_at(passed, 0, held)], [0, 21])
+        it._library.kernelstint_machine_close(held)
 
     def faults(self):
         """A text of which this is wrong first has the number of its name, and the number of its line."""

@@ -21,7 +21,7 @@ import enum as _enum
 import operator as _operator
 import os as _os
 import pathlib as _pathlib
-from typing import NamedTuple as _NamedTuple
+from typing import NamedTuple as _NamedTuple, NoReturn as _NoReturn
 
 # What is imported is no part of the interface.
 del annotations
@@ -876,6 +876,9 @@ class Machine:
         if code == _NO_MACHINE:
             raise Closed("the machine is closed")
         _done(code, wrong)
+
+    def __reduce__(self) -> _NoReturn:
+        raise TypeError("a machine can't be pickled: pickle its state")
 
     def __copy__(self) -> Machine:
         return self.copy()

@@ -24,7 +24,7 @@ impl Model for MachineHandle {
 
 impl MachineHandle {
     /// The handle of a machine's box, taken apart.
-    pub fn of(loose: LooseBox<Machine, Global>) -> MachineHandle
+    pub(crate) fn of(loose: LooseBox<Machine, Global>) -> MachineHandle
         ensures { result.value ≡ Some loose.value }
     {
         let LooseBox { at, alloc } = loose;
@@ -35,7 +35,7 @@ impl MachineHandle {
     }
 
     /// The box of its machine, taken apart.
-    pub fn into_loose(self) -> LooseBox<Machine, Global>
+    pub(crate) fn into_loose(self) -> LooseBox<Machine, Global>
         requires { self.value ≢ None }
         ensures { self.value ≡ Some result.value }
     {
@@ -47,7 +47,7 @@ impl MachineHandle {
     }
 
     /// The handle that has none.
-    pub fn empty(alloc: Global) -> MachineHandle
+    pub(crate) fn empty(alloc: Global) -> MachineHandle
         ensures { result.value ≡ None }
     {
         MachineHandle {
@@ -57,7 +57,7 @@ impl MachineHandle {
     }
 
     /// Ends a handle that has none.
-    pub fn discard(self)
+    pub(crate) fn discard(self)
         requires { self.value ≡ None }
     {
         let MachineHandle { at: _, alloc: _ } = self;
@@ -66,7 +66,7 @@ impl MachineHandle {
 
 impl MachineHandle {
     /// Takes the machine out, and leaves none.
-    pub fn take(&mut self, alloc: Global) -> Box<Machine>
+    pub(crate) fn take(&mut self, alloc: Global) -> Box<Machine>
         requires { self.old.value ≢ None }
         ensures taken { self.old.value ≡ Some result.value }
         ensures left { self.new.value ≡ None }
@@ -77,7 +77,7 @@ impl MachineHandle {
     }
 
     /// Puts a machine in where there is none.
-    pub fn put(&mut self, machine: Box<Machine>)
+    pub(crate) fn put(&mut self, machine: Box<Machine>)
         requires { self.old.value ≡ None }
         ensures { self.new.value ≡ Some machine.value }
     {
