@@ -2,7 +2,8 @@
  * The machine by the header alone. It reads a trace from standard input, does it step by step, by records where a line is
  * one of those that it knows and else by lines, and prints the replies' texts as a report has them; then it tries arguments
  * that are refused, and reads a state by the header's macros. With the word "time" and a number of pages and of steps it
- * prints how many microseconds of processor time a step takes. It ends with status 1 where an answer is wrong. C11 and C++17.
+ * prints how much processor time a step takes, from bytes to bytes and of a machine that is held. It ends with status 1 where an
+ * answer is wrong. C11 and C++17.
  */
 #include "kernelstint.h"
 #include <inttypes.h>
@@ -199,21 +200,31 @@ static double seconds(void) {
     return (double)clock() / CLOCKS_PER_SEC;
 }
 
+static kernelstint_command measured(int i) {
+    const kernelstint_command commands[] = {command_of(KERNELSTINT_MALLOC, 1, 0, 64), command_of(KERNELSTINT_STORECAP, 1, 1, 0), command_of(KERNELSTINT_FREE, 1, 0, 0),
+                                            command_of(KERNELSTINT_SWEEP, 0, 0, 0)};
+    return commands[i % 4];
+}
+
 static void measure(uint32_t pages, int steps) {
     size_t length = kernelstint_state_length(pages);
     uint8_t *state = room_of(length), *next = room_of(length);
-    const kernelstint_command commands[] = {command_of(KERNELSTINT_MALLOC, 1, 0, 64), command_of(KERNELSTINT_STORECAP, 1, 1, 0), command_of(KERNELSTINT_FREE, 1, 0, 0),
-                                            command_of(KERNELSTINT_SWEEP, 0, 0, 0)};
+    kernelstint_machine machine = {NULL};
     kernelstint_reply reply;
     want(kernelstint_first(0x40000000, pages, state, length) == KERNELSTINT_DONE, "no first state");
+    want(kernelstint_machine_open(state, length, &machine) == KERNELSTINT_DONE, "no machine");
     double begun = seconds();
     for (int i = 0; i < steps; i++) {
         uint8_t *old = state;
-        want(kernelstint_step(state, length, commands[i % 4], next, length, &reply) == KERNELSTINT_DONE, "a step is refused");
+        want(kernelstint_step(state, length, measured(i), next, length, &reply) == KERNELSTINT_DONE, "a step is refused");
         state = next;
         next = old;
     }
-    printf("%" PRIu32 " pages: %.1f microseconds a step\n", pages, (seconds() - begun) * 1e6 / steps);
+    printf("%" PRIu32 " pages: %.1f microseconds a step", pages, (seconds() - begun) * 1e6 / steps);
+    begun = seconds();
+    for (int i = 0; i < 100 * steps; i++) want(kernelstint_machine_step(&machine, measured(i), &reply) == KERNELSTINT_DONE, "a step is refused");
+    printf(", %.0f nanoseconds one of a machine that is held\n", (seconds() - begun) * 1e9 / (100.0 * steps));
+    want(kernelstint_machine_close(&machine) == KERNELSTINT_DONE, "a machine isn't closed");
     free(state);
     free(next);
 }
