@@ -4,12 +4,13 @@ use denote.RattleType.{RattleType}
 use denote.RawPtr.{Ptr, null_ptr}
 use Rattle.std.specs.Prelude.{Option, Some, None}
 use Rattle.std.specs.Box.Ownership.{box_owns}
-use Rattle.libc.specs.Heap.{chunk}
+use Rattle.std.specs.contracts.alloc.Global as heap
+use Rattle.std.specs.contracts.impls.GlobalAllocator.TheImpl.{ghosts}
 use Rattle.heap_machine.specs.contracts.machine.Machine.{the_row}
 
-abbrev pub handle_owns : (R : RattleType) → Ptr → Option R.Denot → Fml
-handle_owns R p None = feq Ptr p null_ptr
-handle_owns R p (Some x) = box_owns chunk R p x
+abbrev pub handle_owns : (heap.the_row).Denot → (R : RattleType) → Ptr → Option R.Denot → Fml
+handle_owns a R p None = feq Ptr p null_ptr
+handle_owns a R p (Some x) = box_owns (ghosts.dealloc_token a) R p x
 
-abbrev pub machine_owns : Ptr → Option the_row.Denot → Fml
-machine_owns = handle_owns the_row
+abbrev pub machine_owns : (heap.the_row).Denot → Ptr → Option the_row.Denot → Fml
+machine_owns a = handle_owns a the_row

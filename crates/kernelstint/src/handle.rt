@@ -19,7 +19,7 @@ pub struct MachineHandle {
 impl Model for MachineHandle {
     ghost use Rattle.kernelstint.specs.Handle.{machine_owns};
 
-    ghost also_owns = { λ h. machine_owns h.at h.value };
+    ghost also_owns = { λ h. machine_owns h.alloc h.at h.value };
 }
 
 impl MachineHandle {
