@@ -7,7 +7,7 @@ use Rattle.heap_core.specs.Found.{blocks_in}
 use Rattle.heap_core.specs.Heap.{HeapState}
 use Rattle.heap_core.specs.Claim.{IsClaimable}
 use Rattle.heap_core.specs.declared.block.Kind.{Kind}
-use Rattle.heap_core.specs.declared.block.Kind.TheVariants.{Live, Painted, Waiting}
+use Rattle.heap_core.specs.declared.block.Kind.TheVariants.{Live, Waiting}
 use Rattle.heap_core.specs.Place.{with_block}
 use Rattle.heap_machine.specs.Parts.{MachineState}
 use Rattle.state_bytes.specs.Replay.{reached, upto}
@@ -54,7 +54,7 @@ painted_last m s now i e is now_is all =
     let end = ap (λ (b : ℕ). upto (b + 16 * i) m.state.heap.painted) base ∙ upto_end m.state.heap m.state.heap.painted i e.whole.sound.safe.heap.painted_inside (omega (arith, size, all)) in
     now_is ∙ (λ j. record s { waiting = end j })
 
--- The heap once the block of a row waits, if it does, and before it is live, if it is.
+-- The heap once the block of row i waits, if it is one that does, and before it is live, if it is a live one.
 abbrev pub between : HeapState → ℕ → HeapState
 between heap i = record heap { live = upto (heap.base + 16 * i) heap.live; waiting = upto (heap.base + 16 * (i + 1)) heap.waiting }
 
@@ -82,18 +82,13 @@ live_row m now new i n result e now_is n_is =
     let heap = m.state.heap in
     live_replay_step m.state.heap (record heap { live = []; waiting = upto (heap.base + 16 * (i + 1)) heap.waiting }) now new m.state.heap.live i n result (live_replay m (heap.base + 16 * (i + 1)) e) n_is now_is
 
--- A row of neither.
+-- A row whose number is 0 tells of no block.
 pub other_row : (m : MachineState) (now : HeapState) (i number : ℕ) → IsState m → now ≡ reached m.state.heap i
     → ((kind : Kind) → length_told (kind_number kind) number ≡ starts_in (blocks_in m.state.heap kind) (m.state.heap.base + 16 * i))
     → number ≡ 0 → now ≡ reached m.state.heap (i + 1)
 other_row m now i number e now_is told none =
-    let nothing : (kind : Kind) → 0 ≡ length_told (kind_number kind) number = λ kind. elim kind as (λ kind. 0 ≡ length_told (kind_number kind) number) [
-      | Live ↦ ap (length_told 1) (sym none)
-      | Waiting ↦ ap (length_told 2) (sym none)
-      | Painted ↦ ap (length_told 3) (sym none)
-    ] in
-    let waits = waiting_row m now now i 0 true e now_is (nothing Waiting ∙ told Waiting) (λ _. (refl, refl)) (λ some. absurd (omega (arith, some))) in
-    (live_row m now now i 0 true e waits.1 (nothing Live ∙ told Live) (λ _. (refl, refl)) (λ some. absurd (omega (arith, some)))).1
+    let waits = waiting_row m now now i 0 true e now_is (ap (length_told 2) (sym none) ∙ told Waiting) (λ _. (refl, refl)) (λ some. absurd (omega (arith, some))) in
+    (live_row m now now i 0 true e waits.1 (ap (length_told 1) (sym none) ∙ told Live) (λ _. (refl, refl)) (λ some. absurd (omega (arith, some)))).1
 
 -- Before the first row, and behind the last.
 pub reached_first : (m : MachineState) (s : HeapState) → IsState m → s ≡ record m.state.heap { live = []; waiting = [] } → s ≡ reached m.state.heap 0
@@ -118,6 +113,6 @@ reached_size : (m : MachineState) (s : HeapState) (i : ℕ) → s ≡ reached m.
 unfolding reached
 reached_size m s i is = ap (λ (h : HeapState). h.size) is
 
--- A granule of the heap is one of the memory.
+-- The memory has a granule for each row.
 pub row_inside : (m : MachineState) (s : HeapState) (i : ℕ) → IsState m → s ≡ reached m.state.heap i → 16 * i < s.size → i < length m.state.cells
 row_inside m s i e is lt = omega (arith, lt, reached_size m s i is, e.whole.sound.granules)

@@ -12,11 +12,11 @@ use Rattle.state_bytes.specs.State.{IsState}
 use Rattle.state_bytes.proofs.OneText.{sizes_of}
 use Rattle.state_bytes.proofs.UptoLaws.{IsReplay}
 
--- The blocks of a list, each apart from none.
+-- Where there are no others, each block is apart from all of them.
 apart_none : (xs : List Span) → All (λ block. All (IsApart block) []) xs
 apart_none xs = λ k d lt. All-nil (IsApart (get_or xs k d))
 
--- Apart from all is apart from those before an address.
+-- Blocks that are apart from others are so from those of them that start before an address.
 apart_upto : (a : ℕ) (xs ys : List Span) → All (λ block. All (IsApart block) ys) xs → All (λ block. All (IsApart block) (upto a ys)) xs
 apart_upto a xs ys apart = λ k d lt. All-filter (λ (b : Span). nat_lt (start_of b) a) (IsApart (get_or xs k d)) ys (apart k d lt)
 

@@ -44,9 +44,6 @@ upto_none : (a : ℕ) (xs : List Span) → All (λ b. a ≤ start_of b) xs → u
 upto_none a [] from = refl
 upto_none a (b ∷ xs) from = rw (le-ltb (start_of b) a (All-head (λ (b : Span). a ≤ start_of b) b xs from)) (upto_none a xs (All-tail (λ (b : Span). a ≤ start_of b) b xs from))
 
-pub upto_first : (a : ℕ) (xs : List Span) → All (λ b. a ≤ start_of b) xs → upto a xs ≡ []
-upto_first a xs from = upto_none a xs from
-
 -- All once the address is past them.
 pub upto_all : (a : ℕ) (xs : List Span) → All (λ b. start_of b < a) xs → upto a xs ≡ xs
 upto_all a [] before = refl
@@ -190,7 +187,7 @@ held_at s now new i n result may is held =
 
 -- Before the first granule no block starts, and behind the last one each does.
 pub upto_init : (s : HeapState) (xs : List Span) → All (IsInside s) xs → upto (s.base + 16 * 0) xs ≡ []
-upto_init s xs inside = upto_first (s.base + 16 * 0) xs (λ k d lt. omega (arith, (inside k d lt).from))
+upto_init s xs inside = upto_none (s.base + 16 * 0) xs (λ k d lt. omega (arith, (inside k d lt).from))
 
 pub upto_end : (s : HeapState) (xs : List Span) (i : ℕ) → All (IsInside s) xs → s.size ≤ 16 * i → upto (s.base + 16 * i) xs ≡ xs
 upto_end s xs i inside all =
