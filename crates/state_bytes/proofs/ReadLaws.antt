@@ -1,5 +1,5 @@
 -- What stands where in the text of a machine.
-use Rattle.std.proofs.Common.{◌≡◌, ◌∙◌, ◌<◌, ◌≤◌, ◌+◌, ◌-◌, ◌*◌, ◌%◌, ◌^◌, ◌==◌, inl, inr, ℕ, zero, suc, Bool, true, false, List, [], ◌∷◌, ◌++◌, length, get_or, set, drop, if◌then◌else◌, refl, sym, ap, eq-eqb, append_assoc, length-append, length-set, arith}
+use Rattle.std.proofs.Common.{◌≡◌, ◌∙◌, ◌<◌, ◌≤◌, ◌+◌, ◌*◌, ◌^◌, ◌==◌, inl, inr, ℕ, zero, suc, Bool, true, false, List, [], ◌∷◌, ◌++◌, length, get_or, set, drop, if◌then◌else◌, refl, sym, ap, eq-eqb, append_assoc, length-append, length-set, arith}
 use Rattle.std.proofs.lemmas.Bool.{cases_eq, cases_lt, ne_eqb}
 use Rattle.std.proofs.lemmas.List.{drop-drop, append-nil, drop_at, ext_get_or, get_or-drop, get_or-set_other}
 use Rattle.std.proofs.lemmas.Grind.{get_or-set_at}
@@ -144,20 +144,6 @@ pub length_read : (m : MachineState) (bytes : List ℕ) (i : ℕ) (kind : Kind) 
 length_read m bytes i kind e text lt =
     ap (λ (l : List ℕ). length_told (kind_number kind) (little_number 4 (drop (13 + 21 * i + 17) l))) (sym text)
     ∙ (ap (length_told (kind_number kind)) (number_read m i e lt) ∙ length_of_number m.state.heap (m.state.heap.base + 16 * i) kind e.sound.safe.heap)
-
--- Where a number tells of another kind, or of none, no block of this kind starts.
-pub told_none : (m : MachineState) (bytes : List ℕ) (i : ℕ) (kind : Kind) (number own : ℕ) → IsWhole m → text_of m ≡ bytes → i < length m.state.cells
-    → number ≡ little_number 4 (drop (13 + 21 * i + 17) bytes) → own ≡ kind_number kind → (number % 16 ≡ own → ⊥) → 0 ≡ starts_in (blocks_in m.state.heap kind) (m.state.heap.base + 16 * i)
-told_none m bytes i kind number own e text lt number_is own_is other =
-    sym (rw (ne_eqb (number % 16) own other) refl)
-    ∙ ((λ j. length_told (own_is j) (number_is j)) ∙ length_read m bytes i kind e text lt)
-
--- And where it tells of this kind, one of that length does.
-pub told_here : (m : MachineState) (bytes : List ℕ) (i : ℕ) (kind : Kind) (number own : ℕ) → IsWhole m → text_of m ≡ bytes → i < length m.state.cells
-    → number ≡ little_number 4 (drop (13 + 21 * i + 17) bytes) → own ≡ kind_number kind → number % 16 ≡ own → number - own ≡ starts_in (blocks_in m.state.heap kind) (m.state.heap.base + 16 * i)
-told_here m bytes i kind number own e text lt number_is own_is same =
-    let told : length_told own number ≡ number - own = rw (eq-eqb (number % 16) own same) refl in
-    sym told ∙ ((λ j. length_told (own_is j) (number_is j)) ∙ length_read m bytes i kind e text lt)
 
 -- ---- registers
 

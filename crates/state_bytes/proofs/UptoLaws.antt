@@ -1,20 +1,29 @@
 -- The blocks that start before an address: what a replay of a text has made so far.
-use Rattle.std.proofs.Common.{◌≡◌, ◌∙◌, ◌<◌, ◌≤◌, ◌+◌, ◌-◌, ◌*◌, ◌%◌, inl, inr, nat_lt, ℕ, suc, Bool, true, List, [], ◌∷◌, refl, sym, ap, subst, eq-eqb, arith}
-use Rattle.std.specs.Prelude.{All, AllPairs, filter}
-use Rattle.std.proofs.lemmas.Bool.{cases_eq, cases_lt, le-ltb, lt-ltb, ne_eqb}
+use Rattle.std.proofs.Common.{◌≡◌, ◌∙◌, ◌<◌, ◌≤◌, ◌+◌, ◌-◌, ◌*◌, ◌%◌, ◌==◌, inl, inr, nat_lt, ℕ, suc, Bool, true, false, List, [], ◌∷◌, refl, sym, ap, subst, eq-eqb, arith}
+use Rattle.std.specs.Prelude.{All, AllPairs}
+use Rattle.std.proofs.lemmas.Bool.{and_left, and_right, cases_eq, cases_lt, cond_both, le-ltb, lt-ltb, ne_eqb, or_right}
 use Rattle.std.proofs.lemmas.List.Elements.{All-cons, All-head, All-nil, All-tail}
-use Rattle.heap_core.specs.Blocks.{IsApart, IsBefore, Span, blocks_with, blocks_without, end_of, is_block, length_of, start_of}
+use Rattle.heap_core.specs.Blocks.{IsApart, IsBefore, Span, blocks_with, blocks_without, end_of, has_bounds, is_block, length_of, start_of}
 use Rattle.heap_core.specs.Heap.{HeapState, IsInside}
 use Rattle.heap_core.specs.Claim.{IsClaimable}
 use Rattle.heap_core.specs.Place.{IsFreeBlock, with_block}
 use Rattle.cap_codec.specs.Rounding.{IsExact}
 use Rattle.state_bytes.proofs.StartsLaws.{All-start}
 use Rattle.heap_core.specs.Quarantine.{with_waiting}
-use Rattle.state_bytes.specs.Replay.{IsLiveReplay, IsReplay}
+use Rattle.state_bytes.specs.Replay.{upto}
 use Rattle.state_bytes.specs.Text.{starts_in}
 
-abbrev pub upto : ℕ → List Span → List Span
-upto a xs = filter (λ b. nat_lt (start_of b) a) xs
+-- Blocks of the heap m may be made in the heap s, in their order: they share no address with the blocks of s.
+pub record IsReplay (m s : HeapState) (blocks : List Span) : Type 0 where
+  pub base : s.base ≡ m.base
+  pub size : s.size ≡ m.size
+  pub even : s.base % 16 ≡ 0
+  pub inside : All (IsInside m) blocks
+  pub order : AllPairs IsBefore blocks
+  pub exact : All (λ block. IsExact (start_of block) (end_of block)) blocks
+  pub live : All (λ block. All (IsApart block) s.live) blocks
+  pub waiting : All (λ block. All (IsApart block) s.waiting) blocks
+  pub painted : All (λ block. All (IsApart block) s.painted) blocks
 
 -- Each block is whole granules, at least one.
 pub record IsEven (b : Span) : Type 0 where
@@ -34,9 +43,6 @@ rest_of x xs order = λ j k d less lt. order (suc j) (suc k) d (omega (arith, le
 upto_none : (a : ℕ) (xs : List Span) → All (λ b. a ≤ start_of b) xs → upto a xs ≡ []
 upto_none a [] from = refl
 upto_none a (b ∷ xs) from = rw (le-ltb (start_of b) a (All-head (λ (b : Span). a ≤ start_of b) b xs from)) (upto_none a xs (All-tail (λ (b : Span). a ≤ start_of b) b xs from))
-
-pub upto_first : (a : ℕ) (xs : List Span) → All (λ b. a ≤ start_of b) xs → upto a xs ≡ []
-upto_first a xs from = upto_none a xs from
 
 -- All once the address is past them.
 pub upto_all : (a : ℕ) (xs : List Span) → All (λ b. start_of b < a) xs → upto a xs ≡ xs
@@ -118,39 +124,78 @@ IsClaimable-next m s xs a n replay is some =
       some = some;
       from = omega (arith, here.from, replay.base);
       end = omega (arith, here.end, replay.base, replay.size);
-      live = subst (All (IsApart (a, n))) (sym replay.live) (All-nil (IsApart (a, n)));
+      live = All-start (λ (b : Span). All (IsApart b) s.live) a n xs replay.live is some;
       waiting = upto_apart a n xs (IsEven-inside m xs replay.inside) replay.order is some;
       painted = All-start (λ (b : Span). All (IsApart b) s.painted) a n xs replay.painted is some;
     })
     (All-start (λ (b : Span). IsExact (start_of b) (end_of b)) a n xs replay.exact is some)
 
--- A block that is put and given up waits.
-pub held_state : (s : HeapState) (a n : ℕ) → s.live ≡ [] → with_waiting (with_block s a n) a (a + n) ≡ record s { waiting = blocks_with (a, n) s.waiting }
-held_state s a n live =
+-- A block that is put and given up waits, and the live ones are as before.
+put_first : (a n : ℕ) → has_bounds a (a + n) (a, n) ≡ true
+put_first a n = rw (eq-eqb a a refl, eq-eqb (a + n) (a + n) refl) refl
+
+not_same : (a n : ℕ) (b : Span) → 0 < n → IsApart (a, n) b → start_of b ≡ a → end_of b ≡ a + n → ⊥
+not_same a n b some (inl before) start end = omega (arith, some, before, start)
+not_same a n b some (inr behind) start end = omega (arith, some, behind, end)
+
+not_put : (a n : ℕ) (b : Span) → 0 < n → IsApart (a, n) b → has_bounds a (a + n) b ≡ false
+not_put a n b some apart =
+    elim (cases_eq (start_of b) a) [
+      | inl start ↦ and_right (start_of b == a) (end_of b == a + n) (ne_eqb (end_of b) (a + n) (not_same a n b some apart start))
+      | inr other ↦ and_left (start_of b == a) (end_of b == a + n) (ne_eqb (start_of b) a other)
+    ]
+
+without_none : (a n : ℕ) (xs : List Span) → 0 < n → All (IsApart (a, n)) xs → blocks_without a (a + n) xs ≡ xs
+without_none a n [] some apart = refl
+without_none a n (b ∷ xs) some apart =
+    rw (not_put a n b some (All-head (IsApart (a, n)) b xs apart)) (ap (λ (l : List Span). b ∷ l) (without_none a n xs some (All-tail (IsApart (a, n)) b xs apart)))
+
+without_put : (a n : ℕ) (xs : List Span) → 0 < n → All (IsApart (a, n)) xs → blocks_without a (a + n) (blocks_with (a, n) xs) ≡ xs
+without_put a n [] some apart = rw (put_first a n) refl
+without_put a n (b ∷ xs) some apart =
+    cond_both (nat_lt a (start_of b)) ((a, n) ∷ b ∷ xs) (b ∷ blocks_with (a, n) xs) (λ (l : List Span). blocks_without a (a + n) l ≡ b ∷ xs)
+    (λ _. rw (put_first a n) (without_none a n (b ∷ xs) some apart))
+    (λ _. rw (not_put a n b some (All-head (IsApart (a, n)) b xs apart)) (ap (λ (l : List Span). b ∷ l) (without_put a n xs some (All-tail (IsApart (a, n)) b xs apart))))
+
+held_state : (s : HeapState) (a n : ℕ) → IsClaimable s a (a + n) → with_waiting (with_block s a n) a (a + n) ≡ record s { waiting = blocks_with (a, n) s.waiting }
+held_state s a n may =
     let bytes : a + n - a ≡ n = omega arith in
-    let gone : blocks_without a (a + n) (blocks_with (a, n) s.live) ≡ s.live =
-    ap (λ (l : List Span). blocks_without a (a + n) (blocks_with (a, n) l)) live ∙ (rw (eq-eqb a a refl, eq-eqb (a + n) (a + n) refl) refl ∙ sym live) in
+    let apart : All (IsApart (a, n)) s.live = subst (λ (k : ℕ). All (IsApart (a, k)) s.live) bytes may.free.live in
+    let gone : blocks_without a (a + n) (blocks_with (a, n) s.live) ≡ s.live = without_put a n s.live (omega (arith, may.order)) apart in
     (λ i. record s { live = gone i; waiting = blocks_with (a, bytes i) s.waiting })
 
 -- The block that is put is one of the live ones.
-pub is_block-put : (s : HeapState) (a n : ℕ) → s.live ≡ [] → is_block (with_block s a n).live a (a + n) ≡ true
-is_block-put s a n live =
-    ap (λ (l : List Span). is_block (blocks_with (a, n) l) a (a + n)) live ∙ rw (eq-eqb a a refl, eq-eqb (a + n) (a + n) refl) refl
+any_put : (a n : ℕ) (xs : List Span) → is_block (blocks_with (a, n) xs) a (a + n) ≡ true
+any_put a n [] = rw (put_first a n) refl
+any_put a n (b ∷ xs) =
+    cond_both (nat_lt a (start_of b)) ((a, n) ∷ b ∷ xs) (b ∷ blocks_with (a, n) xs) (λ (l : List Span). is_block l a (a + n) ≡ true)
+    (λ _. rw (put_first a n) refl)
+    (λ _. or_right (has_bounds a (a + n) b) (is_block (blocks_with (a, n) xs) a (a + n)) (any_put a n xs))
+
+is_block-put : (s : HeapState) (a n : ℕ) → is_block (with_block s a n).live a (a + n) ≡ true
+is_block-put s a n = any_put a n s.live
+
+-- So what is claimed and released waits.
+pub held_at : (s now new : HeapState) (i n : ℕ) (result : Bool) → IsClaimable s (s.base + 16 * i) (s.base + 16 * i + n) → now ≡ with_block s (s.base + 16 * i) n
+    → (is_block now.live (now.base + 16 * i) (now.base + 16 * i + n) ≡ true → (result ≡ true) × (new ≡ with_waiting now (now.base + 16 * i) (now.base + 16 * i + n)))
+    → (result ≡ true) × (new ≡ record s { waiting = blocks_with (s.base + 16 * i, n) s.waiting })
+held_at s now new i n result may is held =
+    let done = held (ap (λ (h : HeapState). is_block h.live (h.base + 16 * i) (h.base + 16 * i + n)) is ∙ is_block-put s (s.base + 16 * i) n) in
+    (done.0, done.1 ∙ (ap (λ (h : HeapState). with_waiting h (h.base + 16 * i) (h.base + 16 * i + n)) is ∙ held_state s (s.base + 16 * i) n may))
 
 -- ---- one granule after the other
 
-pub replay_init : (m s : HeapState) (xs : List Span) → IsReplay m s xs → s ≡ record s { waiting = upto (s.base + 16 * 0) xs }
-replay_init m s xs replay =
-    let none : s.waiting ≡ upto (s.base + 16 * 0) xs = replay.waiting ∙ sym (upto_first (s.base + 16 * 0) xs (λ k d lt. omega (arith, (replay.inside k d lt).from, replay.base))) in
-    (λ j. record s { waiting = none j })
+-- Before the first granule no block starts, and behind the last one each does.
+pub upto_init : (s : HeapState) (xs : List Span) → All (IsInside s) xs → upto (s.base + 16 * 0) xs ≡ []
+upto_init s xs inside = upto_none (s.base + 16 * 0) xs (λ k d lt. omega (arith, (inside k d lt).from))
 
-pub replay_end : (m s : HeapState) (xs : List Span) (i : ℕ) → IsReplay m s xs → s.size ≤ 16 * i → upto (s.base + 16 * i) xs ≡ xs
-replay_end m s xs i replay all =
-    upto_all (s.base + 16 * i) xs (λ k d lt. let h = replay.inside k d lt in omega (arith, h.end, h.some, replay.base, replay.size, all))
+pub upto_end : (s : HeapState) (xs : List Span) (i : ℕ) → All (IsInside s) xs → s.size ≤ 16 * i → upto (s.base + 16 * i) xs ≡ xs
+upto_end s xs i inside all =
+    upto_all (s.base + 16 * i) xs (λ k d lt. let h = inside k d lt in omega (arith, h.end, h.some, all))
 
 replay_from : (m s new : HeapState) (xs : List Span) (i n : ℕ) (result : Bool) → IsReplay m s xs → n ≡ starts_in xs (s.base + 16 * i)
     → (n ≡ 0 → (result ≡ true) × (new ≡ record s { waiting = upto (s.base + 16 * i) xs }))
-    → (0 < n → s.live ≡ [] → IsClaimable (record s { waiting = upto (s.base + 16 * i) xs }) (s.base + 16 * i) (s.base + 16 * i + n)
+    → (0 < n → IsClaimable (record s { waiting = upto (s.base + 16 * i) xs }) (s.base + 16 * i) (s.base + 16 * i + n)
     → (result ≡ true) × (new ≡ record s { waiting = blocks_with (s.base + 16 * i, n) (upto (s.base + 16 * i) xs) }))
     → (result ≡ true) × (new ≡ record s { waiting = upto (s.base + 16 * (i + 1)) xs })
 replay_from m s new xs i n result replay is none held =
@@ -159,7 +204,7 @@ replay_from m s new xs i n result replay is none held =
     let even : (s.base + 16 * i) % 16 ≡ 0 = omega (arith, replay.even) in
     elim (cases_lt 0 n) [
       | inl some ↦
-          let done = held some replay.live (IsClaimable-next m s xs (s.base + 16 * i) n replay (sym is) some) in
+          let done = held some (IsClaimable-next m s xs (s.base + 16 * i) n replay (sym is) some) in
           let more = sym (upto_more (s.base + 16 * i) n xs (IsEven-inside m xs replay.inside) replay.order (sym is) some) ∙ ap (λ (x : ℕ). upto x xs) next in
           (done.0, done.1 ∙ (λ j. record s { waiting = more j }))
       | inr most ↦
@@ -171,18 +216,18 @@ replay_from m s new xs i n result replay is none held =
 pub replay_step : (m s now new : HeapState) (xs : List Span) (i n : ℕ) (result : Bool) → IsReplay m s xs → n ≡ starts_in xs (s.base + 16 * i)
     → now ≡ record s { waiting = upto (s.base + 16 * i) xs }
     → (n ≡ 0 → (result ≡ true) × (new ≡ now))
-    → (0 < n → now.live ≡ [] → IsClaimable now (now.base + 16 * i) (now.base + 16 * i + n)
+    → (0 < n → IsClaimable now (now.base + 16 * i) (now.base + 16 * i + n)
     → (result ≡ true) × (new ≡ record now { waiting = blocks_with (now.base + 16 * i, n) now.waiting }))
     → (result ≡ true) × (new ≡ record s { waiting = upto (s.base + 16 * (i + 1)) xs })
 replay_step m s now new xs i n result replay is now_is =
     subst (λ (h : HeapState). (n ≡ 0 → (result ≡ true) × (new ≡ h))
-    → (0 < n → h.live ≡ [] → IsClaimable h (h.base + 16 * i) (h.base + 16 * i + n) → (result ≡ true) × (new ≡ record h { waiting = blocks_with (h.base + 16 * i, n) h.waiting }))
+    → (0 < n → IsClaimable h (h.base + 16 * i) (h.base + 16 * i + n) → (result ≡ true) × (new ≡ record h { waiting = blocks_with (h.base + 16 * i, n) h.waiting }))
     → (result ≡ true) × (new ≡ record s { waiting = upto (s.base + 16 * (i + 1)) xs }))
     (sym now_is) (replay_from m s new xs i n result replay is)
 
 -- ---- the same of live blocks
 
-IsClaimable-next_live : (m s : HeapState) (xs : List Span) (a n : ℕ) → IsLiveReplay m s xs → starts_in xs a ≡ n → 0 < n → IsClaimable (record s { live = upto a xs }) a (a + n)
+IsClaimable-next_live : (m s : HeapState) (xs : List Span) (a n : ℕ) → IsReplay m s xs → starts_in xs a ≡ n → 0 < n → IsClaimable (record s { live = upto a xs }) a (a + n)
 IsClaimable-next_live m s xs a n replay is some =
     let here = All-start (IsInside m) a n xs replay.inside is some in
     IsClaimable-free (record s { live = upto a xs }) a n some
@@ -198,16 +243,7 @@ IsClaimable-next_live m s xs a n replay is some =
     })
     (All-start (λ (b : Span). IsExact (start_of b) (end_of b)) a n xs replay.exact is some)
 
-pub live_replay_init : (m s : HeapState) (xs : List Span) → IsLiveReplay m s xs → s ≡ record s { live = upto (s.base + 16 * 0) xs }
-live_replay_init m s xs replay =
-    let none : s.live ≡ upto (s.base + 16 * 0) xs = replay.live ∙ sym (upto_first (s.base + 16 * 0) xs (λ k d lt. omega (arith, (replay.inside k d lt).from, replay.base))) in
-    (λ j. record s { live = none j })
-
-pub live_replay_end : (m s : HeapState) (xs : List Span) (i : ℕ) → IsLiveReplay m s xs → s.size ≤ 16 * i → upto (s.base + 16 * i) xs ≡ xs
-live_replay_end m s xs i replay all =
-    upto_all (s.base + 16 * i) xs (λ k d lt. let h = replay.inside k d lt in omega (arith, h.end, h.some, replay.base, replay.size, all))
-
-live_replay_from : (m s new : HeapState) (xs : List Span) (i n : ℕ) (result : Bool) → IsLiveReplay m s xs → n ≡ starts_in xs (s.base + 16 * i)
+live_replay_from : (m s new : HeapState) (xs : List Span) (i n : ℕ) (result : Bool) → IsReplay m s xs → n ≡ starts_in xs (s.base + 16 * i)
     → (n ≡ 0 → (result ≡ true) × (new ≡ record s { live = upto (s.base + 16 * i) xs }))
     → (0 < n → IsClaimable (record s { live = upto (s.base + 16 * i) xs }) (s.base + 16 * i) (s.base + 16 * i + n)
     → (result ≡ true) × (new ≡ record s { live = blocks_with (s.base + 16 * i, n) (upto (s.base + 16 * i) xs) }))
@@ -227,7 +263,7 @@ live_replay_from m s new xs i n result replay is none held =
           (done.0, done.1 ∙ (λ j. record s { live = same j }))
     ]
 
-pub live_replay_step : (m s now new : HeapState) (xs : List Span) (i n : ℕ) (result : Bool) → IsLiveReplay m s xs → n ≡ starts_in xs (s.base + 16 * i)
+pub live_replay_step : (m s now new : HeapState) (xs : List Span) (i n : ℕ) (result : Bool) → IsReplay m s xs → n ≡ starts_in xs (s.base + 16 * i)
     → now ≡ record s { live = upto (s.base + 16 * i) xs }
     → (n ≡ 0 → (result ≡ true) × (new ≡ now))
     → (0 < n → IsClaimable now (now.base + 16 * i) (now.base + 16 * i + n)

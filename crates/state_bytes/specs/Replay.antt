@@ -1,32 +1,16 @@
--- A heap that is made as a text tells: the painted blocks first, then those that wait, then the live ones.
-use Rattle.std.specs.Prelude.{◌≡◌, ◌%◌, Bool, false, All, AllPairs, List, []}
-use Rattle.cap_codec.specs.Rounding.{IsExact}
-use Rattle.heap_core.specs.Blocks.{IsApart, IsBefore, Span, end_of, start_of}
-use Rattle.heap_core.specs.Heap.{HeapState, IsInside}
+-- A heap that is made as a text tells: the painted blocks first, then those that wait and the live ones, granule by granule.
+use Rattle.std.specs.Prelude.{◌≡◌, ◌+◌, ◌*◌, ℕ, Bool, false, List, [], filter, nat_lt}
+use Rattle.heap_core.specs.Blocks.{Span, start_of}
+use Rattle.heap_core.specs.Heap.{HeapState}
 
--- Blocks of the heap m may be made to wait in the heap s, which has none that is live or waits.
-pub record IsReplay (m s : HeapState) (blocks : List Span) : Type 0 where
-  pub base : s.base ≡ m.base
-  pub size : s.size ≡ m.size
-  pub even : s.base % 16 ≡ 0
-  pub inside : All (IsInside m) blocks
-  pub order : AllPairs IsBefore blocks
-  pub exact : All (λ block. IsExact (start_of block) (end_of block)) blocks
-  pub live : s.live ≡ []
-  pub waiting : s.waiting ≡ []
-  pub painted : All (λ block. All (IsApart block) s.painted) blocks
+-- The blocks that start before an address.
+abbrev pub upto : ℕ → List Span → List Span
+upto a xs = filter (λ b. nat_lt (start_of b) a) xs
 
--- Blocks of the heap m may be made live in the heap s, which has none that is live.
-pub record IsLiveReplay (m s : HeapState) (blocks : List Span) : Type 0 where
-  pub base : s.base ≡ m.base
-  pub size : s.size ≡ m.size
-  pub even : s.base % 16 ≡ 0
-  pub inside : All (IsInside m) blocks
-  pub order : AllPairs IsBefore blocks
-  pub exact : All (λ block. IsExact (start_of block) (end_of block)) blocks
-  pub live : s.live ≡ []
-  pub waiting : All (λ block. All (IsApart block) s.waiting) blocks
-  pub painted : All (λ block. All (IsApart block) s.painted) blocks
+-- The heap, with no more of its live blocks, and of those that wait, than start below granule number i: so it is made once
+-- the rows below i are read.
+unfoldable pub reached : HeapState → ℕ → HeapState
+reached heap i = record heap { live = upto (heap.base + 16 * i) heap.live; waiting = upto (heap.base + 16 * i) heap.waiting }
 
 -- The heap s lies where m does and has no blocks, and an epoch is to be open as it is there.
 pub record IsStart (m s : HeapState) (is_open : Bool) : Type 0 where

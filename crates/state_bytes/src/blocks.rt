@@ -7,9 +7,9 @@ ghost use Rattle.heap_core.specs.Found.{blocks_in};
 ghost use Rattle.heap_core.specs.Place.{with_block};
 ghost use Rattle.heap_core.specs.Quarantine.{with_waiting};
 ghost use Rattle.heap_machine.specs.Parts.{MachineState};
-ghost use Rattle.state_bytes.specs.Replay.{IsLiveReplay, IsReplay, IsStart};
+ghost use Rattle.state_bytes.specs.Replay.{IsStart, reached};
 ghost use Rattle.state_bytes.specs.State.{AreExact, IsState};
-ghost use Rattle.state_bytes.specs.Text.{starts_in, text_of};
+ghost use Rattle.state_bytes.specs.Text.{kind_number, length_told, starts_in, text_of};
 
 use crate::encoding::number_of_kind;
 use crate::places::{HEAD, NUMBER, ROW};
@@ -30,10 +30,7 @@ pub fn read_blocks(heap: &mut Heap, bytes: &[u8], is_open: bool) -> bool
     if !read_painted(heap, bytes, is_open) {
         return false;
     }
-    if !read_held(heap, bytes, Kind::Waiting) {
-        return false;
-    }
-    read_live(heap, bytes)
+    read_others(heap, bytes)
 }
 
 // The painted blocks: they are given up before the epoch begins.
@@ -48,24 +45,25 @@ fn read_painted(heap: &mut Heap, bytes: &[u8], is_open: bool) -> bool
     if !is_open {
         return true;
     }
-    if !read_held(heap, bytes, Kind::Painted) {
+    if !hold_painted(heap, bytes) {
         return false;
     }
     heap.begin_epoch();
     true
 }
 
-// The blocks of a kind that is held: each is handed out and given up.
-fn read_held(heap: &mut Heap, bytes: &[u8], kind: Kind) -> bool
+// The blocks that an epoch is to paint: each is handed out and given up.
+fn hold_painted(heap: &mut Heap, bytes: &[u8]) -> bool
     requires rows { 16 * 13 + 21 * heap.old.size ≤ 16 * length bytes.now }
-    ensures all { (m : MachineState) → IsState m → text_of m ≡ bytes.now → IsReplay m.state.heap heap.old (blocks_in m.state.heap kind)
-        → (result ≡ true) × (heap.new ≡ record heap.old { waiting = blocks_in m.state.heap kind }) }
+    ensures all { (m : MachineState) → IsState m → text_of m ≡ bytes.now
+        → heap.old ≡ record m.state.heap { live = []; waiting = []; painted = []; is_open = false }
+        → (result ≡ true) × (heap.new ≡ record heap.old { waiting = m.state.heap.painted }) }
     ensures size { heap.new.size ≡ heap.old.size }
     ensures open { heap.new.is_open ≡ heap.old.is_open }
     ensures exact { AreExact heap.old → AreExact heap.new }
 {
     for i in 0..heap.granules() {
-        let length = length_in(bytes, i, kind);
+        let length = length_of(number_in(bytes, i), Kind::Painted);
         if !hold_at(heap, i, length) {
             return false;
         }
@@ -73,30 +71,53 @@ fn read_held(heap: &mut Heap, bytes: &[u8], kind: Kind) -> bool
     true
 }
 
-// The live blocks.
-fn read_live(heap: &mut Heap, bytes: &[u8]) -> bool
+// The blocks that wait and the live ones, in one pass over the rows.
+fn read_others(heap: &mut Heap, bytes: &[u8]) -> bool
     requires rows { 16 * 13 + 21 * heap.old.size ≤ 16 * length bytes.now }
-    ensures all { (m : MachineState) → IsState m → text_of m ≡ bytes.now → IsLiveReplay m.state.heap heap.old m.state.heap.live
-        → (result ≡ true) × (heap.new ≡ record heap.old { live = m.state.heap.live }) }
+    ensures all { (m : MachineState) → IsState m → text_of m ≡ bytes.now → heap.old ≡ record m.state.heap { live = []; waiting = [] }
+        → (result ≡ true) × (heap.new ≡ m.state.heap) }
     ensures exact { AreExact heap.old → AreExact heap.new }
 {
     for i in 0..heap.granules() {
-        let length = length_in(bytes, i, Kind::Live);
-        if !claim_at(heap, i, length) {
+        if !read_row(heap, bytes, i) {
             return false;
         }
     }
     true
 }
 
-// The length of the block of a kind that starts at a granule, or 0.
-fn length_in(bytes: &[u8], i: usize, kind: Kind) -> u32
-    requires inside { 13 + 21 * (i + 1) ≤ length bytes.now }
-    ensures all { (m : MachineState) → IsState m → text_of m ≡ bytes.now → i < length m.state.cells
-        → result ≡ starts_in (blocks_in m.state.heap kind) (m.state.heap.base + 16 * i) }
-    ensures limit { result < 2 ^ 32 }
+// The block that starts at a granule, if it waits or is live. Most rows tell of none.
+fn read_row(heap: &mut Heap, bytes: &[u8], i: usize) -> bool
+    requires inside { 16 * i < heap.old.size }
+    requires row { 13 + 21 * (i + 1) ≤ length bytes.now }
+    ensures all { (m : MachineState) → IsState m → text_of m ≡ bytes.now → heap.old ≡ reached m.state.heap i
+        → (result ≡ true) × (heap.new ≡ reached m.state.heap (i + 1)) }
+    ensures size { heap.new.size ≡ heap.old.size }
+    ensures exact { AreExact heap.old → AreExact heap.new }
 {
-    let number = LittleEndian::read_u32(&bytes[HEAD + ROW * i + NUMBER..]);
+    let number = number_in(bytes, i);
+    if number == 0 {
+        return true;
+    }
+    if !hold_at(heap, i, length_of(number, Kind::Waiting)) {
+        return false;
+    }
+    claim_at(heap, i, length_of(number, Kind::Live))
+}
+
+// The number in a granule's row.
+fn number_in(bytes: &[u8], i: usize) -> u32
+    requires inside { 13 + 21 * (i + 1) ≤ length bytes.now }
+    ensures { (m : MachineState) → IsState m → text_of m ≡ bytes.now → i < length m.state.cells
+        → (kind : Kind) → length_told (kind_number kind) result ≡ starts_in (blocks_in m.state.heap kind) (m.state.heap.base + 16 * i) }
+{
+    LittleEndian::read_u32(&bytes[HEAD + ROW * i + NUMBER..])
+}
+
+// The length that a number tells of a block of a kind: 0 where it tells of another, or of none.
+fn length_of(number: u32, kind: Kind) -> u32
+    ensures { result ≡ length_told (kind_number kind) number }
+{
     let kind_number = number_of_kind(kind);
     if number % GRANULE as u32 != kind_number {
         return 0;
@@ -139,7 +160,7 @@ fn claim_block(heap: &mut Heap, base: u64, top: u128) -> bool
 fn hold_at(heap: &mut Heap, i: usize, length: u32) -> bool
     requires inside { 16 * i < heap.old.size }
     ensures none { length ≡ 0 → (result ≡ true) × (heap.new ≡ heap.old) }
-    ensures held { 0 < length → heap.old.live ≡ [] → IsClaimable heap.old (heap.old.base + 16 * i) (heap.old.base + 16 * i + length)
+    ensures held { 0 < length → IsClaimable heap.old (heap.old.base + 16 * i) (heap.old.base + 16 * i + length)
         → (result ≡ true) × (heap.new ≡ record heap.old { waiting = blocks_with (heap.old.base + 16 * i, length) heap.old.waiting }) }
     ensures size { heap.new.size ≡ heap.old.size }
     ensures open { heap.new.is_open ≡ heap.old.is_open }
