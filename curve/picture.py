@@ -3,6 +3,8 @@
 import html
 import math
 
+from run import counted
+
 WIDTH, HEIGHT = 960, 520
 LEFT, RIGHT, TOP, BOTTOM = 78, 882, 92, 356  # of the areas
 STRIP_TOP, STRIP = 404, 470  # of the passes: room for the longest stem, and where all stand
@@ -118,11 +120,11 @@ class Picture:
         x = LEFT
         for kind, told in (("live", "live"), ("held", "held in quarantine"), ("free", free)):
             shown = f'class="{kind}"' if kind != "free" else 'fill="#fff" stroke="#000" stroke-width=".6"'
-            self.add(f'<rect x="{x}" y="58" width="22" height="13" {shown}/>')
-            self.text(x + 28, 69, told)
+            self.add(f'<rect x="{x}" y="50" width="22" height="13" {shown}/>')
+            self.text(x + 28, 61, told)
             x += 48 + 7 * len(told)
-        self.add(f'<path class="tags" stroke="#a01010" stroke-width="1.8" stroke-dasharray="7 3" d="M{x} 65h28"/>')
-        self.text(x + 34, 69, "tags, by the axis on the right")
+        self.add(f'<path class="tags" stroke="#a01010" stroke-width="1.8" stroke-dasharray="7 3" d="M{x} 57h28"/>')
+        self.text(x + 34, 61, "tags, by the axis on the right")
 
     def marks(self):
         """Passes with the place of their marks: those of one kind that lie near each other have one, that of the most tags."""
@@ -135,8 +137,8 @@ class Picture:
 
     def told_of(self, most, passes):
         if len(passes) == 1:
-            return f"line {most.line:,}: {MARKS[most.kind]}, {most.tags:,} tags taken"
-        return f"lines {passes[0].line:,} to {passes[-1].line:,}: {MARKS[most.kind]} {len(passes):,} times, {sum(it.tags for it in passes):,} tags taken, at most {most.tags:,}"
+            return f"line {most.line:,}: {MARKS[most.kind]}, {counted(most.tags, 'tag')} taken"
+        return f"lines {passes[0].line:,} to {passes[-1].line:,}: {MARKS[most.kind]} {len(passes):,} times, {counted(sum(it.tags for it in passes), 'tag')} taken, at most {most.tags:,}"
 
     def mark(self, kind, x, y):
         if kind == "sweep":

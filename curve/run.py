@@ -10,6 +10,10 @@ GRANULES = PAGE // GRANULE
 MOST_PAGES = 1024
 
 
+def counted(count, one):
+    return f"{count:,} {one}{'' if count == 1 else 's'}"
+
+
 @dataclasses.dataclass
 class Pass:
     """A sweep, that of a `malloc` too, or the `begin` or `end` of an epoch."""
@@ -101,24 +105,29 @@ class Run:
 
         def peak(values, unit):
             greatest = max(values)
-            return f"{greatest:,} {unit} after line {self.lines[values.index(greatest)]:,}" if greatest else f"0 {unit}"
+            return f"{counted(greatest, unit)} after line {self.lines[values.index(greatest)]:,}" if greatest else f"0 {unit}s"
 
         def passes(kind):
-            return f"{sum(it.kind == kind for it in self.passes):,}, which took {sum(it.tags for it in self.passes if it.kind == kind):,} tags"
+            taken = [it.tags for it in self.passes if it.kind == kind]
+            return f"{len(taken):,}" + (f", which took {counted(sum(taken), 'tag')}" if taken else "")
 
         yield "commands", f"{len(self.live) - 1:,}"
         yield "heap", f"{self.pages * PAGE:,} bytes"
-        yield "peak live", peak(self.live, "bytes")
-        yield "peak held", peak(self.held, "bytes")
-        yield "peak tags", peak(self.tags, "tags")
+        yield "peak live", peak(self.live, "byte")
+        yield "peak held", peak(self.held, "byte")
+        yield "peak tags", peak(self.tags, "tag")
         yield "sweeps", passes("sweep")
         yield "begins of an epoch", passes("begin")
         yield "ends of an epoch", passes("end")
         yield "tags taken", f"{sum(it.tags for it in self.passes):,}"
-        yield "swept over", f"{self.swept_over:,} bytes of pages with a tag, and at an end of dirty pages"
-        yield "reuse distance", (
-            f"{min(self.distances):,} to {max(self.distances):,} commands from a free to the next use of its bytes, median "
-            f"{int(statistics.median_low(self.distances)):,}, of {len(self.distances):,} blocks" if self.distances else "no byte is used again")
+        yield "swept over", f"{self.swept_over:,} bytes: pages with a tag, and at an end dirty ones"
+        yield "reuse distance", self.distance()
+
+    def distance(self):
+        if not self.distances:
+            return "no byte is used again"
+        least, most, median = min(self.distances), max(self.distances), statistics.median_low(self.distances)
+        return f"{least:,} to {counted(most, 'command')} from a free to the next use of its bytes, median {median:,}, of {counted(len(self.distances), 'block')}"
 
 
 def run_of(lines):

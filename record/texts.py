@@ -97,7 +97,7 @@ class Text:
         if not self.added:
             return
         commands = len(self.added)
-        if (self.calls + 1) % self.every == 0:
+        if self.lines and (self.calls + 1) % self.every == 0:
             self.added.insert(0, f"# call {self.calls + 1}")
         more = sum(map(len, self.added)) + len(self.added)
         if self.bytes + more > self.longest:
@@ -293,9 +293,12 @@ def measured(record, options):
 def text_of(record, options):
     """The text of a record: its table has as many slots as the text needs."""
     slots, low = measured(record, options)
+    before = None
     while True:
         text = Log(record.words, options, slots, low) if options.is_log else Trace(record.words, options, slots)
         text.add_all(record)
-        if text.most_slots >= text.slots or isinstance(text.ended, NoPlace):
+        if before and before.calls == text.calls:  # what ended it is no want of slots
+            text.ended = before.ended
+        if text.slots <= max(1, text.most_slots) or isinstance(text.ended, NoPlace):
             return text
-        slots = text.most_slots
+        before, slots = text, text.most_slots
