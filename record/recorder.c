@@ -20,6 +20,7 @@
 #include <string.h>
 #include <sys/mman.h>
 #include <sys/resource.h>
+#include <sys/single_threaded.h>
 #include <sys/stat.h>
 #include <unistd.h>
 
@@ -71,7 +72,7 @@ static struct {
 } next;
 
 static struct state *state;
-static __thread int is_within __attribute__((tls_model("initial-exec")));
+static __thread enum { OUTSIDE, WITHOUT_LOCK, WITH_LOCK } is_within __attribute__((tls_model("initial-exec")));
 static char record[PAGE], children[PAGE]; /* the paths that heap_record gave; none is empty */
 static char own[PAGE + 32];               /* the path of this process's record */
 static int is_cheri;                      /* whether the allocator is asked as one for CHERI is */
@@ -188,6 +189,12 @@ static int extend(struct state *it) {
     return bytes != 0;
 }
 
+static void leave(struct state *it) {
+    if (!it) return;
+    if (is_within == WITH_LOCK) pthread_mutex_unlock(&it->lock);
+    is_within = OUTSIDE;
+}
+
 /* Makes the state, in a page that a fork leaves zero. Where there can't be one nothing is noted, and heap_record says so. */
 static void make_state(void) {
     static int is_tried;
@@ -200,22 +207,15 @@ static void make_state(void) {
 
 /* Takes the lock for a call that is to be noted; 0 where it isn't. */
 static struct state *enter(void) {
-    if (is_within) return 0;
+    if (is_within != OUTSIDE) return 0;
     if (!state) make_state();
     if (!state || state->phase == OFF) return 0;
-    is_within = 1;
-    pthread_mutex_lock(&state->lock);
+    is_within = __libc_single_threaded ? WITHOUT_LOCK : WITH_LOCK;
+    if (is_within == WITH_LOCK) pthread_mutex_lock(&state->lock);
     if (state->phase == NEW) begin(state);
     if (state->phase == NOTES || state->phase == COUNTS) return state;
-    pthread_mutex_unlock(&state->lock);
-    is_within = 0;
+    leave(state);
     return 0;
-}
-
-static void leave(struct state *it) {
-    if (!it) return;
-    pthread_mutex_unlock(&it->lock);
-    is_within = 0;
 }
 
 /* Notes a call. An entry counts once it is whole. */
