@@ -20,11 +20,15 @@
 #include <string.h>
 #include <sys/mman.h>
 #include <sys/resource.h>
-#include <sys/single_threaded.h>
 #include <sys/stat.h>
 #include <unistd.h>
+#if __has_include(<sys/single_threaded.h>)
+#include <sys/single_threaded.h>
+#else
+enum { __libc_single_threaded = 0 };
+#endif
 
-enum { PAGE = 4096, GRANULE = 16, CHUNK = 1 << 20 /* bytes of entries that are mapped at once */, MOST = 1 << 22 /* entries */ };
+enum { PAGE = 4096, GRANULE = 16, CHUNK = 1 << 20 /* bytes of entries that are mapped at once */, MOST = 1 << 22 /* entries */, WORDS = 2048 };
 
 static const uint64_t MARK = 0x3164726f63657268; /* "hrecord1" */
 
@@ -49,7 +53,8 @@ struct head {
     uint64_t programs; /* how many programs this process has been, one after the other */
     uint64_t children; /* processes that have no record */
     uint64_t length;   /* bytes of `words` */
-    char words[PAGE - 8 * 8]; /* the words of the command, each with a byte 0 at its end */
+    char words[WORDS]; /* the words of the command, each with a byte 0 at its end */
+    uint64_t counted[(PAGE - 8 * 8 - WORDS) / 8]; /* numbers of `children`, each where its remainder says */
 };
 
 /* What a forked child has all zero: so a lock that another thread held is free there. */
@@ -132,12 +137,18 @@ static void read_words(struct head *head) {
     head->length = count < 0 ? 0 : (uint64_t)count;
 }
 
+/* Counts this process among those that have no record: once, though it may become another program. */
+static void count_child(struct head *head) {
+    uint64_t process = (uint64_t)getpid(), *place = &head->counted[process % (sizeof head->counted / sizeof *head->counted)];
+    if (__atomic_exchange_n(place, process, __ATOMIC_RELAXED) != process) __atomic_add_fetch(&head->children, 1, __ATOMIC_RELAXED);
+}
+
 /* Begins the record of `path` for this process, where it is empty or this process's own; whether it is. */
 static int begin_record(struct state *it, const char *path) {
     struct head *head = mapped(path, 0, PAGE);
     if (!head) return 0;
     if (head->mark && head->process != (uint64_t)getpid()) {
-        if (!*children) __atomic_add_fetch(&head->children, 1, __ATOMIC_RELAXED);
+        if (!*children) count_child(head);
         munmap(head, PAGE);
         return 0;
     }
