@@ -9,6 +9,8 @@ WIDTH, HEIGHT = 960, 520
 LEFT, RIGHT, TOP, BOTTOM = 78, 882, 92, 356  # of the areas
 STRIP_TOP, STRIP = 404, 470  # of the passes: room for the longest stem, and where all stand
 COLUMNS = RIGHT - LEFT
+# A line of more coordinates goes up and down in most columns.
+DENSE = 4 * COLUMNS
 # Passes of one kind that lie nearer to each other have one mark.
 NEAR = 3
 MARKS = {"sweep": "sweep", "begin": "begin of an epoch", "end": "end of an epoch"}
@@ -46,9 +48,9 @@ def without_middles(points):
     return kept
 
 
-def ticks(most, count):
-    """Round numbers from 0 to at most `most`, about so many."""
-    step = 10 ** math.floor(math.log10(most / count)) if most > 0 else 1
+def ticks(most, count, least=0):
+    """Round numbers from 0 to at most `most`, about so many, and no nearer to each other than `least`."""
+    step = max(least, 10 ** math.floor(math.log10(most / count)))
     step = next(it for it in (step, 2 * step, 5 * step, 10 * step) if most / it <= count)
     return [it * step for it in range(int(most / step + 1e-9) + 1)]
 
@@ -84,7 +86,7 @@ class Picture:
         for point in kept[1:]:
             told.append(f"{number(point[0] - before[0])} {number(point[1] - before[1])} ")
             before = point
-        return "".join(told).rstrip()
+        return "".join(told).rstrip() if len(kept) > 1 else told[0] + "0 0"
 
     def area(self, values, kind):
         self.add(f'<path class="{kind}" d="{self.points(values, self.most_bytes)}V{BOTTOM}H{LEFT}z"/>')
@@ -95,7 +97,10 @@ class Picture:
         self.area([live + held for live, held in zip(run.live, run.held)], "held")
         self.area(run.live, "live")
         line = self.points(run.tags, self.most_tags)
-        self.add(f'<path class="tags" stroke="#fff" stroke-width="4" d="{line}"/><path class="tags" stroke="#a01010" stroke-width="1.8" stroke-dasharray="7 3" d="{line}"/>')
+        if line.count(" ") > DENSE:  # it would hide what it runs over
+            self.add(f'<path class="tags" stroke="#a01010" stroke-width=".4" d="{line}"/>')
+        else:
+            self.add(f'<path class="tags" stroke="#fff" stroke-width="4" d="{line}"/><path class="tags" stroke="#a01010" stroke-width="1.8" stroke-dasharray="7 3" d="{line}"/>')
 
     def axes(self):
         scale, unit = (1 << 20, "MiB") if self.most_bytes >= 1 << 20 else (1 << 10, "KiB") if self.most_bytes >= 1 << 10 else (1, "bytes")
@@ -103,11 +108,11 @@ class Picture:
             y = self.y(it * scale, self.most_bytes)
             self.add(f'<path class="grid" d="M{LEFT} {number(y)}H{RIGHT}"/><path class="axis" d="M{LEFT - 5} {number(y)}h5"/>')
             self.text(LEFT - 9, y + 4, f"{it:g}", anchor="end")
-        for it in ticks(self.most_tags, 6):
+        for it in ticks(self.most_tags, 6, 1):
             y = self.y(it, self.most_tags)
             self.add(f'<path class="axis" d="M{RIGHT} {number(y)}h5"/>')
             self.text(RIGHT + 9, y + 4, f"{it:,.0f}")
-        for it in ticks(self.commands, 8):
+        for it in ticks(self.commands, 8, 1):
             self.add(f'<path class="axis" d="M{number(self.x(it))} {BOTTOM}v5"/>')
             self.text(self.x(it), BOTTOM + 18, f"{it:,.0f}", anchor="middle")
         self.add(f'<path class="axis" d="M{LEFT} {TOP}V{BOTTOM}H{RIGHT}V{TOP}"/>')
@@ -116,7 +121,7 @@ class Picture:
         self.text((LEFT + RIGHT) / 2, BOTTOM + 34, "commands", anchor="middle")
 
     def legend(self):
-        free = f"free (the heap has {self.heap:,} bytes; the rest is not drawn)" if self.is_cut else "free"
+        free = f"free (cut: the heap has {self.heap:,} bytes)" if self.is_cut else "free"
         x = LEFT
         for kind, told in (("live", "live"), ("held", "held in quarantine"), ("free", free)):
             shown = f'class="{kind}"' if kind != "free" else 'fill="#fff" stroke="#000" stroke-width=".6"'

@@ -1,11 +1,15 @@
 """What testing/record tries of ./heap_curve: the numbers of a trace that was worked out by hand, how points are thinned, what is drawn
-of passes, and what is refused."""
+of passes, what is refused, and in a browser that all texts can be read."""
 
+import json
 import pathlib
 import random
 import re
 import sys
+import time
 import xml.etree.ElementTree as xml
+
+import page_browser
 
 sys.path.insert(0, str(pathlib.Path(__file__).resolve().parent.parent / "curve"))
 
@@ -109,6 +113,51 @@ def refusals(tests):
         tests.expect(ran.returncode == 4 and f"heap_curve: {said}" in ran.stderr, f"a curve with {commands}: {ran}")
 
 
+# The texts of a picture that lie over another, or not within it.
+UNREADABLE = """(() => {
+    const texts = [...document.querySelectorAll("text")].map(it => [it.textContent, it.getBoundingClientRect()]);
+    const whole = document.documentElement.getBoundingClientRect();
+    const outside = texts.filter(([, it]) => it.left < whole.left || it.right > whole.right || it.top < whole.top || it.bottom > whole.bottom);
+    const over = texts.filter(([, a], i) => texts.some(([, b], k) => k < i && a.left < b.right && b.left < a.right && a.top + 3 < b.bottom && b.top + 3 < a.bottom));
+    return [...outside, ...over].map(([text]) => text);
+})()"""
+
+
+def shown(browser, path):
+    """Loads a picture from disk."""
+    browser.events.clear()
+    browser.call("Page.navigate", url=path.as_uri())
+    until = time.monotonic() + page_browser.SECONDS
+    while time.monotonic() < until:
+        if browser.run(f"document.readyState === 'complete' && location.href === {json.dumps(path.as_uri())}"):
+            return
+        time.sleep(0.02)
+    raise RuntimeError(f"{path} is not shown after {page_browser.SECONDS} s")
+
+
+def in_a_browser(tests):
+    """The curves of docs/ and some more: no text lies over another, and none is cut."""
+    program = page_browser.program()
+    if program is None:
+        print("skipped: curves in a browser: no chromium")
+        return
+    traces = {
+        "worked": WORKED, "empty": "heap 0 1\n", "one": "# " + "long " * 60 + "\nheap 0 1024\nmalloc c1 16\n",
+        "full": "heap 0 1024\nmalloc c1 4194304\nfree c1\nsweep\n", "many": "heap 0 16\n" + "malloc c1 64\nstorecap c1 c1\nfree c1\nbegin\nend\nmalloc c2 32\nfree c2\nsweep\n" * 3000}
+    for name, trace in traces.items():
+        (tests.scratch / "trace").write_text(trace, encoding="ascii")
+        tests.shell(f"$ROOT/heap_curve < trace > curve_{name}.svg")
+    browser = page_browser.Browser(program)
+    try:
+        for path in [*sorted(tests.scratch.glob("curve_*.svg")), *sorted((tests.root.resolve() / "docs").glob("curve_*.svg"))]:
+            shown(browser, path)
+            unreadable = browser.run(UNREADABLE)
+            tests.expect(browser.run("document.querySelectorAll('text').length") > 8 and unreadable == [], f"{path.name}: these texts can't be read: {unreadable}")
+            tests.expect(browser.noise() == [], f"{path.name}: the browser tells of {browser.noise()}")
+    finally:
+        browser.close()
+
+
 def all_of(tests):
-    for test in (worked, extremes, many, refusals):
+    for test in (worked, extremes, many, refusals, in_a_browser):
         test(tests)
