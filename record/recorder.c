@@ -28,7 +28,7 @@
 enum { __libc_single_threaded = 0 };
 #endif
 
-enum { PAGE = 4096, GRANULE = 16, CHUNK = 1 << 20 /* bytes of entries that are mapped at once */, MOST = 1 << 22 /* entries */, WORDS = 2048 };
+enum { PAGE = 4096, GRANULE = 16, CHUNK = 1 << 20 /* bytes of entries that are mapped at once */, MOST = 1 << 20 /* entries: more than any text has */, WORDS = 2048 };
 
 static const uint64_t MARK = 0x3164726f63657268; /* "hrecord1" */
 
@@ -206,13 +206,19 @@ static void leave(struct state *it) {
     is_within = OUTSIDE;
 }
 
-/* Makes the state, in a page that a fork leaves zero. Where there can't be one nothing is noted, and heap_record says so. */
+static void forget_state(void) { *state = (struct state){0}; }
+
+/* Makes the state, in a page that a fork leaves zero, or else one that a handler makes zero. Where there is no page nothing is noted,
+   and heap_record says so. */
 static void make_state(void) {
     static int is_tried;
     int error = errno;
     void *page = is_tried ? MAP_FAILED : mmap(0, PAGE, PROT_READ | PROT_WRITE, MAP_PRIVATE | MAP_ANONYMOUS, -1, 0);
     is_tried = 1;
-    if (page != MAP_FAILED && madvise(page, PAGE, MADV_WIPEONFORK) == 0) state = page;
+    if (page != MAP_FAILED) {
+        state = page;
+        if (madvise(page, PAGE, MADV_WIPEONFORK) != 0) pthread_atfork(0, 0, forget_state);
+    }
     errno = error;
 }
 
@@ -246,15 +252,20 @@ static size_t unit_of(size_t size) {
     return unit < GRANULE ? GRANULE : unit;
 }
 
-/* A block as the program asked for it; as an allocator for CHERI is asked, in whole granules and bounds that a capability holds. */
-static void *new_block(size_t size, size_t alignment) {
+/* A block as an allocator for CHERI is asked for it: in whole granules, and bounds that a capability holds. */
+static void *exact_block(size_t size, size_t alignment) {
     size_t unit = unit_of(size), length = (size ? size + unit - 1 : unit) / unit * unit;
     void *block;
-    if (!is_cheri || size > PTRDIFF_MAX) return alignment ? next.aligned_alloc(alignment, size) : next.malloc(size);
     if (alignment < unit) alignment = unit;
     if (alignment == GRANULE) return next.malloc(length);
     errno = next.posix_memalign(&block, alignment, length);
     return errno ? 0 : block;
+}
+
+/* A block as the program asked for it, or as an allocator for CHERI is asked. */
+static void *new_block(size_t size, size_t alignment) {
+    if (is_cheri && size <= PTRDIFF_MAX) return exact_block(size, alignment);
+    return alignment ? next.aligned_alloc(alignment, size) : next.malloc(size);
 }
 
 void *malloc(size_t size) {
