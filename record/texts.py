@@ -215,6 +215,8 @@ class Log(Text):
     def __init__(self, words, options, slots, low):
         super().__init__(words, options, slots)
         table = block_of(GRANULE * self.slots)[0] * GRANULE
+        self.freed_by = [0] * (HEAP_BYTES // GRANULE)  # of each granule the call that last freed it
+        self.reused = None  # the first call that got freed bytes, and the call that freed them
         self.shift = low // STEP * STEP - (BASE + -(-table // STEP) * STEP)
         self.top = BASE + table
         self.added.append(f"malloc c31 {GRANULE * self.slots} -> block {BASE:#x} {self.top:#x}")
@@ -244,6 +246,9 @@ class Log(Text):
             raise Full(f"{told} has bounds that no capability holds (--cheri asks for others, --at-most leaves out large blocks)")
         return base, top
 
+    def granules(self, base, top):
+        return slice((base - BASE) // GRANULE, (top - BASE) // GRANULE)
+
     def move(self, size, block, old):
         known = self.blocks.get(old)
         if block == old and known and size <= self.options.at_most:
@@ -262,12 +267,16 @@ class Log(Text):
         base, top = self.bounds(size, block)
         slot = self.slot()
         self.top = max(self.top, top)
+        freed_by = max(self.freed_by[self.granules(base, top)])
+        if freed_by and not self.reused:
+            self.reused = self.calls + 1, freed_by
         self.added += [f"malloc c1 {size} -> block {base:#x} {top:#x}", f"setaddr c2 c31 {self.address(slot):#x} -> ok", "storecap c2 c1 -> ok"]
         return slot, (base, top)
 
     def give_up(self, slot, bounds):
         base, top = bounds
         self.added += [f"setaddr c2 c31 {self.address(slot):#x} -> ok", "loadcap c1 c2 -> ok", f"free c1 -> held {top - base}"]
+        self.freed_by[self.granules(base, top)] = [self.calls + 1] * ((top - base) // GRANULE)
         self.free_slots.append(slot)
 
 
