@@ -28,7 +28,13 @@
 enum { __libc_single_threaded = 0 };
 #endif
 
-enum { PAGE = 4096, GRANULE = 16, CHUNK = 1 << 20 /* bytes of entries that are mapped at once */, MOST = 1 << 20 /* entries: more than any text has */, WORDS = 2048 };
+enum {
+    PAGE = 4096,
+    GRANULE = 16,
+    WORDS = 2048,    /* bytes of a command's words */
+    CHUNK = 1 << 20, /* bytes of entries that are mapped at once */
+    MOST = 1 << 20   /* entries of a record: more calls than a text has, unless it leaves many out */
+};
 
 static const uint64_t MARK = 0x3164726f63657268; /* "hrecord1" */
 
@@ -116,20 +122,25 @@ static int is_ready(void) {
 static void *mapped(const char *path, off_t start, size_t size) {
     struct rlimit most;
     void *bytes = MAP_FAILED;
-    int file = open(path, O_RDWR | O_CREAT | O_CLOEXEC, 0600);
+    int error, file = open(path, O_RDWR | O_CREAT | O_CLOEXEC, 0600);
     if (file < 0) return 0;
     /* past this limit a signal would end the program */
     if (getrlimit(RLIMIT_FSIZE, &most) == 0 && most.rlim_cur < (rlim_t)start + size) {
-        errno = EFBIG;
-    } else if ((errno = posix_fallocate(file, start, (off_t)size)) == 0) {
-        bytes = mmap(0, size, PROT_READ | PROT_WRITE, MAP_SHARED | MAP_POPULATE, file, start);
+        error = EFBIG;
+    } else {
+        do error = posix_fallocate(file, start, (off_t)size);
+        while (error == EINTR);
     }
+    if (error == 0) bytes = mmap(0, size, PROT_READ | PROT_WRITE, MAP_SHARED | MAP_POPULATE, file, start);
+    else errno = error;
+    error = errno;
     if (bytes != MAP_FAILED) madvise(bytes, size, MADV_DONTFORK);
     close(file);
+    errno = error;
     return bytes == MAP_FAILED ? 0 : bytes;
 }
 
-/* The words of this process's command, as the system has them. */
+/* The words of this process's command, as the system has them; no more than have room. */
 static void read_words(struct head *head) {
     int file = open("/proc/self/cmdline", O_RDONLY | O_CLOEXEC);
     ssize_t count = file < 0 ? 0 : read(file, head->words, sizeof head->words);
