@@ -154,8 +154,9 @@ static void count_child(struct head *head) {
     if (__atomic_exchange_n(place, process, __ATOMIC_RELAXED) != process) __atomic_add_fetch(&head->children, 1, __ATOMIC_RELAXED);
 }
 
-/* Begins the record of `path` for this process, where it is empty or this process's own; whether it is. */
-static int begin_record(struct state *it, const char *path) {
+/* Begins the record of `path` for this process, where it is empty or this process's own; whether it is. What goes on after a fork is
+   no program that takes another's place. */
+static int begin_record(struct state *it, const char *path, int is_program) {
     struct head *head = mapped(path, 0, PAGE);
     if (!head) return 0;
     if (head->mark && head->process != (uint64_t)getpid()) {
@@ -166,7 +167,7 @@ static int begin_record(struct state *it, const char *path) {
     head->mark = MARK;
     head->process = (uint64_t)getpid();
     head->entries = head->calls = head->error = 0;
-    head->programs++;
+    head->programs += (uint64_t)is_program;
     read_words(head);
     it->head = head;
     it->phase = NOTES;
@@ -175,14 +176,14 @@ static int begin_record(struct state *it, const char *path) {
 }
 
 /* Begins a record of this process's own in the folder of children, where there is one. */
-static void begin_child(struct state *it) {
+static void begin_child(struct state *it, int is_program) {
     snprintf(own, sizeof own, "%s/%ld", children, (long)getpid());
-    if (*children) begin_record(it, own);
+    if (*children) begin_record(it, own, is_program);
 }
 
 /* Decides what is noted of this process: nothing is decided before the C library knows the environment. */
 static void begin(struct state *it) {
-    int error = errno;
+    int error = errno, is_program = !*record;
     const char *path, *folder;
     if (!environ) return;
     path = getenv("HEAP_RECORD");
@@ -191,7 +192,7 @@ static void begin(struct state *it) {
     if (!*children && folder && strlen(folder) < sizeof children) strcpy(children, folder);
     is_cheri = getenv("HEAP_RECORD_CHERI") != 0;
     it->phase = OFF;
-    if (*record && !begin_record(it, record)) begin_child(it);
+    if (*record && !begin_record(it, record, is_program)) begin_child(it, is_program);
     errno = error;
 }
 
