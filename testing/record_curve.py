@@ -16,7 +16,8 @@ sys.path.insert(0, str(pathlib.Path(__file__).resolve().parent.parent / "curve")
 import picture
 
 MOST_BYTES = 300_000
-# A block is freed and swept, its bytes are used again after three commands, and an epoch takes the tag of a copy that was stored in it.
+# A block is freed and swept, its bytes are used again after five commands, and an epoch takes the tag of a copy that was stored in it;
+# of the two pages with tags one is dirty at its end.
 WORKED = """# Worked <out> & "by hand"
 heap 0x40000000 2
 malloc c1 32
@@ -25,6 +26,8 @@ copy c3 c1
 free c1
 sweep
 storecap c2 c2
+setaddr c5 c2 0x40001000
+storecap c5 c2
 malloc c4 16
 storecap c2 c4
 free c4
@@ -33,17 +36,17 @@ storecap c2 c4
 end
 """
 TABLE = """trace                Worked <out> & "by hand"
-commands             12
+commands             14
 heap                 8,192 bytes
 peak live            4,128 bytes after line 4
 peak held            32 bytes after line 6
-peak tags            3 tags after line 5
+peak tags            5 tags after line 11
 sweeps               1, which took 2 tags
 begins of an epoch   1, which took 1 tag
 ends of an epoch     1, which took 2 tags
 tags taken           5
-swept over           8,192 bytes: pages with a tag, and at an end dirty ones
-reuse distance       3 to 3 commands from a free to the next use of its bytes, median 3, of 1 block
+swept over           12,288 bytes: pages with a tag, and at an end dirty ones
+reuse distance       5 to 5 commands from a free to the next use of its bytes, median 5, of 1 block
 """
 
 
@@ -67,7 +70,7 @@ def worked(tests):
     tests.expect((ran.stdout, ran.returncode) == (TABLE, 0), f"the table is\n{ran.stdout}{ran.stderr}and should be\n{TABLE}")
     curve = draws(tests, WORKED, 'Worked <out> & "by hand"', "the trace worked out by hand")
     told = re.findall(r"<g><title>(.*?)</title>", curve)
-    tests.expect(sorted(told) == ["line 12: begin of an epoch, 1 tag taken", "line 14: end of an epoch, 2 tags taken", "line 7: sweep, 2 tags taken"], f"the marks are {told}")
+    tests.expect(sorted(told) == ["line 14: begin of an epoch, 1 tag taken", "line 16: end of an epoch, 2 tags taken", "line 7: sweep, 2 tags taken"], f"the marks are {told}")
     both = tests.shell("$ROOT/heap_curve --workers 2 --cut 1 < trace")
     tests.expect(both.stdout == curve, "another cutting makes another curve")
 

@@ -123,11 +123,12 @@ static void becomes(void) {
     _exit(99);
 }
 
-enum { THREADS = 4, ROUNDS = 2000 };
+enum { THREADS = 4 };
+static int rounds = 2000;
 
 static void *work(void *number) {
     void *block = 0;
-    for (int i = 0; i < ROUNDS; i++) {
+    for (int i = 0; i < rounds; i++) {
         free(block);
         block = malloc(1000 + (size_t)number);
     }
@@ -176,6 +177,7 @@ int main(int count, char **words) {
     const char *name = count > 1 ? words[1] : "";
     int number = count > 2 ? atoi(words[2]) : 0;
     size_t size = count > 3 ? strtoul(words[3], 0, 10) : 0;
+    if (number) rounds = number;
     if (!strcmp(name, "every_call")) every_call();
     if (!strcmp(name, "failed_calls")) failed_calls();
     if (!strcmp(name, "moves")) moves();
