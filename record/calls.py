@@ -5,7 +5,7 @@ import mmap
 import os
 import struct
 
-PAGE = 4096
+ROOM = 1 << 16  # bytes of a head
 MARK = 0x3164726F63657268
 HEAD = struct.Struct("<8Q")
 ENTRY = struct.Struct("<4Q")
@@ -43,12 +43,12 @@ class Record:
 def read(path):
     """The record of a file; OSError where it can't be read."""
     with open(path, "rb") as file:
-        if os.fstat(file.fileno()).st_size < PAGE:
+        if os.fstat(file.fileno()).st_size < ROOM:
             raise NoRecord(path)
         bytes_of = memoryview(mmap.mmap(file.fileno(), 0, prot=mmap.PROT_READ))
     mark, process, count, calls, error, programs, children, length = HEAD.unpack_from(bytes_of)
     if mark != MARK:
         raise NoRecord(path)
     words = bytes(bytes_of[HEAD.size : HEAD.size + length]).decode("utf-8", "replace").split("\0")
-    entries = bytes_of[PAGE : PAGE + count * ENTRY.size]
+    entries = bytes_of[ROOM : ROOM + count * ENTRY.size]
     return Record(process, calls, error, programs, children, [it for it in words if it], entries)

@@ -1,5 +1,5 @@
 /* Loaded before a program (LD_PRELOAD) by heap_record: notes each call of the program to its allocator in a file, the record.
-   A record has a head of one page, and then a row of entries, which record/calls.py reads. The file is mapped and its room is taken
+   A record has a head, and then a row of entries, which record/calls.py reads. The file is mapped and its room is taken
    before it is written, so that a program that is killed leaves all that it noted, and a full disk is told and ends no program. No
    file stays open.
 
@@ -29,9 +29,11 @@ enum { __libc_single_threaded = 0 };
 #endif
 
 enum {
-    PAGE = 4096,
     GRANULE = 16,
+    ROOM = 1 << 16,  /* bytes that a record's head has: whole pages of any system */
+    PATH = 4096,     /* bytes of a path */
     WORDS = 2048,    /* bytes of a command's words */
+    COUNTED = 253,   /* children that are told apart */
     CHUNK = 1 << 20, /* bytes of entries that are mapped at once */
     MOST = 1 << 20   /* entries of a record: more calls than a text has, unless it leaves many out */
 };
@@ -60,7 +62,7 @@ struct head {
     uint64_t children; /* processes that have no record */
     uint64_t length;   /* bytes of `words` */
     char words[WORDS]; /* the words of the command, each with a byte 0 at its end */
-    uint64_t counted[(PAGE - 8 * 8 - WORDS) / 8]; /* numbers of `children`, each where its remainder says */
+    uint64_t counted[COUNTED]; /* numbers of `children`, each where its remainder says */
 };
 
 /* What a forked child has all zero: so a lock that another thread held is free there. */
@@ -84,12 +86,12 @@ static struct {
 
 static struct state *state;
 static __thread enum { OUTSIDE, WITHOUT_LOCK, WITH_LOCK } is_within __attribute__((tls_model("initial-exec")));
-static char record[PAGE], children[PAGE]; /* the paths that heap_record gave; none is empty */
-static char own[PAGE + 32];               /* the path of this process's record */
+static char record[PATH], children[PATH]; /* the paths that heap_record gave */
+static char own[PATH + 32];               /* the path of this process's record */
 static int is_cheri;                      /* whether the allocator is asked as one for CHERI is */
 
 /* What is asked for while the functions that come next are looked up; none of it is ever taken back. */
-static _Alignas(GRANULE) char early[PAGE];
+static _Alignas(GRANULE) char early[4096];
 static size_t early_used;
 
 static void *early_block(size_t size) {
@@ -150,18 +152,18 @@ static void read_words(struct head *head) {
 
 /* Counts this process among those that have no record: once, though it may become another program. */
 static void count_child(struct head *head) {
-    uint64_t process = (uint64_t)getpid(), *place = &head->counted[process % (sizeof head->counted / sizeof *head->counted)];
+    uint64_t process = (uint64_t)getpid(), *place = &head->counted[process % COUNTED];
     if (__atomic_exchange_n(place, process, __ATOMIC_RELAXED) != process) __atomic_add_fetch(&head->children, 1, __ATOMIC_RELAXED);
 }
 
 /* Begins the record of `path` for this process, where it is empty or this process's own; whether it is. What goes on after a fork is
    no program that takes another's place. */
 static int begin_record(struct state *it, const char *path, int is_program) {
-    struct head *head = mapped(path, 0, PAGE);
+    struct head *head = mapped(path, 0, ROOM);
     if (!head) return 0;
     if (head->mark && head->process != (uint64_t)getpid()) {
         if (!*children) count_child(head);
-        munmap(head, PAGE);
+        munmap(head, ROOM);
         return 0;
     }
     head->mark = MARK;
@@ -200,7 +202,7 @@ static void begin(struct state *it) {
 static int extend(struct state *it) {
     int error = errno;
     uint64_t noted = it->head->entries;
-    void *bytes = noted < MOST ? mapped(own, (off_t)(PAGE + noted * sizeof *it->next), CHUNK) : 0;
+    void *bytes = noted < MOST ? mapped(own, (off_t)(ROOM + noted * sizeof *it->next), CHUNK) : 0;
     if (it->end) munmap(it->end - CHUNK / sizeof *it->end, CHUNK);
     it->next = bytes;
     it->end = bytes ? it->next + CHUNK / sizeof *it->end : 0;
@@ -225,11 +227,11 @@ static void forget_state(void) { *state = (struct state){0}; }
 static void make_state(void) {
     static int is_tried;
     int error = errno;
-    void *page = is_tried ? MAP_FAILED : mmap(0, PAGE, PROT_READ | PROT_WRITE, MAP_PRIVATE | MAP_ANONYMOUS, -1, 0);
+    void *page = is_tried ? MAP_FAILED : mmap(0, sizeof *state, PROT_READ | PROT_WRITE, MAP_PRIVATE | MAP_ANONYMOUS, -1, 0);
     is_tried = 1;
     if (page != MAP_FAILED) {
         state = page;
-        if (madvise(page, PAGE, MADV_WIPEONFORK) != 0) pthread_atfork(0, 0, forget_state);
+        if (madvise(page, sizeof *state, MADV_WIPEONFORK) != 0) pthread_atfork(0, 0, forget_state);
     }
     errno = error;
 }
@@ -373,12 +375,19 @@ int posix_memalign(void **block, size_t alignment, size_t size) {
     return error;
 }
 
-/* The older names for blocks at multiples of an alignment. */
-void *memalign(size_t alignment, size_t size) { return aligned_alloc(alignment, size); }
+/* The older names for blocks at multiples of an alignment, which is rounded up to a power of 2. */
+void *memalign(size_t alignment, size_t size) {
+    size_t power = GRANULE;
+    while (power < alignment && power <= SIZE_MAX / 4) power *= 2;
+    return aligned_alloc(power, size);
+}
 
-void *valloc(size_t size) { return aligned_alloc(PAGE, size); }
+void *valloc(size_t size) { return aligned_alloc((size_t)sysconf(_SC_PAGESIZE), size); }
 
-void *pvalloc(size_t size) { return aligned_alloc(PAGE, size > SIZE_MAX - PAGE ? size : (size + PAGE - 1) / PAGE * PAGE); }
+void *pvalloc(size_t size) {
+    size_t page = (size_t)sysconf(_SC_PAGESIZE);
+    return aligned_alloc(page, size > SIZE_MAX - page ? size : (size + page - 1) / page * page);
+}
 
 /* C++: `new` and `delete` of its own library come to malloc and free, but those that an allocator brings don't. Where memory ran
    out, the next `new` does what is to be done. */
