@@ -10,7 +10,7 @@ import re
 FUNCTION = re.compile(r"^( *)(pub )?(?:extern \"C\" )?fn (\w+)")
 OWNER = re.compile(r"^(?:impl(?:<.*?>)? (?:.* for )?|(?:pub )?trait )(?:\w+::)*(\w+).*\{$")
 USE = re.compile(r"^pub use (\w+)::([\w:]*?)(?:\{([^}]*)\}|(\w+));", re.M)
-SCRIPTS = ("gate", "heap_check", "heap_page", "heap_states", "heap_tool", "launcher", "library", "crates.txt")
+SCRIPTS = ("gate", "heap_check", "heap_curve", "heap_page", "heap_record", "heap_states", "heap_tool", "launcher", "library", "crates.txt")
 # What has words that stand nowhere else: wrong bodies, and wrong documents.
 NOT_WORDS = ("testing/edits/", "testing/refused_edits", "testing/documents")
 ITEM = re.compile(r"^pub (?:extern \"C\" )?(?:fn|struct|enum|trait|const|type) (\w+)", re.M)
@@ -142,10 +142,11 @@ class Code:
     @functools.lru_cache(maxsize=None)
     def words(self, crate="", folders=("specs", "src", "proofs")):
         """The words in these folders of a crate, and in the names of its files there; where none is named, of all crates, of
-        the page, the examples, the library for C, the scripts and the tests, and in the names of all files and folders."""
+        the page, the examples, the library for C, recording and curves, the scripts and the tests, and in the names of all files and
+        folders."""
         wanted = tuple(f"crates/{it}/{folder}/" for it in ([crate] if crate else self.crates) for folder in folders)
         if not crate:
-            wanted += ("bindings/", "examples/", "include/", "page/", "testing/", *SCRIPTS)
+            wanted += ("bindings/", "curve/", "examples/", "include/", "page/", "record/", "testing/", *SCRIPTS)
         files = [it for it in self.files if it.startswith(wanted) and not it.startswith(NOT_WORDS)]
         texts = [*map(self.text, files), "\n".join(files) if crate else self.places]
         return set().union(*(re.findall(r"[\w-]+", it) for it in texts), *(re.findall(r"\w+", it) for it in texts))
