@@ -15,7 +15,7 @@ ROOT = pathlib.Path(__file__).resolve().parent.parent
 RECORD = ROOT / "testing" / "refused_edits"
 # Of what stands in the record one in so many is tried again, each day another.
 SHARE = 10
-HEAD = "# Wrong bodies that were refused, by testing/try_edits and testing/try_tested; testing/record.py says what the sums are.\n"
+HEAD = "# Wrong bodies that were refused, by testing/try_edits and testing/try_tested; testing/refused.py says what the sums are.\n"
 
 
 def uses_of():
