@@ -4,7 +4,7 @@ ghost use Rattle.std.specs.Prelude.{◌≡◌, ◌≢◌, ◌↔◌, None};
 ghost use Rattle.byte_machine.specs.Calls.{IsUnreadable};
 ghost use Rattle.byte_machine.specs.Records.{IsRead};
 ghost use Rattle.kernelstint.specs.Calls.{HasFault};
-ghost use Rattle.kernelstint.specs.Codes.{bad_command, bad_room, done};
+ghost use Rattle.kernelstint.specs.Codes.{bad_command, bad_room, done, no_memory};
 ghost use Rattle.kernelstint.specs.Machines.{HasText, IsCopied, IsMachineStep, IsOpened};
 
 use crate::codes::{BAD_COMMAND, BAD_ROOM, DONE, NO_MEMORY, code_of_fault};
@@ -52,6 +52,7 @@ pub extern "C" fn kernelstint_proved_machine_step(
     ensures still { result ≢ done → machine.new.value ≡ machine.old.value }
     ensures untold { result ≢ done → reply.new ≡ reply.old }
     ensures command { (result ≡ bad_command) ↔ IsRead command None }
+    ensures memory { result ≢ done → result ≢ bad_command → result ≡ no_memory }
 {
     exactness();
     let Some(command) = command_of(command) else {
@@ -81,6 +82,7 @@ pub extern "C" fn kernelstint_proved_machine_copy(
     requires copy { copy.old.value ≡ None }
     ensures copied { result ≡ done → IsCopied machine.old.value copy.new.value }
     ensures still { result ≢ done → copy.new.value ≡ None }
+    ensures memory { result ≢ done → result ≡ no_memory }
     ensures kept { machine.new.value ≡ machine.old.value }
 {
     let held = machine.take(alloc);
