@@ -19,6 +19,10 @@ const element = (name, attributes = {}, ...children) => build(document.createEle
 const shape = (name, attributes = {}, ...children) => build(document.createElementNS(SHAPES, name), attributes, children);
 const code = text => element('code', {}, String(text));
 
+// Whether a key is for a field, for the table of keys, or for the browser.
+const isTyped = event => event.ctrlKey || event.metaKey || event.altKey || byId('keys').open ||
+  event.target.matches('input:not([type=checkbox], [type=range]), select');
+
 const clamp = (number, least, greatest) => Math.min(Math.max(number, least), greatest);
 const hex = number => (number < 0n ? '−0x' + (-number).toString(16) : '0x' + number.toString(16));
 const digits = (number, count) => number.toString(16).padStart(count, '0');

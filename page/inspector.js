@@ -14,6 +14,18 @@ function chosenCell() {
 
 const chosenWord = () => (chosenCell() || { cell: NULL_CELL }).cell;
 
+// What is pasted may have blanks, and 0x before each part of it.
+function takeTyped() {
+  const word = byId('typed').value.toLowerCase().replace(/(^|\s)0x/g, '$1').replace(/\s/g, ''), strange = word.match(/[^0-9a-f]/u);
+  const wrong = word === '' ? '' : strange ? `“${strange[0]}” is no hexadecimal digit.`
+    : word.length !== 32 ? `${plural(word.length, 'digit')}: a word has just 32, two for each byte.` : '';
+  byId('typed').setAttribute('aria-invalid', String(wrong !== ''));
+  byId('wrong').textContent = wrong;
+  if (word === '' || wrong) return;
+  view.chosen = null;
+  choose('word', word);
+}
+
 function drawInspector() {
   const { name, cell } = chosenCell() || { name: 'null, as nothing is chosen', cell: NULL_CELL };
   const typed = view.chosen && view.chosen.kind === 'word';

@@ -1,49 +1,68 @@
-// The trace with its notes and replies. Only the rows that are current change from step to step; rows out of sight are
-// laid out when they come into sight (style.css), in pieces of a hundred.
+// The trace with its notes and replies: all of its steps, or those that are asked for (find.js). Only the rows that are current
+// change from step to step.
 
-const PIECE = 100;
-const rows = []; // the button of each step
-let currentRow = null;
+let list = null;
+let currentRow = null; // the button of the step, where the list has it
+
+// What Ask first hides: all but the lines of what comes after the step.
+const isHidden = index => view.ask && index > view.step;
 
 const notesOf = notes => notes.filter(note => note !== '').map(note => element('p', { class: 'note' }, note));
 
-function rowOf(step, index) {
+function rowOf(index) {
+  const step = run.steps[index];
   const button = element('button', { 'data-step': index, tabindex: -1 }, element('span', { class: 'number' }, String(step.line)),
     code(step.text), step.reply ? element('span', { class: 'reply' }, step.reply) : null);
-  rows.push(button);
-  return element('li', { class: step.reply.startsWith('trap') ? 'trap' : null }, ...notesOf(step.notes), button);
+  const kinds = [step.reply.startsWith('trap') && 'trap', isHidden(index) && 'later'].filter(Boolean);
+  return element('li', { class: kinds.join(' ') || null }, ...notesOf(step.notes), button);
 }
 
 function drawList(own) {
-  const pieces = [];
-  run.steps.forEach((step, index) => {
-    if (index % PIECE === 0) pieces.push(element('ol', { 'aria-label': `Steps from ${index} on` }));
-    pieces[pieces.length - 1].append(rowOf(step, index));
-  });
-  const { live, held, free, tags } = run.end;
+  const { live, held, free, tags } = run.end, holder = element('div');
   byId('lines').classList.toggle('long', run.steps[run.steps.length - 1].line > 999);
-  byId('lines').append(...pieces, element('div', { class: 'end' }, ...notesOf(own.after),
+  byId('lines').append(holder, element('div', { class: 'end' }, ...notesOf(own.after),
     `At the end: ${plural(live, 'byte')} live, ${grouped(held)} held, ${grouped(free)} free, ${plural(tags, 'tag')}.`));
+  list = new Pieces(byId('lines'), holder, first => element('ol', { 'aria-label': `Steps from ${first} on` }), rowOf);
+  list.show([...run.steps.keys()]);
   byId('lines').addEventListener('click', event => {
     const button = event.target.closest('[data-step]');
     if (button) go(Number(button.dataset.step));
   });
 }
 
-function drawPosition() {
-  const last = run.steps.length - 1, step = run.steps[view.step], row = rows[view.step];
-  if (row !== currentRow) {
-    if (currentRow) {
-      currentRow.removeAttribute('aria-current');
-      currentRow.tabIndex = -1;
-    }
-    row.setAttribute('aria-current', 'step');
-    row.tabIndex = 0;
-    if (document.activeElement && document.activeElement === currentRow) row.focus({ preventScroll: true });
-    currentRow = row;
-    bringIntoView();
-    requestAnimationFrame(bringIntoView); // once more, when pieces that came into sight have their own heights
+// Where the list has a step, or else the first one after it; both are its length where there is none.
+function positionOf(step) {
+  let low = 0, high = list.items.length;
+  while (low < high) {
+    const middle = (low + high) >> 1;
+    if (list.items[middle] < step) low = middle + 1; else high = middle;
   }
+  return low;
+}
+
+function drawCurrentRow() {
+  const position = positionOf(view.step), isThere = list.items[position] === view.step;
+  const row = isThere ? list.rowAt(position).lastElementChild : null;
+  if (row === currentRow) return;
+  const hadFocus = document.activeElement && document.activeElement === currentRow;
+  if (currentRow) {
+    currentRow.parentNode.classList.remove('current');
+    currentRow.removeAttribute('aria-current');
+    currentRow.tabIndex = -1;
+  }
+  currentRow = row;
+  if (!row) return;
+  row.parentNode.classList.add('current');
+  row.setAttribute('aria-current', 'step');
+  row.tabIndex = 0;
+  if (hadFocus) row.focus({ preventScroll: true });
+  bringIntoView();
+  requestAnimationFrame(bringIntoView); // once more, when the pieces around it have their rows
+}
+
+function drawPosition() {
+  const last = run.steps.length - 1, step = run.steps[view.step];
+  drawCurrentRow();
   byId('slider').value = view.step;
   byId('slider').setAttribute('aria-valuetext', `line ${step.line}: ${step.text}, ${step.reply || 'the heap'}`);
   byId('count').textContent = `step ${grouped(view.step)} of ${grouped(last)}`;
@@ -54,6 +73,7 @@ function drawPosition() {
 
 // With its notes above it, and where there is room the line after it.
 function bringIntoView() {
+  if (!currentRow) return;
   const box = byId('lines'), frame = box.getBoundingClientRect(), item = currentRow.parentNode.getBoundingClientRect();
   const button = currentRow.getBoundingClientRect(), room = Math.min(40, (frame.height - button.height) / 3);
   if (item.top >= frame.top && button.bottom + room <= frame.bottom) return;

@@ -1,7 +1,7 @@
-// What the reader looks at, the controls and the keys, and how the page begins.
+// What the reader looks at, the controls, and how the page begins.
 
 const view = { step: 0, side: 'after', chosen: null, follow: true, probe: null, cursor: null,
-  columns: 32, cell: 0, whole: false, mapWidth: 600, mapHeight: 600, windowWidth: 600, timer: null };
+  columns: 32, cell: 0, whole: false, present: false, ask: false, letter: 20, mapWidth: 600, mapHeight: 600, windowWidth: 600, timer: null };
 
 function go(to) {
   view.step = clamp(to, 0, run.steps.length - 1);
@@ -63,7 +63,12 @@ function draw(scroll) {
   drawBlocks();
   drawMap(scroll);
   drawInspector();
+  drawHistory();
+  drawSums();
   drawPosition();
+  drawThree();
+  drawAsk();
+  keepAddress();
   for (const set of Object.values(touched)) set.clear();
 }
 
@@ -81,11 +86,11 @@ function drawStep() {
 }
 
 function takenTable(taken) {
-  const heads = ['Tag taken from', 'Its address', 'Its base', 'lies in the held block'].map(text => element('th', { scope: 'col' }, text));
+  const heads = ['Tag taken from', 'Its address', 'Its base', 'lies in the held block of'].map(text => element('th', { scope: 'col' }, text));
   const lines = taken.rows.slice(0, TOLD_TAGS).map(row => {
     const block = reasonOf(taken, row);
-    const { address, base } = row.cell.meaning, reason = block ? code(rangeOf(block)) : 'none';
-    return element('tr', {}, [code(row.name), code(hex(address)), code(hex(base)), reason].map(content => element('td', {}, content)));
+    const { address, base } = row.cell.meaning, reason = block ? [bornAs(taken.born.get(block)), ', ', code(rangeOf(block))] : ['none'];
+    return element('tr', {}, [[code(row.name)], [code(hex(address))], [code(hex(base))], reason].map(content => element('td', {}, content)));
   });
   const more = taken.rows.length > TOLD_TAGS ? `and ${plural(taken.rows.length - TOLD_TAGS, 'tag')} more` : null;
   const first = taken.rows.length > DRAWN_REASONS ? `The map has lines for the first ${DRAWN_REASONS}.` : null;
@@ -108,23 +113,9 @@ function play() {
   byId('play').setAttribute('aria-pressed', 'true');
 }
 
-function keyOnPage(event) {
-  const own = 'input:not([type=checkbox]), select';
-  if (event.ctrlKey || event.metaKey || event.altKey || event.target.closest('#map') || event.target.matches(own)) return;
-  const to = { ArrowUp: view.step - 1, ArrowLeft: view.step - 1, ArrowDown: view.step + 1, ArrowRight: view.step + 1,
-    PageUp: view.step - 10, PageDown: view.step + 10, Home: 0, End: run.steps.length - 1 }[event.key];
-  if (to !== undefined) {
-    event.preventDefault();
-    go(to);
-  } else if (event.key === ' ' && !event.target.matches('button, summary, input')) {
-    event.preventDefault();
-    play();
-  }
-}
-
 function keyOnMap(event) {
   if (event.ctrlKey || event.metaKey || event.altKey) return;
-  const place = view.cursor ?? 0, n = view.columns;
+  const place = view.cursor ?? 0, n = map.shape.columns;
   const to = { ArrowLeft: place - 1, ArrowRight: place + 1, ArrowUp: place - n, ArrowDown: place + n,
     Home: place - place % n, End: place - place % n + n - 1 }[event.key];
   if (to !== undefined) view.cursor = clamp(to, 0, map.shape.shown - 1);
@@ -146,8 +137,8 @@ function placeUnder(event) {
   const L = map.shape, frame = byId('map').getBoundingClientRect();
   const column = Math.floor((event.clientX - frame.left + byId('map').scrollLeft - L.gutter) / L.width);
   const row = Math.floor((event.clientY - frame.top + byId('map').scrollTop - map.top) / L.height);
-  const place = row * view.columns + column;
-  return column >= 0 && column < view.columns && row >= 0 && place < L.shown ? place : null;
+  const place = row * L.columns + column;
+  return column >= 0 && column < L.columns && row >= 0 && place < L.shown ? place : null;
 }
 
 // The size of a cell; 0 fits the row into the width.
@@ -158,7 +149,7 @@ function zoom(cell) {
 }
 
 function showAll() { // by the row at which the cells come out largest
-  const room = view.mapWidth - map.shape.gutter - 8;
+  const room = view.mapWidth - map.shape.gutter - edgeOfMap(1);
   const sizes = [16, 32, 64, 128, 256].map(n => [Math.min(room / n, innerHeight * .55 * n / run.granules), n]);
   const [cell, columns] = sizes.reduce((best, size) => (size[0] > best[0] ? size : best));
   view.whole = true;
@@ -197,31 +188,37 @@ function listenToMap() {
 
 function listen() {
   const actions = { first: () => go(0), back: () => go(view.step - 1), next: () => go(view.step + 1),
-    last: () => go(run.steps.length - 1), play };
+    last: () => go(run.steps.length - 1), play, present: togglePresent, ask: toggleAsk, help: LETTERS['?'],
+    close: () => byId('keys').close() };
   for (const [name, action] of Object.entries(actions)) byId(name).onclick = action;
   byId('slider').addEventListener('input', () => go(Number(byId('slider').value)));
   byId('follow').addEventListener('change', () => {
     view.follow = byId('follow').checked;
     if (view.follow) go(view.step);
   });
-  byId('typed').addEventListener('input', () => {
-    const word = byId('typed').value.trim().toLowerCase(), good = /^[0-9a-f]{32}$/.test(word);
-    byId('typed').setAttribute('aria-invalid', String(word !== '' && !good));
-    if (!good) return;
-    view.chosen = null;
-    choose('word', word);
-  });
+  byId('typed').addEventListener('input', takeTyped);
   listenToMap();
   listenToWindow();
-  document.addEventListener('keydown', keyOnPage);
-  addEventListener('resize', () => {
-    measure();
-    remakeMap();
-    draw(false);
-  });
+  for (const listenTo of [listenToFind, listenToBlocks, listenToPaper, listenToSave]) listenTo();
+  for (const onKey of [keyOnPage, keyOfFind, keyOfHistory]) document.addEventListener('keydown', onKey);
+  addEventListener('resize', refit);
+  addEventListener('hashchange', openAddress);
+  addEventListener('pagehide', writeAddress);
+}
+
+function refit() {
+  measure();
+  remakeMap();
+  drawBand();
+  draw(false);
+  list.refill();
 }
 
 function measure() {
+  const own = (name, pixels) => document.documentElement.style.setProperty(name, `${pixels}px`);
+  view.letter = Math.max(20, Math.floor(20 * Math.min(innerWidth / 1280, innerHeight / 720)));
+  own('--letter', view.letter);
+  own('--head', document.querySelector('header').offsetHeight);
   view.mapWidth = byId('map').clientWidth;
   view.mapHeight = byId('map').clientHeight;
   view.windowWidth = Math.max(byId('window').clientWidth, 320);
@@ -235,7 +232,8 @@ function summarize() {
   run.most = most(steps, step => (step.taken ? step.taken.rows.filter(row => row.kind === 'register').length : 0));
   run.reach = most([...run.known.values()], block => block.end) || 4;
   run.used = Math.min(run.granules, Math.max(16, 2 ** Math.ceil(Math.log2(run.reach)))); // what the small bars show
-  view.columns = run.reach > 1024 ? 64 : run.reach > 64 ? 32 : 16;
+  view.columns = run.columns = run.reach > 1024 ? 64 : run.reach > 64 ? 32 : 16;
+  run.isDense = run.known.size + new Set(steps.flatMap(step => step.granules.map(change => change.place))).size > CROWD;
 }
 
 // This page's decoder is no proved one: each cell of the data is compared with it, bit by bit while nothing else is to do.
@@ -272,7 +270,7 @@ function begin() {
   document.title = byId('title').textContent = own.title;
   byId('subtitle').textContent = `A heap of ${plural(run.pages, 'page')}, ${hex(run.base)} to ${hex(heapEnd())}`;
   summarize();
-  byId('columns').value = view.columns;
+  sumUp();
   byId('slider').max = run.steps.length - 1;
   byId('main').hidden = false;
   drawList(own);
@@ -281,8 +279,9 @@ function begin() {
   measure();
   moveTo(0);
   remakeMap();
+  drawBand();
   listen();
-  go(0);
+  openAddress();
   compareCells();
 }
 

@@ -1,17 +1,18 @@
 // The map of the heap. It is made anew where its shape changes; from step to step only what a step touched is drawn again.
 
-const map = { shape: null, box: null, layers: {}, blocks: new Map(), marks: new Map(), fresh: [], struck: [] };
+const map = { shape: null, box: null, layers: {}, blocks: new Map(), marks: new Map(), edges: [], fresh: [], lost: new Set(),
+  strips: [], stale: new Set() };
 
 const DRAWN_REASONS = 64, TOLD_TAGS = 200; // of the tags that a pass took: on the map, and in the table below it
 const SMALL = 14; // cells narrower than this have finer lines
-const LAYERS = ['grid', 'released', 'blocks', 'pages', 'marks', 'changes', 'reasons', 'chosen', 'cursors'];
+const LAYERS = ['grid', 'released', 'blocks', 'pages', 'looked', 'marks', 'changes', 'reasons', 'chosen', 'cursors'];
 
 function remakeMap() {
   const L = map.shape = shapeOfMap();
   map.blocks.clear();
   map.marks.clear();
   map.fresh = [];
-  map.struck = [];
+  map.lost = new Set();
   map.chips = shape('g');
   for (const name of LAYERS) map.layers[name] = shape('g', { class: name });
   map.body = shape('g', {}, ...Object.values(map.layers));
@@ -20,6 +21,8 @@ function remakeMap() {
   map.cursor = shape('rect', { class: 'cursor', width: L.width - 1, height: L.height - 1 });
   map.layers.cursors.append(map.cursor);
   drawGrid(L);
+  drawPages(L);
+  makeStrips();
   for (const block of state.blocks.values()) drawBlock(block);
   state.granules.forEach((cell, place) => { if (!cell.isNull) drawMark(place); });
   byId('map').replaceChildren(map.box);
@@ -27,32 +30,53 @@ function remakeMap() {
 }
 
 function drawGrid(L) {
-  const { grid, pages } = map.layers, n = view.columns;
-  let lines = `M${L.gutter} 0H${L.right}V${L.bottom}H${L.gutter}Z`, pageLines = '';
+  const { grid } = map.layers, n = L.columns;
+  let lines = `M${L.gutter} 0H${L.right}V${L.bottom}H${L.gutter}Z`;
   if (L.height >= 7) for (let row = 0; row <= L.rowCount; row++) lines += `M${L.gutter} ${row * L.height}H${L.right}`;
   if (L.width >= 7) for (let column = 0; column <= n; column++) lines += `M${L.gutter + column * L.width} 0V${L.bottom}`;
-  for (let place = 256; place < L.shown && L.height * 256 / n > 12; place += 256) {
-    pageLines += `M${L.gutter} ${spotOf(L, place)[1]}H${L.right}`;
-  }
   grid.append(shape('path', { d: lines }));
-  pages.append(shape('path', { d: pageLines }));
-  for (let row = 0; row < L.rowCount; row += Math.ceil(13 / L.height)) {
-    const y = row * L.height + Math.min(L.height / 2 + 4, 12);
+  for (let row = 0; row < L.rowCount; row += Math.ceil(13 * L.scale / L.height)) {
+    const y = row * L.height + Math.min(L.height / 2 + 4 * L.scale, 12 * L.scale);
     grid.append(shape('text', { x: L.gutter - 6, y, class: 'row' }, hex(addressOf(row * n))));
   }
-  const every = L.width >= 12 ? 4 : 16;
+  const every = L.width >= 12 * L.scale ? 4 : 16;
   for (let column = every; column < n; column += every) {
-    grid.append(shape('text', { x: L.gutter + column * L.width, y: -17 }, '+' + (column * 16).toString(16)));
+    grid.append(shape('text', { x: L.gutter + column * L.width, y: -17 * L.scale }, '+' + (column * 16).toString(16)));
   }
-  const rest = shape('text', { x: L.right, y: L.bottom + 16, class: 'row' }, `… free up to ${hex(heapEnd())}`);
+  const rest = shape('text', { x: L.right, y: L.bottom + 16 * L.scale, class: 'row' }, `… free up to ${hex(heapEnd())}`);
   if (L.shown < run.granules) grid.append(rest);
 }
 
+// Each page at the edge of its rows: its name, where there is room, and a band that is hatched while it is dirty.
+function drawPages(L) {
+  const every = Math.ceil(13 * L.scale * L.columns / (256 * L.height));
+  let lines = '';
+  map.edges = [];
+  for (let page = 0; page * 256 < L.shown; page++) {
+    const y = spotOf(L, page * 256)[1], height = Math.min(256 / L.columns * L.height, L.bottom - y), x = L.right + 3;
+    const name = page % every === 0 ? shape('text', { x: x + 14, y: y + Math.min(height / 2 + 4, 12 * L.scale) }, `page ${page}`) : null;
+    const box = { x, y: y + .5, width: 10, height: Math.max(height - 1, 1) };
+    map.edges.push(shape('g', { 'data-page': page }, shape('rect', { class: 'band', ...box }), shape('rect', { class: 'hatch', ...box }), name));
+    if (page && L.height * 256 / L.columns > 12) lines += `M${L.gutter} ${y}H${L.right}`;
+  }
+  map.layers.pages.append(shape('path', { d: lines }), ...map.edges);
+}
+
+// What is dirty is hatched, and the pages at which this step looks are shaded.
+function drawDirty(L) {
+  map.edges.forEach((edge, page) => edge.classList.toggle('dirty', state.dirty.has(page)));
+  const seen = lookedAt(run.steps[view.step]).filter(page => page * 256 < L.shown);
+  map.layers.looked.replaceChildren(...seen.map(page => {
+    const end = Math.min((page + 1) * 256, L.shown);
+    return shape('path', { 'data-looked': page, d: areaOf(L, page * 256, end, 0) });
+  }));
+}
+
 function labelOf(L, block, name) {
-  const n = view.columns, second = Math.ceil(block.start / n) * n;
+  const n = L.columns, second = Math.ceil(block.start / n) * n;
   const longer = second < block.end && Math.min(block.end, second + n) - second > second - block.start;
   const place = longer ? second : block.start, room = Math.min(block.end - place, n - place % n) * L.width;
-  if (L.height < 20 || room <= name.length * 6.7 + 5) return null;
+  if (L.height < 11 * L.scale + 9 || room <= name.length * 6.7 * L.scale + 5) return null;
   const [x, y] = spotOf(L, place);
   return shape('text', { x: x + 4, y: y + L.height - 5 }, name);
 }
@@ -63,30 +87,39 @@ function overOf(name, d) {
   return pattern ? shape('path', { class: 'over', fill: `url(#${pattern}-pattern)`, d }) : null;
 }
 
-function blockShape(L, block, name) {
-  const d = areaOf(L, block.start, block.end, L.width < SMALL ? .5 : 1.5);
-  return shape('g', { class: 'block ' + name, 'data-block': block.key, 'data-state': name }, shape('path', { class: 'fill', d }),
-    overOf(name, d), labelOf(L, block, name === 'released' ? 'was held' : stateName(name)));
+// Of one block, or of many without their names.
+function blockShape(L, blocks, name) {
+  const d = blocks.map(block => areaOf(L, block.start, block.end, L.width < SMALL ? .5 : 1.5)).join(''), [block] = blocks;
+  return shape('g', { class: 'block ' + name, 'data-block': blocks.length === 1 ? block.key : null, 'data-state': name },
+    shape('path', { class: 'fill', d }), overOf(name, d),
+    blocks.length === 1 ? labelOf(L, block, name === 'released' ? 'was held' : stateName(name)) : null);
 }
 
 function drawBlock(block) {
+  if (run.isDense) return map.stale.add(Math.floor(block.start / STRIP));
   const old = map.blocks.get(block);
   if (old) old.remove();
   map.blocks.delete(block);
   if (block.state === null || block.start >= map.shape.shown) return;
-  const drawn = blockShape(map.shape, block, block.state);
+  const drawn = blockShape(map.shape, [block], block.state);
   map.blocks.set(block, drawn);
   map.layers.blocks.append(drawn);
 }
 
+// The middle of a mark, and how far it reaches.
+function spotOfMark(L, place) {
+  const [left, top] = spotOf(L, place);
+  return [left + L.width / 2, top + (L.height >= 20 ? L.height * .33 : L.height / 2), clamp(Math.min(L.width, L.height) * .26, 2, 6.5 * L.scale)];
+}
+
 // A granule's mark: a tag, one just taken, or bytes that are not all zero.
-function drawMark(place, wasTaken = false) {
-  const L = map.shape, cell = state.granules[place], old = map.marks.get(place);
+function drawMark(place) {
+  if (run.isDense) return map.stale.add(Math.floor(place / STRIP));
+  const L = map.shape, wasTaken = map.lost.has(place), cell = state.granules[place], old = map.marks.get(place);
   if (old) old.remove();
   map.marks.delete(place);
   if (cell.isNull && !wasTaken) return;
-  const size = clamp(Math.min(L.width, L.height) * .26, 2, 6.5), [left, top] = spotOf(L, place);
-  const x = left + L.width / 2, y = top + (L.height >= 20 ? L.height * .33 : L.height / 2);
+  const [x, y, size] = spotOfMark(L, place);
   const told = { 'data-granule': place, 'data-tag': cell.tag ? 1 : 0 }, side = size * 1.4;
   const mark = cell.tag || wasTaken ? tagMark(x, y, size, cell.tag, told)
     : shape('rect', { class: 'data', x: x - size * .7, y: y - size * .7, width: side, height: side, ...told });
@@ -96,7 +129,8 @@ function drawMark(place, wasTaken = false) {
 
 function drawMap(scroll) {
   const L = map.shape;
-  for (const place of map.struck) touched.granules.add(place);
+  for (const place of map.lost) touched.granules.add(place);
+  map.lost.clear();
   for (const block of touched.blocks) drawBlock(block);
   for (const place of touched.granules) drawMark(place);
   drawOverlays(L);
@@ -111,33 +145,42 @@ function drawOverlays(L) {
   for (const layer of [released, changes, reasons, chosen, map.chips]) layer.replaceChildren();
   map.fresh = now ? step.blocks.map(change => map.blocks.get(change.block)).filter(Boolean) : [];
   for (const drawn of map.fresh) drawn.classList.add('new');
-  map.struck = passed ? step.taken.rows.filter(row => row.kind === 'granule').map(row => row.place) : [];
-  for (const place of map.struck) drawMark(place, true);
+  map.lost = new Set(passed ? step.taken.rows.filter(row => row.kind === 'granule').map(row => row.place) : []);
+  map.lost.forEach(drawMark);
+  drawStrips();
   const ended = now ? step.blocks.filter(change => change.now === null).map(change => change.block) : passed ? step.taken.due : [];
-  released.append(...ended.map(block => blockShape(L, block, 'released')));
-  if (view.side !== 'before') changes.append(...step.granules.map(change => ringOf(L, change.place)));
+  released.append(...together(ended).map(blocks => blockShape(L, blocks, 'released')));
+  if (now && run.isDense) drawFresh(step.blocks.map(change => change.block));
+  if (view.side !== 'before') changes.append(...together(step.granules).map(those => ringsOf(L, those.map(change => change.place))));
+  drawDirty(L);
   // A malloc may hand out the blocks to which the lines go, so it has none once that is done.
   const chips = step.taken && (view.side === 'before' || view.side === passedSide(step)) ? drawReasons(L, step.taken) : 0;
   const bands = Math.max(Math.ceil(chips / L.chipsInRow), run.most ? 1 : 0); // one is kept, so that the map stays in its place
-  map.top = (bands ? CHIP.height * bands + 8 : 0) + 32;
-  map.body.setAttribute('transform', `translate(0 ${map.top})`);
-  const height = map.top + L.bottom + 24;
-  build(map.box, { height, viewBox: `0 0 ${L.full} ${height}` }, []);
+  placeBody(L, (bands ? CHIP.height * L.scale * bands + 8 : 0) + L.head);
   const shown = chosenCell();
   if (shown && !(view.follow && step.taken)) drawChosen(L, shown.cell);
   placeCursor();
 }
 
-function ringOf(L, place) {
-  const [x, y] = spotOf(L, place), width = Math.max(L.width - 3, 2), height = Math.max(L.height - 3, 2);
-  return shape('rect', { class: 'changed', x: x + 1.5, y: y + 1.5, width, height, rx: 2, 'data-changed': place });
+function placeBody(L, top) {
+  const height = top + L.bottom + Math.round(24 * L.scale), viewBox = `0 0 ${L.full} ${height}`;
+  map.top = top;
+  if (map.box.getAttribute('viewBox') === viewBox) return; // else the browser would lay all of it out again
+  map.body.setAttribute('transform', `translate(0 ${top})`);
+  build(map.box, { height, viewBox }, []);
+}
+
+function ringsOf(L, places) {
+  const width = Math.max(L.width - 3, 2), height = Math.max(L.height - 3, 2), corners = places.map(place => spotOf(L, place));
+  const d = corners.map(([x, y]) => cornersOf(x + 1.5, y + 1.5, width, height)).join('');
+  return shape('g', { 'data-changed': places.join(' ') }, shape('path', { class: 'casing', d }), shape('path', { class: 'changed', d }));
 }
 
 // A line from each word whose tag went, a chip for a register, to its base in the block that is the reason.
 // Answers how many chips there are.
 function drawReasons(L, taken) {
   const shown = taken.rows.slice(0, DRAWN_REASONS), chipCount = shown.filter(row => row.kind === 'register').length;
-  const top = Math.ceil(chipCount / L.chipsInRow) * CHIP.height + 40;
+  const top = Math.ceil(chipCount / L.chipsInRow) * CHIP.height * L.scale + 8 + L.head;
   let chips = 0;
   for (const row of shown) {
     const block = reasonOf(taken, row);
@@ -145,10 +188,10 @@ function drawReasons(L, taken) {
     const [bx, by] = spotOf(L, granulesTo(row.cell.meaning.base)), end = [bx + 1, by + 2];
     let start, bend;
     if (row.kind === 'register') {
-      const x = L.gutter + (chips % L.chipsInRow) * CHIP.width, y = 2 + Math.floor(chips / L.chipsInRow) * CHIP.height;
+      const x = L.gutter + (chips % L.chipsInRow) * CHIP.width * L.scale, y = 2 + Math.floor(chips / L.chipsInRow) * CHIP.height * L.scale;
       chips++;
-      map.chips.append(chipOf(row, x, y));
-      start = [x + 27, y + 24 - top];
+      map.chips.append(chipOf(row, x, y, L.scale));
+      start = [x + 27 * L.scale, y + 24 * L.scale - top];
       bend = [start[0], start[1] + 26, end[0], end[1] - 40];
     } else {
       const [x, y] = spotOf(L, row.place);
@@ -161,9 +204,10 @@ function drawReasons(L, taken) {
   return chipCount;
 }
 
-function chipOf(row, x, y) {
-  return shape('g', { 'data-taken': row.name }, shape('rect', { class: 'chip', x, y, width: 54, height: 24, rx: 6 }),
-    shape('text', { class: 'name', x: x + 7, y: y + 16 }, row.name), tagMark(x + 41, y + 12, 5, view.side === 'before'));
+function chipOf(row, x, y, scale) {
+  return shape('g', { 'data-taken': row.name }, shape('rect', { class: 'chip', x, y, width: 54 * scale, height: 24 * scale, rx: 6 }),
+    shape('text', { class: 'name', x: x + 7 * scale, y: y + 16 * scale }, row.name),
+    tagMark(x + 41 * scale, y + 12 * scale, 5 * scale, view.side === 'before'));
 }
 
 // The bounds of the word that is chosen, with its base and its address: broken lines where it has no tag. Null has no bounds
@@ -172,11 +216,11 @@ function drawChosen(L, { tag, meaning, isNull }) {
   if (isNull) return;
   const layer = map.layers.chosen, end = addressOf(L.shown), inside = clippedTo(end, meaning.base, meaning.top);
   if (inside) {
-    const told = `${hex(meaning.base)} ${hex(meaning.top)}`;
-    layer.append(shape('path', { class: tag ? 'pick' : 'pick off', d: areaOf(L, ...inside, 0), 'data-bounds': told }));
+    const told = `${hex(meaning.base)} ${hex(meaning.top)}`, d = areaOf(L, ...inside, 0);
+    layer.append(shape('path', { class: 'casing', d }), shape('path', { class: tag ? 'pick' : 'pick off', d, 'data-bounds': told }));
   }
   const note = (text, x, y) => {
-    const late = x > L.right - 100;
+    const late = x > L.right - 100 * L.scale;
     layer.append(shape('text', { class: 'pinned', x: late ? x - 8 : x + 8, y, 'text-anchor': late ? 'end' : 'start' }, text));
   };
   const within = address => run.base <= address && address < end, corner = clamp(Math.min(L.width, L.height) * .45, 2, 12);
@@ -189,7 +233,7 @@ function drawChosen(L, { tag, meaning, isNull }) {
   if (!isBoth && within(meaning.address)) {
     const [x, y] = spotOf(L, granulesTo(meaning.address)), low = y + L.height;
     layer.append(shape('path', { class: 'pin', d: `M${x} ${low}h${corner}l${-corner} ${-corner}Z` }));
-    note('address', x, low + 11);
+    note('address', x, low + 11 * L.scale);
   }
 }
 
@@ -210,7 +254,7 @@ function placeCursor() {
 
 function placeOfBase(base) {
   const block = ownerOf(base);
-  if (block) return `in the ${stateName(block.state)} block ${rangeOf(block)}`;
+  if (block) return `in the ${stateName(block.state)} block of ${nameOf(block)}, ${rangeOf(block)}`;
   return isInHeap(base) ? 'in free bytes' : 'outside of the heap';
 }
 
@@ -230,7 +274,7 @@ function drawDetail() {
   }
   const cell = state.granules[place], block = state.owners[place], { meaning } = cell;
   box.replaceChildren(element('b', {}, `Granule ${place} at ${hex(addressOf(place))}`), ', ',
-    block ? `in the ${stateName(block.state)} block ${rangeOf(block)}` : 'free', cell.tag ? '. Tagged. ' : '. No tag. ',
+    block ? placeOfBase(addressOf(place)) : 'free', cell.tag ? '. Tagged. ' : '. No tag. ',
     'Bytes ', code(cell.word.match(/.{1,8}/g).join(' ')), ...(cell.tag || cell.isNull ? ['. '] : [', as text ', code(textOfBytes(cell.word)), '. ']),
     ...(cell.tag ? ['A capability of ', code(hex(meaning.base)), ' to ', code(hex(meaning.top)), ', address ', code(hex(meaning.address)),
       '; its base lies ', placeOfBase(meaning.base), '.'] : []));
@@ -246,6 +290,9 @@ function drawLegend() {
     sample('was held, and is free now', box('released')), sample('tagged', tagMark(13, 9, 6, true)),
     sample('tag just taken', tagMark(13, 9, 6, false)),
     sample('data, no tag', shape('rect', { class: 'data', x: 9, y: 5, width: 8, height: 8 })),
-    sample('changed by this step', shape('rect', { class: 'changed', x: 4, y: 2, width: 18, height: 14, rx: 2 })),
-    sample('bounds of what is chosen', shape('rect', { class: 'pick', x: 3, y: 3, width: 20, height: 12 })));
+    sample('changed by this step', shape('path', { class: 'changed', d: cornersOf(4, 2, 18, 14) })),
+    sample('bounds of what is chosen', shape('rect', { class: 'pick', x: 3, y: 3, width: 20, height: 12 })),
+    sample('page that is dirty: a tagged word was stored there', shape('g', { class: 'dirty' },
+      ...['band', 'hatch'].map(kind => shape('rect', { class: kind, x: 8, y: 1, width: 10, height: 16 })))),
+    ...(run.steps.some(step => step.words[0] === 'end') ? [sample('page at which an end looks', shape('path', { class: 'looked', d: 'M1 1H25V17H1Z' }))] : []));
 }

@@ -1,7 +1,7 @@
-// The registers and the table of blocks. A row is made anew only where what it tells differs.
+// The registers. A row is made anew only where what it tells differs.
 
 const BAR = 165; // the width of a register's small bar
-const registerRows = new Map(), blockRows = new Map();
+const registerRows = new Map();
 const barPlace = place => 3 + Math.min(place / run.used, 1) * (BAR - 6);
 
 // What is held, as one outline for all bars, by steps of a pixel: its length does not grow with the blocks.
@@ -50,52 +50,29 @@ function makeRegisterRows() {
 function drawRegisters() {
   const step = run.steps[view.step], bands = heldBands();
   const taken = new Set(view.side !== 'before' && step.taken ? step.taken.rows.filter(row => row.kind === 'register').map(row => row.place) : []);
+  const used = new Set(usedNames(step).map(placeOf));
   const changed = new Set(view.side === 'after' ? step.registers.map(change => change.place) : view.side === 'between' ? taken : []);
   for (const [register, kept] of registerRows) {
     const cell = state.registers[register], chosen = view.chosen && view.chosen.kind === 'register' && view.chosen.place === register;
     const { base, top } = cell.meaning, told = cell.isNull ? 'null' : `bounds ${hex(base)} to ${hex(top)}, base ${placeOfBase(base)}`;
-    const drawn = [cell.tag, cell.word, changed.has(register), taken.has(register), bands, told].join('\n');
+    const drawn = [cell.tag, cell.word, changed.has(register), taken.has(register), used.has(register), bands, told].join('\n');
     kept.button.setAttribute('aria-pressed', String(Boolean(chosen)));
     if (kept.drawn === drawn) continue;
     kept.drawn = drawn;
-    fillRow(kept, cell, { changed: changed.has(register), taken: taken.has(register), bands, told });
+    fillRow(kept, cell, { changed: changed.has(register), taken: taken.has(register), used: used.has(register), bands, told });
   }
+  const first = view.present && byId('rows').querySelector('.new, .used'); // where a class's screen has not room for all
+  if (first) first.scrollIntoView({ block: 'nearest' });
 }
 
-function fillRow({ row, button }, cell, { changed, taken, bands, told }) {
+function fillRow({ row, button }, cell, { changed, taken, used, bands, told }) {
   const { address, base, top } = cell.meaning, hadFocus = document.activeElement === button;
-  row.className = changed ? 'new' : '';
+  row.className = [changed ? 'new' : null, used ? 'used' : null].filter(Boolean).join(' ');
   row.dataset.tag = cell.tag ? 1 : 0;
   row.dataset.word = cell.word;
-  const what = taken && !cell.tag ? 'tag taken' : changed ? 'changed' : null;
+  const what = [used ? 'used' : null, taken && !cell.tag ? 'tag taken' : changed ? 'changed' : null].filter(Boolean).join(', ');
   row.cells[0].replaceChildren(button, ' ', tagSign(cell.tag, taken && !cell.tag), what ? element('div', { class: 'newmark' }, what) : '');
   row.cells[1].replaceChildren(...(cell.isNull ? [element('span', { class: 'muted' }, 'null')]
     : [code(hex(address)), element('div', { class: 'bounds' }, hex(base), ' to ', hex(top)), smallBar(cell, bands, told)]));
   if (hadFocus) button.focus({ preventScroll: true });
-}
-
-// The next block behind this one that has a row, where the new row goes.
-function rowBehind(block) {
-  for (let place = block.end; place < run.granules;) {
-    const owner = state.owners[place];
-    if (owner && blockRows.has(owner)) return blockRows.get(owner);
-    place = owner ? owner.end : place + 1;
-  }
-  return null;
-}
-
-function drawBlocks() {
-  for (const block of touched.blocks) {
-    const old = blockRows.get(block);
-    if (block.state === null) {
-      if (old) old.remove();
-      blockRows.delete(block);
-    } else if (old) old.cells[3].textContent = stateName(block.state);
-    else {
-      const contents = [code(hex(block.base)), code(hex(block.top)), grouped(block.top - block.base), stateName(block.state)];
-      const row = element('tr', {}, contents.map(content => element('td', {}, content)));
-      byId('blocks').insertBefore(row, rowBehind(block));
-      blockRows.set(block, row);
-    }
-  }
 }

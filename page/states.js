@@ -21,7 +21,7 @@ const NULL_CELL = new Cell({ tag: false, word: NULL_WORD });
 const STATES = ['live', 'waiting', 'painted'];
 
 let run = null;
-const state = { index: 0, registers: [], granules: [], owners: [], blocks: new Map(), open: false };
+const state = { index: 0, registers: [], granules: [], owners: [], blocks: new Map(), open: false, dirty: new Set() };
 // What has changed since it was drawn.
 const touched = { registers: new Set(), granules: new Set(), blocks: new Set() };
 
@@ -31,6 +31,10 @@ const isInHeap = address => run.base <= address && address < heapEnd();
 const granulesTo = address => Number(address - run.base) / 16; // only for addresses near the heap
 const ownerOf = address => (isInHeap(address) ? state.owners[Math.floor(granulesTo(address))] : null);
 const rangeOf = block => `${hex(block.base)} to ${hex(block.top)}`;
+const pageOf = granule => Math.floor(granule / 256);
+// A block by the malloc that it came from, as it was asked for.
+const bornAs = ({ line, size }) => `line ${line} (${plural(size, 'byte')})`;
+const nameOf = block => bornAs(block.born);
 const stateName = name => (name === 'waiting' ? 'held' : name); // what waits in quarantine is held
 
 function need(holds, message) {
@@ -46,7 +50,7 @@ function changesOf(entries, name, least, end) {
   });
 }
 
-function blockChangesOf(entries) {
+function blockChangesOf(entries, born) {
   need(Array.isArray(entries), 'a list is missing');
   return entries.map(entry => {
     const key = `${entry.base} ${entry.top}`, now = entry.state === 'free' ? null : entry.state;
@@ -54,9 +58,11 @@ function blockChangesOf(entries) {
     if (!run.known.has(key)) {
       const base = BigInt(entry.base), top = BigInt(entry.top);
       need(isInHeap(base) && base < top && top <= heapEnd(), 'a block lies outside of the heap');
-      run.known.set(key, { key, base, top, start: granulesTo(base), end: granulesTo(top), state: null });
+      run.known.set(key, { key, base, top, start: granulesTo(base), end: granulesTo(top), state: null, born: null });
     }
-    return { block: run.known.get(key), now, was: null };
+    const block = run.known.get(key);
+    need(block.born !== null || now === 'live' && born !== null, 'a block has no malloc');
+    return { block, now, was: block.state, born: { now: now === 'live' ? born : block.born, was: block.born } };
   });
 }
 
@@ -86,7 +92,7 @@ function beginRun(heap, own) {
   state.registers = Array(32).fill(NULL_CELL);
   state.granules = Array(run.granules).fill(NULL_CELL);
   state.owners = Array(run.granules).fill(null);
-  run.steps.push({ ...own.counted[0], words: ['heap'], reply: '', registers: [], granules: [], blocks: [], taken: null, open: false });
+  run.steps.push({ ...own.counted[0], words: ['heap'], reply: '', registers: [], granules: [], blocks: [], taken: null, open: false, dirtied: null, cleaned: [] });
 }
 
 function addStep(value, own) {
@@ -94,15 +100,29 @@ function addStep(value, own) {
   need(own && own.line === value.line && wordsOf(own.text)[0] === words[0], 'this is not the command of the trace');
   const step = { line: own.line, text: own.text, notes: own.notes, words, reply: String(value.reply), taken: null,
     registers: changesOf(value.registers, 'r', 1, 32), granules: changesOf(value.granules, 'i', 0, run.granules),
-    blocks: blockChangesOf(value.blocks), open: state.open };
-  if (words[0] === 'begin' || words[0] === 'end') step.open = step.reply.startsWith('trap') ? state.open : words[0] === 'begin';
+    blocks: blockChangesOf(value.blocks, words[0] === 'malloc' ? { line: own.line, size: BigInt(wordsOf(own.text)[2]) } : null),
+    open: state.open, dirtied: null, cleaned: [] };
+  if (!step.reply.startsWith('trap')) markPages(step);
   for (const change of step.registers) change.was = state.registers[change.place];
   for (const change of step.granules) change.was = state.granules[change.place];
-  for (const change of step.blocks) change.was = change.block.state;
   if (value.taken) step.taken = takenOf(value.taken, step);
   run.steps.push(step);
   moveTo(run.steps.length - 1);
 }
+
+// What a command that isn't trapped does to the epoch and to dirty pages: a store of a tagged word makes its page dirty, and a
+// begin makes all of them clean.
+function markPages(step) {
+  const [name, authority, source] = step.words, cell = register => state.registers[Number(register.slice(1))];
+  if (name === 'begin' || name === 'end') step.open = name === 'begin';
+  if (name === 'begin') step.cleaned = [...state.dirty];
+  if (name !== 'storecap' || !cell(source).tag) return;
+  const page = pageOf(granulesTo(cell(authority).meaning.address));
+  if (!state.dirty.has(page)) step.dirtied = page;
+}
+
+// The pages at which the end of an epoch looks: those that are dirty then.
+const lookedAt = step => (step.words[0] === 'end' && step.taken ? [...state.dirty].sort((one, other) => one - other) : []);
 
 // The tags that a pass took, each with its cell before; and the blocks that were due, in quarantine before, by rising start.
 function takenOf(taken, step) {
@@ -111,7 +131,7 @@ function takenOf(taken, step) {
     return { kind, place, name: nameOf(place), cell: cells[place] };
   });
   const due = step.blocks.filter(change => change.was !== null && change.was !== 'live').map(change => change.block);
-  return { due: due.sort((one, other) => one.start - other.start),
+  return { due: due.sort((one, other) => one.start - other.start), born: new Map(due.map(block => [block, block.born])),
     rows: [...rows('register', taken.registers, state.registers, place => 'c' + place),
       ...rows('granule', taken.granules, state.granules, place => hex(addressOf(place)))] };
 }
@@ -128,8 +148,9 @@ function reasonOf(taken, row) {
   return block && block.base <= base ? block : null;
 }
 
-function setBlock(block, now) {
+function setBlock(block, now, born = block.born) {
   block.state = now;
+  block.born = born;
   if (now === null) state.blocks.delete(block.key); else state.blocks.set(block.key, block);
   state.owners.fill(now === null ? null : block, block.start, block.end);
   touched.blocks.add(block);
@@ -165,7 +186,9 @@ function apply(step, side) {
     touched.granules.add(change.place);
   }
   // What ended comes first in the data, and so last on the way back.
-  for (const change of side === 'now' ? step.blocks : [...step.blocks].reverse()) setBlock(change.block, change[side]);
+  for (const { block, born, [side]: of } of side === 'now' ? step.blocks : [...step.blocks].reverse()) setBlock(block, of, born[side]);
+  for (const page of step.cleaned) state.dirty[side === 'now' ? 'delete' : 'add'](page);
+  if (step.dirtied !== null) state.dirty[side === 'now' ? 'add' : 'delete'](step.dirtied);
 }
 
 function moveTo(index) {

@@ -7,7 +7,7 @@ const TRAPS = {
   align: step => ['the address ', code(hex(actingCell(step).meaning.address)), ' is no multiple of 16'],
   empty: () => ['a length of 0 has no bounds'],
   inexact: () => ['no word can hold just these bounds'],
-  freed: () => ['this block was freed before, and is held'],
+  freed: step => [`the block of ${nameOf(ownerOf(actingCell(step).meaning.base))} was freed before, and is held`],
   notblock: () => ['these are not just the bounds of a live block'],
   open: () => ['an epoch is open'],
   notopen: () => ['no epoch is open'],
@@ -29,7 +29,7 @@ const sentences = {
       ...(lost(target) || [code(target), ' gets its capability, tagged, with just these bounds.'])];
   },
 
-  free: (step, [, source], answer) => ['The block goes into quarantine, where it is held: its ', grouped(answer[1]), ' bytes are not ',
+  free: (step, [, source], answer) => [`The block of ${nameOf(ownerOf(cellOf(source).meaning.base))} goes into quarantine, where it is held: its `, grouped(answer[1]), ' bytes are not ',
     'handed out. No tag is taken, so ', code(source), ' and its copies still work.',
     step.open ? ' It waits for the next epoch, since one is open.' : ''],
 
@@ -53,7 +53,7 @@ const sentences = {
   storecap(step, [, authority, source]) {
     const { tag } = cellOf(source);
     return ['The granule where ', code(authority), ' points gets the bits of ', code(source), tag ? ' and its tag.' : ', which has no tag.',
-      tag && step.open ? ' An epoch is open: the page is dirty now, and its end will look there.' : '', ...stale(authority)];
+      tag && step.open ? ` An epoch is open: page ${pageOf(granulesTo(cellOf(authority).meaning.address))} is dirty now, and its end will look there.` : '', ...stale(authority)];
   },
 
   loadcap(step, [, target, authority]) {
@@ -78,10 +78,16 @@ const sentences = {
     ' in memory whose base lies in one of them ', answer[1] === '1' ? 'is' : 'are', ' taken. Registers keep theirs until the end.']
     : ['An epoch begins. No block is held, so none is painted, and 0 tags are taken.']),
 
-  end: (step, words, answer) => ['The epoch ends: ', plural(answer[1], 'tag'), ' in registers and in dirty pages ',
+  end: (step, words, answer) => ['The epoch ends: ', plural(answer[1], 'tag'), ' in registers and in dirty pages', dirtyNames(step), ' ',
     'whose base lies in a painted block ', answer[1] === '1' ? 'is' : 'are', ' taken, and ',
     plural(answer[3], 'painted byte'), ' are free again.', waits() ? ' Blocks that were freed since it began wait on.' : ''],
 };
+
+// Which pages an end looked at.
+function dirtyNames(step) {
+  const pages = lookedAt(step);
+  return pages.length ? ` (${pages.slice(0, 8).map(page => 'page ' + page).join(', ')}${pages.length > 8 ? ', ..' : ''})` : ' (there is none)';
+}
 
 const placeOf = name => Number(String(name).slice(1));
 const cellOf = name => state.registers[placeOf(name)] || NULL_CELL;
@@ -113,8 +119,12 @@ function beyond(step) {
 function stale(authority) {
   const { tag, meaning } = cellOf(authority), block = ownerOf(meaning.base);
   if (!tag || !block || block.state === 'live') return [];
-  return [' The block is held: ', code(authority), ' is stale, and still works, but nobody else has these bytes.'];
+  return [` The block of ${nameOf(block)} is held: `, code(authority), ' is stale, and still works, but nobody else has these bytes.'];
 }
+
+// The registers that a command uses: all that it names, but not the one that it is to write.
+const usedNames = ({ words }) => words.slice(['malloc', 'copy', 'setaddr', 'narrow', 'andperm', 'loadcap'].includes(words[0]) ? 2 : 1)
+  .filter(word => /^c[0-9]+$/.test(word));
 
 const lost = target => (target === 'c0' ? [code('c0'), ' stays null: what is written to it is lost.'] : null);
 

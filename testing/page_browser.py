@@ -10,7 +10,7 @@ import tempfile
 import time
 
 KEYS = {"ArrowLeft": 37, "ArrowUp": 38, "ArrowRight": 39, "ArrowDown": 40, "Home": 36, "End": 35, "PageUp": 33, "PageDown": 34,
-        "Enter": 13, "Escape": 27, "Tab": 9, " ": 32}
+        "Enter": 13, "Escape": 27, "Tab": 9, " ": 32, "p": 80, "a": 65, "b": 66, "/": 191, "?": 191}
 OPTIONS = ["--headless", "--no-sandbox", "--disable-gpu", "--remote-debugging-pipe", "--no-first-run", "--disable-background-networking",
            "--disable-component-update", "--disable-dev-shm-usage", "--force-color-profile=srgb", "--hide-scrollbars"]
 SECONDS = 60
@@ -43,7 +43,6 @@ class Browser:
         self.session = self.call("Target.attachToTarget", targetId=target, flatten=True)["sessionId"]
         for domain in ("Page", "Runtime", "Log", "Network"):
             self.call(domain + ".enable")
-        self.call("Performance.enable", timeDomain="threadTicks")
 
     def message(self):
         while b"\0" not in self.buffer:
@@ -78,22 +77,10 @@ class Browser:
 
     def key(self, key):
         """Presses a real key, as a keyboard does."""
-        text = {"Enter": "\r", " ": " "}.get(key)
-        common = {"key": key, "code": "Space" if key == " " else key, "windowsVirtualKeyCode": KEYS[key]}
+        text = {"Enter": "\r"}.get(key, key if len(key) == 1 else None)
+        common = {"key": key, "code": "Space" if key == " " else key, "windowsVirtualKeyCode": KEYS.get(key, 0)}
         self.call("Input.dispatchKeyEvent", type="keyDown" if text else "rawKeyDown", **common, **({"text": text} if text else {}))
         self.call("Input.dispatchKeyEvent", type="keyUp", **common)
-
-    def worked(self, act):
-        """The milliseconds of script, style and layout that an act took, by the processor and by the clock."""
-        names = ("ScriptDuration", "RecalcStyleDuration", "LayoutDuration")
-
-        def spent():
-            return sum(each["value"] for each in self.call("Performance.getMetrics")["metrics"] if each["name"] in names)
-
-        before, begun = spent(), time.monotonic()
-        act()
-        ended, after = time.monotonic(), spent()
-        return (after - before if after >= before else after) * 1000, (ended - begun) * 1000
 
     def mouse(self, kind, x, y, **more):
         self.call("Input.dispatchMouseEvent", type=kind, x=x, y=y, **more)
@@ -102,23 +89,27 @@ class Browser:
         for kind in ("mousePressed", "mouseReleased"):
             self.mouse(kind, x, y, button="left", clickCount=1)
 
-    def open(self, path, width=1440, height=900, dark=False):
+    def open(self, path, width=1440, height=900, dark=False, at=""):
         """Loads a page from disk, and waits until it has compared the data with its own decoder, or told a fault."""
         self.events.clear()
         self.call("Emulation.setDeviceMetricsOverride", width=width, height=height, deviceScaleFactor=1, mobile=False)
         self.media("", dark)
         address = pathlib.Path(path).resolve().as_uri()
-        self.call("Page.navigate", url=address)
+        if at:  # or else the page that is open would only go to another place of itself
+            self.call("Page.navigate", url="about:blank")
+            self.events.clear()
+        self.call("Page.navigate", url=address + at)
         until = time.monotonic() + SECONDS
         while time.monotonic() < until:
-            if self.run(f"document.readyState === 'complete' && location.href === {json.dumps(address)} && "
+            if self.run(f"document.readyState === 'complete' && location.href.split('#')[0] === {json.dumps(address)} && "
                         "(!document.querySelector('#fault').hidden || 'compared' in document.querySelector('#main').dataset)"):
                 return
             time.sleep(0.02)
         raise RuntimeError(f"{path} is not ready after {SECONDS} s")
 
-    def media(self, kind, dark=False):
-        self.call("Emulation.setEmulatedMedia", media=kind, features=[{"name": "prefers-color-scheme", "value": "dark" if dark else "light"}])
+    def media(self, kind, dark=False, forced=False):
+        features = {"prefers-color-scheme": "dark" if dark else "light", "forced-colors": "active" if forced else "none"}
+        self.call("Emulation.setEmulatedMedia", media=kind, features=[{"name": name, "value": value} for name, value in features.items()])
 
     def picture(self, path, **more):
         pathlib.Path(path).write_bytes(base64.b64decode(self.call("Page.captureScreenshot", format="png", **more)["data"]))

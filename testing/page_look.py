@@ -2,7 +2,7 @@
 
 import page_model
 import page_sentences
-from page_model import NAMES, COLOURS, PATTERNS, NULL_WORD, Word, block_key, grouped, hexadecimal
+from page_model import NAMES, COLOURS, PATTERNS, NULL_WORD, Word, block_key, grouped, hexadecimal, plural
 
 # All that the page shows of a step, as its document has it.
 LOOK = r"""(() => {
@@ -20,16 +20,19 @@ LOOK = r"""(() => {
     slider: document.querySelector('#slider').value,
     blocks: all('#map [data-block]').map(node => [node.dataset.block, node.dataset.state, paint(node.querySelector('.fill'), 'fill'),
       paint(node.querySelector('.over'), 'fill'), text(node.querySelector('text')), node.classList.contains('new')]),
-    table: all('#blocks tr').map(line => [...line.cells].map(text)),
+    table: all('#blocks tbody tr').map(line => [...line.cells].map(text)),
     marks: all('#map [data-granule]').map(node => [Number(node.dataset.granule), node.dataset.tag, node.getAttribute('class'), middle(node)]),
+    dirty: all('#map [data-page].dirty').map(node => [Number(node.dataset.page), paint(node.querySelector('.hatch'), 'fill')]),
+    pages: all('#map [data-page]').map(node => [Number(node.dataset.page), text(node.querySelector('text')), ...box(node.querySelector('.band')).slice(1)]),
+    looked: all('#map [data-looked]').map(node => [Number(node.dataset.looked), box(node)]),
     rings: all('#map [data-changed]').map(node => [Number(node.dataset.changed), box(node)]),
-    registers: all('#rows tr').map(line => [line.dataset.register, line.dataset.tag, line.dataset.word, line.classList.contains('new'),
+    registers: all('#rows tr').map(line => [line.dataset.register, line.dataset.tag, line.dataset.word, line.classList.contains('new'), line.classList.contains('used'),
       text(line.querySelector('.sign')).trim(), text(line.querySelector('.newmark')) ?? '', line.querySelector('.sign path').getAttribute('class'),
       text(line.cells[1].querySelector('code')), text(line.querySelector('.bounds')), line.cells[1].querySelector('svg')?.getAttribute('aria-label') ?? null,
       line.querySelector('.bound') ? box(line.querySelector('.bound')).filter((_, index) => index % 2 === 0) : null]),
     reasons: all('#map [data-reason]').map(path => [path.dataset.reason, ends(path)]),
     chips: all('#map [data-taken]').map(node => [node.dataset.taken, box(node.querySelector('rect')), node.querySelector('path').getAttribute('class')]),
-    taken: all('#taken tbody tr').map(line => [...line.cells].map(text)), shape: { ...map.shape, columns: view.columns, top: map.top },
+    taken: all('#taken tbody tr').map(line => [...line.cells].map(text)), shape: { ...map.shape, top: map.top },
     bounds: document.querySelector('#map [data-bounds]')?.dataset.bounds ?? null,
     broken: document.querySelector('#map [data-bounds]')?.classList.contains('off') ?? null,
     pins: all('#map .pinned').map((node, index) => [text(node), middle(all('#map .pin')[index])]),
@@ -37,13 +40,14 @@ LOOK = r"""(() => {
     steps: all('.steps li').map(text).join(' '), fields: all('.fields code').map(text), bytes: all('#word p code').map(text),
     window: document.querySelector('#window svg').getAttribute('aria-label'), edges: all('#window text').map(text),
     verdict: text(document.querySelector('#verdict')), exact: document.querySelector('#exact').value, detail: text(document.querySelector('#detail')),
-    epoch: !document.querySelector('#epoch').hidden, sides: all('#sides [aria-pressed=true]').map(text), fault: text(document.querySelector('#fault')) });
+    epoch: !document.querySelector('#epoch').hidden, sides: all('#sides [aria-pressed=true]').map(text), sums: all('#sums span').slice(0, 4).map(text),
+    fault: text(document.querySelector('#fault')) });
 })()"""
 
 # For each granule that the map shows, the blocks in whose drawn area its middle lies, and whether it is in the bounds chosen.
 AREAS = r"""(() => {
   const areas = [...document.querySelectorAll('#map [data-block]:not(.released)')].map(node => [node.dataset.block, node.querySelector('.fill')]);
-  const pick = document.querySelector('#map [data-bounds]'), point = map.box.createSVGPoint(), L = map.shape, n = view.columns, found = [];
+  const pick = document.querySelector('#map [data-bounds]'), point = map.box.createSVGPoint(), L = map.shape, n = L.columns, found = [];
   for (let place = 0; place < L.shown; place++) {
     point.x = L.gutter + (place % n + .5) * L.width;
     point.y = (Math.floor(place / n) + .5) * L.height;
@@ -52,20 +56,101 @@ AREAS = r"""(() => {
   return JSON.stringify([pick ? pick.dataset.bounds : null, found]);
 })()"""
 
+# How long the last key or press took until its frame was painted, as the browser tells of events from 16 ms on.
+PAINTED = r"""(() => {
+  window.painted = 0;
+  const told = list => list.getEntries().forEach(({ name, duration }) => {
+    if (['keydown', 'pointerdown', 'mousedown'].includes(name)) window.painted = Math.max(window.painted, duration);
+  });
+  new PerformanceObserver(told).observe({ type: 'event', durationThreshold: 16 });
+})()"""
+
+NODES = r"""(() => {
+  const walker = document.createTreeWalker(document, NodeFilter.SHOW_ALL);
+  let count = 1;
+  while (walker.nextNode()) count++;
+  return count;
+})()"""
+
+# The steps whose rows fill the list where it is scrolled to a part of its length.
+ROWS_AT = r"""(async () => {
+  const box = byId('lines'), frame = () => new Promise(done => requestAnimationFrame(() => setTimeout(done, 10)));
+  const top = box.scrollHeight * %s;
+  for (let turn = 0; turn < 3; turn++) {
+    box.scrollTop = top;
+    await frame();
+  }
+  await frame();
+  const { x, y, width, height } = box.getBoundingClientRect(), steps = new Set();
+  for (let down = 2; down < height - 2; down += 4) {
+    const under = document.elementFromPoint(x + width / 2, y + down), item = under?.closest('#lines li');
+    if (item) steps.add(Number(item.querySelector('[data-step]').dataset.step));
+    else if (under !== box && !under?.closest('#lines .end')) steps.add(null); // of its own the list has a margin alone
+  }
+  return JSON.stringify([...steps]);
+})()"""
+
+FILTER = "byId('kind').value = %s; byId('kind').dispatchEvent(new Event('change')); byId('asked').value = %s; byId('asked').dispatchEvent(new Event('input'))"
+STEPS_LISTED = "JSON.stringify([...document.querySelectorAll('#lines [data-step]')].map(row => Number(row.dataset.step)))"
+
+# The width of the band, its lines of live, of live and held, and of tags, and its ticks.
+BAND = "JSON.stringify([byId('band').clientWidth, ...['live', 'held', 'tags', 'passes', 'traps'].map(name => document.querySelector('.band-' + name).getAttribute('d'))])"
+
+# What a dense map's step changed; and of granules, the states of the areas and the kinds of the marks in which their middles lie,
+# and whether they are marked as new.
+DENSE = r"""(() => {
+  const all = selector => [...document.querySelectorAll(selector)], point = map.box.createSVGPoint(), L = map.shape, n = L.columns;
+  const fills = all('#map .blocks [data-states]').map(node => [node.dataset.states, node.querySelector('.fill')]);
+  const marks = all('#map .marks path').map(node => [node.getAttribute('class'), node]), fresh = all('#map .new .fill');
+  const named = list => list.filter(([, path]) => path.isPointInFill(point)).map(([name]) => name);
+  const rings = all('#map [data-changed]').flatMap(node => node.dataset.changed.split(' ').map(Number));
+  return JSON.stringify([rings, ...%s.map(place => {
+    point.x = L.gutter + (place %% n + .5) * L.width;
+    const y = Math.floor(place / n) * L.height;
+    point.y = y + L.height / 2;
+    const areas = named(fills), isNew = fresh.some(path => path.isPointInFill(point));
+    if (L.height >= 20) point.y = y + L.height * .33;
+    return [areas, named(marks), isNew];
+  })]);
+})()"""
+
 DECODED = r"""JSON.stringify(%s.map(([text, address]) => {
   const word = decode(bitsOf(text)), there = decode(bitsOf(text), BigInt(address));
   return [hex(word.base), hex(word.top), hex(word.baseMantissa), hex(word.topMantissa), hex(word.topField), hex(word.baseField), hex(word.type),
     word.exponent, Number(word.permissions), String(word.low), keepsBounds(word, BigInt(address)), hex(there.base), hex(there.top)];
 }))"""
 
+# Of the screen for a class: each text that is in sight with the size of its letters and the part that has it, what reaches
+# past the screen or its part, the three lines, and how far the map goes.
+PRESENT = r"""(() => {
+  const walk = document.createTreeWalker(document.body, NodeFilter.SHOW_TEXT), texts = [], past = [], parts = ['three', 'told', 'map', 'registers'];
+  for (let node = walk.nextNode(); node; node = walk.nextNode()) {
+    const parent = node.parentElement, part = parent.closest('#' + parts.join(', #'));
+    if (node.data.trim() === '' || parent.matches('script, style, noscript') || !parent.checkVisibility({ visibilityProperty: true })) continue;
+    texts.push([part ? part.id : null, parseFloat(getComputedStyle(parent).fontSize)]);
+    const range = document.createRange();
+    range.selectNodeContents(node);
+    const outside = box => box.left < -1 || box.top < -1 || box.right > innerWidth + 1 || box.bottom > innerHeight + 1;
+    if ((part || {}).id !== 'three' && [...range.getClientRects()].some(outside)) past.push(node.data);
+  }
+  for (const part of parts.map(byId)) if (part.scrollHeight > part.clientHeight + 1 || part.scrollWidth > part.clientWidth + 1) past.push(part.id);
+  if (document.documentElement.scrollHeight > innerHeight) past.push('page');
+  return JSON.stringify({ least: Math.min(...texts.map(text => text[1])), parts: [...new Set(texts.map(text => text[0]))].sort(), past, reach: run.reach,
+    three: [...byId('three').children].map(line => line.textContent.trim()), current: [...byId('three').children].findIndex(line => line.ariaCurrent),
+    lines: [...byId('three').children].map(line => line.clientHeight), cut: [...byId('three').querySelectorAll('.trap .reply, .data + .reply')]
+      .filter(reply => reply.scrollWidth > reply.clientWidth + 1 || reply.getBoundingClientRect().right > byId('three').getBoundingClientRect().right).length, room: [view.mapWidth, view.mapHeight], shape: { ...map.shape, top: map.top } });
+})()"""
+
+# Of the list: the steps whose reply is in sight, and those whose comments are; the last stands for the end of the list.
+IN_SIGHT = r"""JSON.stringify(['.reply', '.note'].map(kind => [...document.querySelectorAll('#lines li, #lines .end')].flatMap((item, index) => {
+  const node = item.matches('.end') ? item : item.querySelector(kind);
+  return node && getComputedStyle(node).visibility === 'visible' ? [index] : [];
+})))"""
+
 NOTES = "JSON.stringify([...document.querySelectorAll('#lines .note')].map(note => note.textContent))"
 HARM = """JSON.stringify([window.evil ?? null, document.images.length, document.scripts.length,
   document.querySelectorAll('#title *, #lines :not(ol, li, p, div, button, span, code), #what :not(p, code, b), a, iframe, plaintext').length])"""
 NO_HARM = "[null,0,3,0]"
-
-# How long the page took to open by the clock, and how many blocks it has at most at four places of the trace.
-OPENED = r"""JSON.stringify([performance.getEntriesByType('navigation')[0].loadEventEnd,
-  Math.max(...[1, 2, 3, 4].map(part => { go(Math.floor((run.steps.length - 1) * part / 4)); return state.blocks.size; }))])"""
 
 PICTURES = [
     ("sweep_light", "lesson_a_derived_pointer_goes_by_its_base", 9, False, (1440, 900), ""),
@@ -81,6 +166,9 @@ PICTURES = [
     ("inspector_light", "lesson_edges_of_a_window", 4, False, (1280, 800), "byId('inspector').scrollIntoView()"),
     ("inspector_dark", "lesson_edges_of_a_window", 7, True, (1280, 800), "byId('inspector').scrollIntoView(); tryAddress(0x40003900n)"),
     ("grey", "lesson_an_epoch_with_a_store", 8, False, (1440, 900), "document.documentElement.style.filter = 'grayscale(1)'"),
+    ("class", "lesson_an_epoch_with_a_store", 10, False, (1280, 720), "togglePresent()"),
+    ("class_asked", "lesson_a_derived_pointer_goes_by_its_base", 8, True, (1280, 720), "togglePresent(); toggleAsk()"),
+    ("asked", "lesson_an_epoch_with_a_store", 9, False, (1280, 720), "toggleAsk()"),
     ("paper", "lesson_an_epoch_with_a_store", 9, False, (1000, 900), ""),
 ]
 
@@ -120,12 +208,16 @@ class Expected:
         if not is_trap and name_of in ("write", "storecap", "loadcap") and words[0] != words[1]:
             authority = words[name_of == "loadcap"]
             block = state.block_of(Word(state.register(int(authority[1:]))[1]).base)
-            self.check(f"{name}: a stale capability is told", f"{authority} is stale" in sentence, state.blocks[block] != "live")
+            told = f"The block of {state.name(block)} is held: {authority} is stale"
+            self.check(f"{name}: a stale capability is told", [told in sentence, "is stale" in sentence], [state.blocks[block] != "live"] * 2)
         if not is_trap and name_of != "show":
             self.check(f"{name}: the sentence has the numbers of the reply", [number for number in numbers if number not in sentence], [])
 
     def compare_state(self, name, index, state, seen, side):
         check, run, is_after = self.check, self.run, side == "after"
+        live, held, tags = state.sums()
+        free = 4096 * run.pages - live - held
+        check(f"{name}: the sums", seen["sums"], [f"{grouped(live)} live", f"{grouped(held)} held", f"{plural(free, 'byte')} free", plural(tags, "tag")])
         blocks = {key: rest for key, *rest in seen["blocks"] if rest[0] != "released"}
         new = {block for block in state.blocks if is_after and run.before(index).blocks.get(block) != state.blocks[block]}
         check(f"{name}: blocks, with colour and pattern", {key: [of[0], of[1], of[2], of[4]] for key, of in blocks.items()},
@@ -134,7 +226,7 @@ class Expected:
         ended = {block for block in run.before(index).blocks if block not in state.blocks}
         check(f"{name}: blocks that ended", sorted(key for key, of, *_ in seen["blocks"] if of == "released"), sorted(map(block_key, ended)))
         check(f"{name}: the table of blocks", seen["table"], [
-            [hexadecimal(base), hexadecimal(top), grouped(top - base), NAMES[of]] for (base, top), of in sorted(state.blocks.items())])
+            [hexadecimal(base), hexadecimal(top), grouped(top - base), NAMES[of], state.name((base, top))] for (base, top), of in sorted(state.blocks.items())])
         lost = {row[1] for row in run.taken(index) or [] if row[0] == "granule"} if side != "before" else set()
         wanted = {place: ["1", "tag"] if tag else ["0", "lost"] if place in lost else ["0", "data"]
                   for place, (tag, word) in state.granules.items() if tag or word != NULL_WORD}
@@ -142,6 +234,21 @@ class Expected:
         check(f"{name}: each mark stands once, in its cell", [place for place, *_, at in seen["marks"] if not self.is_in_cell(seen, place, [*at, 0, 0])]
               + [len(seen["marks"]) - len(wanted)], [0])
         self.compare_registers(name, index, state, seen["registers"], side)
+        self.compare_pages(name, index, state, seen)
+
+    def compare_pages(self, name, index, state, seen):
+        """Pages at the edge of their rows, those that are dirty, and those at which an end looks."""
+        shape = seen["shape"]
+        count = -(-shape["shown"] // 256)
+        tall = 256 / shape["columns"] * shape["height"]
+        tops = [(page * tall, min((page + 1) * tall, shape["bottom"])) for page in range(count)]
+        self.check(f"{name}: pages stand at their rows", [[page, abs(y - tops[page][0]) < 2, abs(y + height - tops[page][1]) < 2] for page, _, y, _, height in seen["pages"]],
+                   [[page, True, True] for page in range(count)])
+        self.check(f"{name}: pages are named", [called for page, called, *_ in seen["pages"] if called or tall >= 13], [f"page {page}" for page, called, *_ in seen["pages"] if called or tall >= 13])
+        self.check(f"{name}: dirty pages are hatched", seen["dirty"], [[page, 'url("#dirty-pattern")'] for page in sorted(state.dirty) if page < count])
+        self.check(f"{name}: pages at which an end looks", [page for page, _ in seen["looked"]], [page for page in self.run.looked(index) if page < count])
+        self.check(f"{name}: they are shaded over their rows", [page for page, (x, y, width, height) in seen["looked"]
+                   if abs(x - shape["gutter"]) > 1 or abs(width - shape["columns"] * shape["width"]) > 1 or abs(y - tops[page][0]) > 1 or abs(y + height - tops[page][1]) > 1], [])
 
     def compare_registers(self, name, index, state, rows, side):
         lost = {row[1] for row in self.run.taken(index) or [] if row[0] == "register"} if side != "before" else set()
@@ -150,8 +257,9 @@ class Expected:
         for number in self.run.written:
             tag, text = state.register(number)
             word, is_null, has_lost = Word(text), not tag and text == NULL_WORD, number in lost and not tag
-            told = "tag taken" if has_lost else "changed" if number in changed else ""
-            wanted.append([str(number), str(int(tag)), text, number in changed, str(int(tag)), told, "tag" if tag else "lost",
+            used = number in self.run.registers_used(index)
+            told = ", ".join(filter(None, ["used" if used else "", "tag taken" if has_lost else "changed" if number in changed else ""]))
+            wanted.append([str(number), str(int(tag)), text, number in changed, used, str(int(tag)), told, "tag" if tag else "lost",
                            None if is_null else hexadecimal(word.address),
                            None if is_null else f"{word.base:#x} to {word.top:#x}",
                            None if is_null else f"bounds {word.base:#x} to {word.top:#x}, base {self.place(state, word.base)}",
@@ -169,7 +277,7 @@ class Expected:
     def place(self, state, base):
         block = state.block_of(base)
         if block:
-            return f"in the {NAMES[state.blocks[block]]} block {block[0]:#x} to {block[1]:#x}"
+            return f"in the {NAMES[state.blocks[block]]} block of {state.name(block)}, {block[0]:#x} to {block[1]:#x}"
         return "in free bytes" if self.run.base <= base < self.run.base + 4096 * self.run.pages else "outside of the heap"
 
     def compare_taken(self, name, index, seen, side):
@@ -181,7 +289,7 @@ class Expected:
         self.check(f"{name}: what was taken had a tag, and its base lies in a block in quarantine",
                    [row[2] for row in rows if not row[3] or row[5] is None or self.run.before(index).blocks[row[5]] == "live"], [])
         self.check(f"{name}: tags taken, with the reasons", seen["taken"], [
-            [called, hexadecimal(word.address), hexadecimal(word.base), f"{block[0]:#x} to {block[1]:#x}"] for _, _, called, _, word, block in rows])
+            [called, hexadecimal(word.address), hexadecimal(word.base), f"{self.run.before(index).name(block)}, {block[0]:#x} to {block[1]:#x}"] for _, _, called, _, word, block in rows])
         rows = [] if side == "after" and "between" in sides else rows
         self.check(f"{name}: a line for each", [reason for reason, _ in seen["reasons"]], [f"{row[2]} {block_key(row[5])}" for row in rows])
         chips = {called: box for called, box, _ in seen["chips"]}

@@ -10,7 +10,7 @@ NULL_METADATA = 0x00001FFFFC018004
 NULL_WORD = "0" * 32
 # A block's name on the page, and its colour in the light scheme and its pattern: all three tell its state.
 NAMES = {"live": "live", "waiting": "held", "painted": "painted"}
-COLOURS = {"live": "rgb(213, 235, 220)", "waiting": "rgb(251, 232, 191)", "painted": "rgb(248, 211, 203)"}
+COLOURS = {"live": "rgb(169, 220, 184)", "waiting": "rgb(217, 153, 46)", "painted": "rgb(202, 100, 81)"}
 PATTERNS = {"live": None, "waiting": 'url("#waiting-pattern")', "painted": 'url("#painted-pattern")'}
 
 
@@ -22,6 +22,10 @@ TRACES = {
     "low": ["heap 0 64", "malloc c1 100000", "malloc c2 70000", "setaddr c3 c1 99999", "narrow c4 c1 65536", "free c1", "free c1", "sweep", "malloc c5 262144"],
     "epochs": ["heap 0x1000 2", "malloc c1 4096", "malloc c2 32", "storecap c1 c2", "end", "free c2", "begin", "begin", "sweep", "free c1", "malloc c3 8192",
                "storecap c1 c2", "end", "begin", "end", "begin"],
+    "dirty": ["heap 0x10000 4", "malloc c1 32", "malloc c2 8192", "malloc c3 32", "malloc c4 4096", "write c2 " + "a0" * 16, "storecap c3 c0",
+              "narrow c5 c1 16", "andperm c6 c3 0xdf", "storecap c6 c1", "setaddr c7 c3 0x12028", "storecap c7 c1", "storecap c1 c2", "end", "begin", "begin",
+              "storecap c3 c0", "storecap c2 c1", "storecap c2 c1", "begin", "free c1", "end", "storecap c3 c3", "begin", "storecap c4 c3", "storecap c1 c3", "malloc c8 16", "end", "sweep", "end"],
+    "rows": ["heap 0x1000 1", "malloc c1 32", "copy c2 c1", "andperm c4 c1 0x2d", "storecap c1 c2", "loadcap c2 c4", "show c1", "show c1", "show c1"],
     "past": ["heap 0x40000000 1", "malloc c1 16", "setaddr c2 c1 0x50000000", "setaddr c3 c2 0x60000000", "setaddr c4 c3 0x60000001", "setaddr c3 c3 0x40000004",
              "setaddr c0 c1 5", "show c0", "storecap c1 c2", "loadcap c0 c1", "loadcap c5 c1", "begin", "end", "sweep", "free c1", "begin", "malloc c6 4096",
              "end", "malloc c7 4096", "malloc c8 16", "free c7", "malloc c0 16"],
@@ -36,6 +40,17 @@ def hexadecimal(number):
 
 def grouped(number):
     return f"{number:,}"
+
+
+def luminance(colour):
+    """The relative luminance of a colour as #rrggbb."""
+    parts = [int(colour[at:at + 2], 16) / 255 for at in (1, 3, 5)]
+    red, green, blue = (part / 12.92 if part <= 0.04045 else ((part + 0.055) / 1.055) ** 2.4 for part in parts)
+    return 0.2126 * red + 0.7152 * green + 0.0722 * blue
+
+
+def plural(count, word):
+    return f"{grouped(count)} {word}{'' if count == 1 else 's'}"
 
 
 class Word:
@@ -135,10 +150,13 @@ class Trace:
 
 
 class State:
-    def __init__(self, before=None):
+    def __init__(self, before=None, base=0):
+        self.base = before.base if before else base
         self.registers = dict(before.registers) if before else {}
         self.granules = dict(before.granules) if before else {}
         self.blocks = dict(before.blocks) if before else {}
+        self.born = dict(before.born) if before else {}
+        self.dirty = set(before.dirty) if before else set()
         self.open = before.open if before else False
 
     def register(self, number):
@@ -150,8 +168,21 @@ class State:
     def block_of(self, address):
         return next((block for block in self.blocks if block[0] <= address < block[1]), None)
 
+    def name(self, block):
+        """A block by the line of its malloc, and the size that this asked for."""
+        line, size = self.born[block]
+        return f"line {line} ({plural(size, 'byte')})"
+
+    def sums(self):
+        """The bytes that are live and held, and the tags in memory and in registers."""
+        length = {True: 0, False: 0}
+        for (base, top), of in self.blocks.items():
+            length[of == "live"] += top - base
+        return length[True], length[False], sum(tag for cells in (self.registers, self.granules) for tag, _ in cells.values())
+
     def after(self, value):
         state = State(self)
+        name, *words = value["text"].split()
         state.registers.update({entry["r"]: (entry["tag"], entry["word"]) for entry in value["registers"]})
         state.granules.update({entry["i"]: (entry["tag"], entry["word"]) for entry in value["granules"]})
         for entry in value["blocks"]:
@@ -160,10 +191,20 @@ class State:
                 del state.blocks[block]
             else:
                 state.blocks[block] = entry["state"]
-        name = value["text"].split()[0]
-        if name in ("begin", "end") and not value["reply"].startswith("trap"):
-            state.open = name == "begin"
+                if entry["state"] == "live":
+                    state.born[block] = value["line"], int(words[1], 16 if words[1][1:2] in "xX" and len(words[1]) > 1 else 10)
+        if not value["reply"].startswith("trap"):
+            state.mark(name, [self.register(int(word[1:])) for word in words if re.fullmatch("c[0-9]+", word)])
         return state
+
+    def mark(self, name, cells):
+        """The epoch, and the dirty pages by their rule, where the command isn't trapped."""
+        if name in ("begin", "end"):
+            self.open = name == "begin"
+        if name == "begin":
+            self.dirty = set()
+        if name == "storecap" and cells[1][0]:
+            self.dirty.add((Word(cells[0][1]).address - self.base) // 4096)
 
 
 class Run:
@@ -175,7 +216,7 @@ class Run:
         self.base, self.pages = int(values[0]["heap"]["base"], 16), values[0]["heap"]["pages"]
         self.values = [{"text": "heap", "reply": "", "registers": [], "granules": [], "blocks": []}, *values[1:-1]]
         self.end = values[-1]["end"]
-        self.states = [State()]
+        self.states = [State(base=self.base)]
         for value in self.values[1:]:
             self.states.append(self.states[-1].after(value))
         self.written = sorted({entry["r"] for value in self.values for entry in value["registers"]})
@@ -206,6 +247,29 @@ class Run:
         """What differs from the state before, found by comparing both."""
         old, new = getattr(self.before(index), kind), getattr(self.states[index], kind)
         return sorted(place for place in {*old, *new} if old.get(place, (False, NULL_WORD)) != new.get(place, (False, NULL_WORD)))
+
+    def registers_used(self, index):
+        """The registers that a command names, but for the one that it is to write."""
+        name, *words = self.values[index]["text"].split()
+        words = words[name in ("malloc", "copy", "setaddr", "narrow", "andperm", "loadcap"):]
+        return {int(word[1:]) for word in words if re.fullmatch("c[0-9]+", word)}
+
+    def looked(self, index):
+        """The pages at which the end of an epoch looks."""
+        is_end = self.values[index]["text"] == "end" and self.taken(index) is not None
+        return sorted(self.before(index).dirty) if is_end else []
+
+    def changed_at(self, kind, place):
+        """The steps after which a register or a granule differs, or the block that has a granule or had it."""
+        if kind != "block":
+            return [index for index in range(1, len(self.states)) if place in self.changes(index, kind + "s")]
+        address, steps = self.base + 16 * place, []
+        for index in range(1, len(self.states)):
+            old, new = self.before(index), self.states[index]
+            pairs = [(block, state.blocks[block]) for state in (old, new) for block in [state.block_of(address)] if block]
+            if pairs and (len(pairs) == 1 or pairs[0] != pairs[1]):
+                steps.append(index)
+        return steps
 
     def taken(self, index):
         """Each tag that the step took: its place as the page names it, its word before, and the block with its base."""
@@ -240,6 +304,18 @@ def text_of(word):
 
 def block_key(block):
     return f"{hexadecimal(block[0])} {hexadecimal(block[1])}"
+
+
+def full_trace():
+    """A trace that fills 64 pages with 16,384 blocks, of which every sixth holds a capability, and then sweeps."""
+    lines = ["heap 0x40000000 64"]
+    for number in range(16384):
+        lines.append(f"malloc c{number % 24 + 1} 16")
+        if number % 6 == 5:
+            lines.append(f"storecap c{number % 24 + 1} c{(number + 7) % 24 + 1}")
+    lines += [f"free c{number}" for number in range(1, 25)]
+    lines += ["free c3", "begin", "storecap c5 c5", "end", "malloc c2 48", "malloc c9 4096", "sweep"]
+    return "\n".join(lines).encode() + b"\n"
 
 
 def random_trace(commands, pages, seed):

@@ -4,7 +4,7 @@ is shared with the page: the rules say which facts are true of a step, and in wh
 from page_model import Word
 
 NEEDED = {"loadcap": [(2, "LOAD")], "write": [(3, "STORE")], "storecap": [(3, "STORE"), (5, "STORE_CAPABILITY")]}
-TRAPS = {"empty": "a length of 0 has no bounds", "inexact": "no word can hold just these bounds", "freed": "this block was freed before",
+TRAPS = {"empty": "a length of 0 has no bounds", "inexact": "no word can hold just these bounds", "freed": "was freed before, and is held",
          "notblock": "not just the bounds of a live block", "open": "an epoch is open", "notopen": "no epoch is open"}
 
 
@@ -13,7 +13,7 @@ class Step:
 
     def __init__(self, run, index):
         self.run, self.before, self.after = run, run.before(index), run.states[index]
-        value = run.values[index]
+        self.index, value = index, run.values[index]
         self.name, *self.words = value["text"].split()
         self.answer = value["reply"].split()
         self.blocks = value["blocks"]
@@ -47,9 +47,11 @@ def facts(run, index):
 
 def of_trap(step):
     kind, acting = step.answer[1], step.acting() if step.words else ""
+    _, word = step.register(step.before, acting) if acting else (None, None)
+    if kind == "freed":
+        return f"the block of {step.before.name(step.before.block_of(word.base))} {TRAPS[kind]}"
     if kind in TRAPS:
         return TRAPS[kind]
-    _, word = step.register(step.before, acting)
     if kind == "tag":
         return f"{acting} has no tag"
     if kind == "align":
@@ -96,7 +98,9 @@ def of_loadcap(step):
 def of_storecap(step):
     tag, _ = step.register(step.before, step.words[1])
     must, must_not = choose((" and its tag.", ", which has no tag."), " and its tag." if tag else ", which has no tag.")
-    (must if tag and step.before.open else must_not).append("the page is dirty now")
+    _, through = step.register(step.before, step.words[0])
+    is_told = tag and step.before.open
+    (must if is_told else must_not).append(f"page {(through.address - step.run.base) // 4096} is dirty now" if is_told else "is dirty now")
     return must, must_not
 
 
@@ -120,13 +124,16 @@ def of_begin(step):
 def of_end(step):
     late = "Blocks that were freed since it began wait on."
     must, must_not = choose((late,), late if step.waits(step.after) else None)
-    return ["The epoch ends: ", *must], [*must_not, *([] if must else ["wait on"])]
+    pages = step.run.looked(step.index)
+    named = ", ".join(f"page {page}" for page in pages[:8]) + (", .." if len(pages) > 8 else "")
+    return ["The epoch ends: ", f"in dirty pages ({named or 'there is none'})", *must], [*must_not, *([] if must else ["wait on"])]
 
 
 def of_free(step):
     waits = "It waits for the next epoch, since one is open."
     must, must_not = choose((waits,), waits if step.before.open else None)
-    return ["goes into quarantine", "No tag is taken", *must], must_not
+    _, word = step.register(step.before, step.words[0])
+    return [f"The block of {step.before.name(step.before.block_of(word.base))} goes into quarantine", "No tag is taken", *must], must_not
 
 
 RULES = {

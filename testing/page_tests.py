@@ -2,15 +2,16 @@
 
 import json
 import os
-import pathlib
 import random
+import re
 import shutil
 import subprocess
 import time
 
+import page_long
 import page_look
 import page_model
-from page_model import Word, block_key, grouped, hexadecimal
+from page_model import Word, hexadecimal
 
 PICTURED = "lesson_use_after_free"
 HEAP_LINE = "the first line is 'heap BASE PAGES': BASE a multiple of 4096, PAGES 1 to 1024, the end at most 2^64"
@@ -30,7 +31,7 @@ FAULTS = {
 EVIL = "\"'><img src=x onerror=\"window.evil=1\"><script>window.evil=2</script><!-- <b>bold</b> ]]> \u2028"
 
 
-class Tests:
+class Tests(page_long.LongTests):
     def __init__(self, root, scratch, browser):
         self.root, self.scratch, self.browser = root, scratch, browser
         self.passed = self.failed = 0
@@ -79,6 +80,7 @@ class Tests:
         raw = raw or (self.root / "examples" / name / "stdin").read_bytes()
         run = page_model.Run(raw, self.data(raw))
         self.open(self.page(root, raw, name))
+        self.browser.run("byId('block-details').open = true")
         expected = page_look.Expected(run, self.check)
         check, last = self.check, len(run.values) - 1
         expected.compare(f"{name} step 0", 0, self.look())
@@ -174,7 +176,7 @@ class Tests:
         run, check = self.browser.run, self.check
         step = lambda: run("Number(document.querySelector('#lines [aria-current]').dataset.step)")
         self.names()
-        for key, wanted in (("PageDown", 9), ("PageUp", 0), ("End", 9), ("Home", 0), ("ArrowRight", 1), ("ArrowDown", 2), ("ArrowRight", 3)):
+        for key, wanted in (("PageDown", 0), ("End", 9), ("Home", 0), ("ArrowRight", 1), ("ArrowDown", 2), ("ArrowRight", 3)):
             self.browser.key(key)
             check(f"the key {key}", step(), wanted)
         check("tab reaches the map", self.tab_to("#map"), True)
@@ -191,6 +193,10 @@ class Tests:
         self.browser.key("End")
         check("past the window the tag goes", "So setaddr takes the tag." in run("byId('verdict').textContent"), True)
         check("tab reaches the list", self.tab_to("#lines [aria-current]"), True)
+        for key, wanted in (("PageUp", 0), ("PageDown", 9)):
+            self.browser.key(key)
+            check(f"{key} in the list", step(), wanted)
+        run("go(3)")
         self.browser.key("ArrowDown")
         check("an arrow in the list makes a step, and the keyboard stays there", (step(), run("document.activeElement.dataset.step")), (4, "4"))
         run("document.activeElement.blur(); go(6)")
@@ -238,6 +244,7 @@ class Tests:
         self.check("the pointer tells the granule", "Granule 0 at 0x40000000" in self.browser.run("byId('detail').textContent"), True)
         self.browser.click(x, y)
         self.check("a click shows it", "the granule at 0x40000000" in self.browser.run("byId('shown').textContent"), True)
+        self.browser.run("document.querySelector('[data-step=\"2\"]').scrollIntoView({ block: 'nearest' })")
         x, y = json.loads(self.browser.run(middle % "'[data-step=\"2\"]'"))
         self.browser.click(x, y)
         self.check("a click in the list", step(), 2)
@@ -245,6 +252,188 @@ class Tests:
             x, y = json.loads(self.browser.run(middle % f"'#{name}'"))
             self.browser.click(x, y)
             self.check(f"the button {name}", step(), wanted)
+
+    # A class
+
+    def present(self, root):
+        """Each step of each lesson on one screen, in large letters, with three lines, the sentence, the map and the registers alone."""
+        lessons = self.lessons()
+        for folder, width, letters in [*((folder, 1280, 20) for folder in lessons), (lessons[0], 1920, 30)]:
+            name, raw = folder.name, (folder / "stdin").read_bytes()
+            model = page_model.Run(raw, self.data(raw))
+            self.open(self.page(root, raw, name), width=width, height=width * 9 // 16)
+            before = self.look()
+            self.browser.key("p")
+            for asks in (False, True):
+                if asks:
+                    self.browser.key("a")
+                for index in range(len(model.values)):
+                    self.browser.run(f"go({index})")
+                    self.one_screen(f"{name} on one screen, step {index}, asked {asks}", model, index, letters)
+            self.areas(page_look.Expected(model, self.check), f"{name} on one screen", len(model.values) - 1, (None,))
+            self.browser.key("a")
+            self.browser.key("Escape" if len(name) % 2 else "p")
+            self.check(f"{name}: its list is where the step is", [self.look()[key] for key in ("step", "inView")], [len(model.values) - 1, True])
+            self.browser.run("go(0)")
+            self.check(f"{name}: all is as before, once the screen for a class is left", self.look(), before)
+            self.no_noise(name)
+
+    def one_screen(self, name, model, index, letters):
+        seen = json.loads(self.browser.run(page_look.PRESENT))
+        shape, room = seen["shape"], seen["room"]
+        self.check(f"{name}: letters are large", seen["least"] >= letters, True)
+        self.check(f"{name}: nothing else is in sight", seen["parts"], ["map", "registers", "three", "told"])
+        self.check(f"{name}: all of it is on the screen", seen["past"], [])
+        rows = [model.trace.counted[at] if 0 <= at < len(model.values) else None for at in (index - 1, index, index + 1)]
+        replies = [model.values[at]["reply"] if at >= 0 else "" for at in (index - 1, index)] + [""]
+        wanted = [f"{row[0]} {row[1]}" + (f" → {reply}" if reply else "") if row else "" for row, reply in zip(rows, replies)]
+        self.check(f"{name}: three lines, the next one without its reply", [seen["three"], seen["current"]], [wanted, 1])
+        self.check(f"{name}: each is a line, and no trap is cut", [max(seen["lines"]) < 2.2 * letters, seen["cut"]], [True, 0])
+        self.check(f"{name}: the map has what is used, and no row more", 0 <= shape["shown"] - seen["reach"] < shape["columns"], True)
+        wide, high = shape["full"] / room[0], (shape["top"] + shape["bottom"]) / room[1]
+        self.check(f"{name}: it fills its room", [max(wide, high) > 0.75, wide <= 1, high <= 1], [True] * 3)
+
+    def ask(self, root):
+        """What comes is hidden, and ticks are asked for before each pass and judged at it, in each lesson."""
+        run, check = self.browser.run, self.check
+        for folder in self.lessons():
+            name, raw = folder.name, (folder / "stdin").read_bytes()
+            model = page_model.Run(raw, self.data(raw))
+            self.open(self.page(root, raw, name))
+            last, everything = len(model.values) - 1, json.loads(run(page_look.IN_SIGHT))
+            band = "getComputedStyle(document.querySelector('#band svg')).visibility"
+            told = [run(band)]
+            self.browser.key("a")
+            check(f"{name}: so is the band", [*told, run(band)], ["visible", "hidden"])
+            for index in [*range(last + 1), *range(last, -1, -2)]:
+                run(f"go({index})")
+                wanted = [[at for at in kind if at <= index or index == last] for kind in everything]
+                check(f"{name}: what comes after step {index} is hidden", json.loads(run(page_look.IN_SIGHT)), wanted)
+                self.asked(f"{name}: after step {index}", model, index)
+            self.browser.key("a")
+            check(f"{name}: nothing is hidden any more", [json.loads(run(page_look.IN_SIGHT)), run("byId('guess').childNodes.length")], [everything, 0])
+            self.no_noise(name)
+
+    def asked(self, name, model, index):
+        """The places that may be ticked are those that are tagged; every second one is ticked, and judged at the pass."""
+        run, check, state = self.browser.run, self.check, model.states[index]
+        boxes = json.loads(run("JSON.stringify([...document.querySelectorAll('[data-tick]')].map(box => box.dataset.tick))"))
+        taken = model.taken(index + 1) if index + 1 < len(model.values) else None
+        tagged = [f"c{number}" for number in range(1, 32) if state.register(number)[0]]
+        tagged += [hexadecimal(model.base + 16 * place) for place in sorted(state.granules) if state.granule(place)[0]]
+        check(f"{name}: what may be ticked", boxes, tagged if taken is not None else [])
+        if taken is None:
+            return
+        run("document.querySelectorAll('[data-tick]').forEach((box, index) => { if (box.checked !== (index % 2 === 0)) box.click(); })")
+        took, ticked = [row[2] for row in taken], tagged[::2]
+        kinds = [("right", [each for each in ticked if each in took]), ("not taken", [each for each in ticked if each not in took]),
+                 ("taken, and not ticked", [each for each in took if each not in ticked])]
+        told = "; ".join(f"{kind} {', '.join(names)}" for kind, names in kinds if names) or "right, it took none"
+        run(f"go({index + 1})")
+        check(f"{name}: the ticks are judged", run("byId('judged').textContent"), f"{'Your ticks' if ticked else 'You ticked nothing'}: {told}.")
+        run(f"go({index})")
+        check(f"{name}: the ticks are kept", run("document.querySelectorAll('[data-tick]:checked').length"), len(ticked))
+
+    # The address, the keys, words that are typed
+
+    def addresses(self, root):
+        lesson = self.root / "examples/lesson_a_derived_pointer_goes_by_its_base/stdin"
+        path, run, check = self.page(root, lesson.read_bytes(), "addresses"), self.browser.run, self.check
+        self.open(path)
+        self.settle()
+        check("a page that was just opened has a plain address", run("location.hash"), "")
+        told = lambda: [run("view.step"), run("view.side"), run("byId('shown').textContent").split(",")[0], run("byId('columns').value"), run("view.follow")]
+        for at, wanted in (("#step=9&side=before&pick=c2&row=32", [9, "before", "Shown is c2", "32", False]),
+                           ("#step=9&pick=0x40000010", [9, "after", "Shown is the granule at 0x40000010", "16", False]),
+                           ("#step=4", [4, "after", "Shown is c3", "16", True])):
+            self.open(path, at=at)
+            check(f"{at} opens there", told(), wanted)
+            self.settle()
+            check(f"{at} stays", run("location.hash"), at)
+            self.browser.call("Page.reload")
+            self.open_again()
+            check(f"{at} comes back by a reload", told(), wanted)
+            self.browser.key("ArrowRight")
+            self.settle()
+            check(f"{at}: a step on is told", run("location.hash"), at.replace("&side=before", "").replace(f"step={wanted[0]}", f"step={wanted[0] + 1}"))
+        for at, step in (("#step=99999&side=between&pick=c99&row=17", 11), ("#step=-1&pick=0x40000008", 0), ("#<b>=%3Cb%3E&step=1e1", 0), ("#pick=0x50000000&side=after", 0)):
+            self.open(path, at=at)
+            check(f"{at}: what is no place is passed over", [run("view.step"), run("view.side"), run("view.follow"), run("view.columns")], [step, "after", True, 16])
+            self.no_noise(at)
+        run("location.hash = '#step=9&side=before'")
+        self.settle()
+        check("an address that is changed by hand", told()[:2], [9, "before"])
+        self.browser.key("b")
+        self.settle()
+        check("the other side", run("location.hash"), "#step=9")
+        self.no_noise("addresses")
+
+    def open_again(self):
+        until = time.monotonic() + 20
+        while time.monotonic() < until and not self.browser.run("document.readyState === 'complete' && 'compared' in document.querySelector('#main').dataset"):
+            time.sleep(0.02)
+
+    def letters(self, root):
+        """The keys that are letters and signs, the search, and the table of keys."""
+        raw = (self.root / "examples/lesson_malloc_sweeps_when_full/stdin").read_bytes()
+        self.open(self.page(root, raw, "letters"))
+        run, check, key, model = self.browser.run, self.check, self.browser.key, page_model.Run(raw, self.data(raw))
+        run("go(4)")
+        sides = []
+        for _ in range(3):
+            key("b")
+            sides.append(run("view.side"))
+        check("B goes from side to side of a malloc that sweeps", sides, ["before", "between", "after"])
+        run("go(1)")
+        key("b")
+        check("B is nothing where there is no pass", [run("view.side"), run("view.step")], ["after", 1])
+        key("/")
+        check("/ goes to the search", run("document.activeElement.id"), "asked")
+        for letter in ("p", "a", "b"):
+            key(letter)
+        check("letters in a field are its own", [run("byId('asked').value"), run("document.body.className")], ["pab", ""])
+        for sought in ("SWEPT", "malloc", "c2", "no such text"):
+            run("go(0); " + page_look.FILTER % ('"all"', json.dumps(sought)))
+            found = [index for index in range(len(model.values)) if self.is_about(model, index, sought)]
+            for wanted in [index for index in found if index > 0] or [0]:
+                key("Enter")
+                check(f"Enter finds {sought}", run("view.step"), wanted)
+            check(f"{sought}: it is told", run("byId('listed').textContent"), page_model.plural(len(found), "step") if found else "no such step")
+        for index, wanted in ((0, 0), (4, 4)):
+            run(f"go({index}); if (!view.ask) toggleAsk(); " + page_look.FILTER % ('"all"', '"swept"'))
+            key("Enter")
+            check(f"a reply that is hidden isn't found, from {index}", run("view.step"), wanted)
+            run("go(4)")
+            check("it is found once its step is shown", run("list.items.length"), 1)
+            run(f"go({index}); " + page_look.FILTER % ('"passes"', '""'))
+            check(f"a pass that is hidden isn't listed, from {index}", run("list.items.length"), wanted // 4)
+        run("toggleAsk(); go(0); " + page_look.FILTER % ('"all"', '""') + "; goToSearch()")
+        key("Escape")
+        check("Escape leaves the search for the list", run("document.activeElement === currentRow"), True)
+        key("?")
+        check("? shows the keys", [run("byId('keys').open"), run("byId('keys').textContent.includes('Page Up')")], [True, True])
+        key("ArrowRight")
+        key("p")
+        check("keys do nothing else then", [run("view.step"), run("view.present")], [0, False])
+        key("Escape")
+        check("Escape closes them", run("byId('keys').open"), False)
+        for button, state in (("ask", "view.ask"), ("present", "view.present")):
+            run(f"byId('{button}').click()")
+            check(f"the button {button}", [run(state), run(f"byId('{button}').getAttribute('aria-pressed')")], [True, "true"])
+        self.no_noise("letters")
+
+    def typed(self, root):
+        self.open(self.page(root, (self.lessons()[0] / "stdin").read_bytes(), "typed"))
+        word = "00000040000000000480090400003d00"
+        spaced = " ".join(word[at:at + 2] for at in range(0, 32, 2))
+        for text, told in ((word, ""), ("0x" + word, ""), (f"  {word.upper()}\t", ""), (spaced, ""), (f"0x{word[:16]} 0X{word[16:]}", ""), ("", ""),
+                           (" ".join("0x" + part for part in spaced.split()), ""), (word[1:], "31 digits: a word has just 32, two for each byte."),
+                           (word + "0", "33 digits: a word has just 32, two for each byte."), ("7", "1 digit: a word has just 32, two for each byte."),
+                           (word[:-1] + "g", "“g” is no hexadecimal digit."), ("00-0", "“-” is no hexadecimal digit."), (word[:8] + "0x" + word[10:], "“x” is no hexadecimal digit.")):
+            self.browser.run(f"view.chosen = null; draw(false); byId('typed').value = {json.dumps(text)}; byId('typed').dispatchEvent(new Event('input'))")
+            shown = self.browser.run("[byId('wrong').textContent, byId('typed').getAttribute('aria-invalid'), chosenWord().word].join('|')")
+            self.check(f"the word typed {text!r}", shown, "|".join([told, "true" if told else "false", "0" * 32 if told or not text else word]))
+        self.no_noise("typed")
 
     # Texts and data that mean harm
 
@@ -280,6 +469,8 @@ class Tests:
             "a word that is none": lambda: [lines[0], lines[1].replace("00000040000000000480090400003d00", "zz"), *lines[2:]],
             "another base": lambda: [lines[0], lines[1].replace(cell, cell.replace('"base":"0x40000000"', '"base":"0x1"')), *lines[2:]],
             "a granule past the heap": lambda: [lines[0], lines[1].replace('"granules":[]', '"granules":[{"i":256,%s}]' % cell), *lines[2:]],
+            "without its last command": lambda: [*lines[:-3], *lines[-2:]],
+            "another sum at the end": lambda: [*lines[:-2], lines[-2].replace('"tags":', '"tags":1'), lines[-1]],
             "a block past the heap": lambda: [lines[0], lines[1].replace('"top":"0x40000020","state"', '"top":"0x50000000","state"'), *lines[2:]],
         }.items():
             self.faulty(name, head, change(), tail, True)
@@ -343,30 +534,32 @@ class Tests:
         (copy / "heap_states").symlink_to(self.root / "heap_states")
         return copy
 
-    # Time
-
-    def timing(self, root):
-        """A page of 5,000 commands, and the largest one: script, style and layout, by the processor time of the page's own thread,
-        since other work may go on beside this; the clock's time is told too."""
-        for commands, most_open, most_step in ((5000, 1000, 50), (20000, 4000, 200)):
-            path = self.page(root, page_model.random_trace(commands, 64, 5), f"commands_{commands}")
-            opened, _ = self.browser.worked(lambda: self.open(path))
-            clock, blocks = json.loads(self.browser.run(page_look.OPENED))
-            steps = []
-            for start in (commands, commands // 2, commands // 4):
-                self.browser.run(f"go({start})")
-                for key in ["ArrowLeft"] * 20 + ["ArrowRight"] * 20:
-                    steps.append(self.browser.worked(lambda key=key: self.browser.key(key)))
-            times, clocks = sorted(time for time, _ in steps), sorted(time for _, time in steps)
-            most = times[len(times) * 95 // 100]
-            print(f"tried: a page of {grouped(commands)} commands, {path.stat().st_size / 1e6:.1f} MB, {blocks} blocks: opens in {opened:.0f} ms, a step takes "
-                  f"{times[len(times) // 2]:.1f} ms, 19 of 20 at most {most:.1f} ms (by the clock {clock:.0f} and {clocks[len(clocks) // 2]:.1f} ms)")
-            self.check(f"{commands} commands open in {most_open} ms", opened < most_open, True)
-            self.check(f"{commands} commands step in {most_step} ms, 19 of 20 times", most < most_step, True)
-            self.check(f"{commands} commands: the keys made the steps, and they were measured", [self.look()["step"], times[0] > 0], [commands // 4, True])
-            self.no_noise(f"{commands} commands")
-
     # Light, dark and paper
+
+    def colours(self, root):
+        """Fills of blocks and the ground differ by their light; rings and bounds differ by their shape; what is chosen stands out in forced colours."""
+        schemes = re.findall(r":root \{(.*?)\}", (root / "page/style.css").read_text(), re.S)
+        self.check("light, dark and paper", len(schemes), 3)
+        for name, scheme in zip(("light", "dark"), schemes):
+            value = {key: page_model.luminance(text) for key, text in re.findall(r"--(card|live|held|painted): (#[0-9a-f]{6});", scheme)}
+            pairs = {(one, other): (value[one] + 0.05) / (value[other] + 0.05) for one in value for other in value if value[one] >= value[other] and one != other}
+            self.check(f"{name}: contrasts of at least 1.5 between four fills", [len(pairs), [pair for pair, contrast in pairs.items() if contrast < 1.5]], [6, []])
+        path, run = self.page(root, (self.root / "examples/lesson_use_after_free/stdin").read_bytes(), "colours"), self.browser.run
+        paint = lambda selector, name="backgroundColor": run(f"getComputedStyle(document.querySelector('{selector}')).{name}")
+        for dark in (False, True):
+            self.open(path, dark=dark)
+            run("go(4); choose('register', 2); toggleAsk()")
+            self.browser.media("", dark, forced=True)
+            drawn = json.loads(run("JSON.stringify(['#map .changed', '#map .pick'].map(name => document.querySelector(name).getAttribute('d').match(/M/g).length))"))
+            self.check(f"dark {dark}: a ring has four corners, and bounds are whole", drawn, [4, 1])
+            self.check(f"dark {dark}: the map keeps its own colours", paint("#map") != "rgba(0, 0, 0, 0)" and paint("#map") == paint("#legend svg"), True)
+            for one, other in (("#ask", "#present"), ("#lines [aria-current]", "#lines [data-step=\"1\"]"), ("[data-choose=\"2\"]", "[data-choose=\"1\"]")):
+                self.check(f"dark {dark}, forced colours: {one} stands out", paint(one) != paint(other) and paint(one, "color") != paint(one), True)
+            self.browser.media("", dark)
+            ground = paint("#stage")
+            run("togglePresent()")
+            self.check(f"dark {dark}: the ground of the map is the same for a class", paint("body"), ground)
+        self.no_noise("colours")
 
     def looks(self, root):
         path = self.page(root, (self.root / "examples" / PICTURED / "stdin").read_bytes(), PICTURED)
@@ -376,6 +569,13 @@ class Tests:
                 self.browser.key("End")
                 self.check(f"{width} wide, dark {dark}: nothing is wider than the page",
                            self.browser.run("document.documentElement.scrollWidth <= innerWidth"), True)
+                self.browser.run("scrollTo(0, 400)")
+                self.settle()
+                under = "(() => { const [head, trace] = ['header', '#trace'].map(name => document.querySelector(name).getBoundingClientRect()); return trace.top >= head.bottom; })()"
+                self.check(f"{width} wide, dark {dark}: the head hides nothing of the trace", width < 760 or self.browser.run(under), True)
+                self.browser.key("p")
+                self.check(f"{width} wide, dark {dark}: nor is the screen for a class",
+                           self.browser.run("document.documentElement.scrollWidth <= innerWidth && map.shape.full <= view.mapWidth"), True)
                 self.no_noise(f"{width} wide, dark {dark}")
         self.check("on paper", len(self.browser.call("Page.printToPDF", printBackground=True)["data"]) > 10000, True)
         self.no_noise("on paper")
@@ -387,7 +587,8 @@ class Tests:
             self.lesson(self.root, name, "\n".join(lines).encode())
         for seed in range(1, 7):
             self.lesson(self.root, f"random_{seed}", page_model.random_trace(60, 1, seed))
-        for test in (self.words, self.tries, self.controls, self.hostile, self.timing, self.looks):
+        for test in (self.words, self.tries, self.controls, self.present, self.ask, self.addresses, self.letters, self.typed, self.colours, self.hostile,
+                     self.quick, self.rows, self.print_all, self.dense, self.find, self.history, self.band, self.files, self.looks):
             test(self.root)
         self.answers()
         print(f"tried: the page in a browser, with {len(self.lessons())} lessons, {len(page_model.TRACES)} traces of edges and 6 random ones")
@@ -396,24 +597,27 @@ class Tests:
 
     def wrong_pages(self):
         for edit in json.loads((self.root / "testing/page_wrong.json").read_text()):
-            copy = self.copy("wrong")
-            source = copy / "page" / edit["file"]
-            text = source.read_text()
-            self.check(f"{edit['name']}: the old text stands once in page/{edit['file']}", text.count(edit["old"]), 1)
-            source.write_text(text.replace(edit["old"], edit["new"]))
-            told, self.quiet, self.failed, self.passed = (self.passed, self.failed), True, 0, 0
-            try:
-                if "lesson" in edit:
-                    self.lesson(copy, edit["lesson"])
-                elif "trace" in edit:
-                    self.lesson(copy, edit["trace"], "\n".join(page_model.TRACES[edit["trace"]]).encode())
-                else:
-                    getattr(self, edit["test"])(copy)
-                faults = self.failed
-            except RuntimeError as problem:
-                faults = str(problem)
-            (self.passed, self.failed), self.quiet = told, False
-            self.check(f"the wrong page is found: {edit['name']}", faults != 0, True)
+            self.wrong_page(edit)
+
+    def wrong_page(self, edit):
+        copy = self.copy("wrong")
+        source = copy / "page" / edit["file"]
+        text = source.read_text()
+        self.check(f"{edit['name']}: the old text stands once in page/{edit['file']}", text.count(edit["old"]), 1)
+        source.write_text(text.replace(edit["old"], edit["new"]))
+        told, self.quiet, self.failed, self.passed = (self.passed, self.failed), True, 0, 0
+        try:
+            if "lesson" in edit:
+                self.lesson(copy, edit["lesson"])
+            elif "trace" in edit:
+                self.lesson(copy, edit["trace"], "\n".join(page_model.TRACES[edit["trace"]]).encode())
+            else:
+                getattr(self, edit["test"])(copy)
+            faults = self.failed
+        except RuntimeError as problem:
+            faults = str(problem)
+        (self.passed, self.failed), self.quiet = told, False
+        self.check(f"the wrong page is found: {edit['name']}", faults != 0, True)
 
     # Pictures
 
@@ -424,7 +628,7 @@ class Tests:
         self.browser.picture(file)
 
     def settle(self):
-        self.browser.run("new Promise(done => requestAnimationFrame(() => requestAnimationFrame(() => setTimeout(done, 100))))")
+        self.browser.run("new Promise(done => requestAnimationFrame(() => requestAnimationFrame(() => setTimeout(done, 300))))")
 
     def pictures(self, folder):
         folder.mkdir(parents=True, exist_ok=True)

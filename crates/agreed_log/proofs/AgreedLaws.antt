@@ -8,24 +8,24 @@ use Rattle.trace_text.specs.declared.trace.Command.{Command}
 use Rattle.trace_text.specs.Lines.{lines_of, words_of}
 use Rattle.trace_text.specs.Reading.{◌>>=◌}
 use Rattle.heap_reply.specs.declared.reply.Reply.{Reply}
-use Rattle.heap_reply.specs.Answer.{answer_text}
+use Rattle.heap_reply.specs.ReplyText.{text_of_reply}
 use Rattle.log_text.specs.declared.event.Asked.{Asked}
 use Rattle.log_text.specs.declared.event.Asked.TheVariants as asked
 use Rattle.log_text.specs.declared.fault.LogFault.{LogFault}
 use Rattle.log_text.specs.declared.log.Event.{Event}
 use Rattle.log_text.specs.declared.log.Event.TheVariants.{Done, Seen}
-use Rattle.log_text.specs.Answer.{FitsReply, IsAnswer, answer_of}
+use Rattle.log_text.specs.ReplyText.{FitsReply, IsReplyText, reply_in}
 use Rattle.log_text.specs.declared.log.Given.{Given}
 use Rattle.log_text.specs.declared.text.Start.{Start}
 use Rattle.log_text.specs.Asking.{Asks, IsStart}
 use Rattle.given_state.specs.Given.{AreSafe, given_state}
-use Rattle.log_text.specs.Log.{Record, event_at, events_from, listed, log_of, told_of}
-use Rattle.heap_machine.specs.Follow.{Follows}
-use Rattle.heap_machine.specs.State.{State}
+use Rattle.log_text.specs.Log.{Record, event_at, events_from, listed_event, log_of, event_of_answer}
+use Rattle.machine_steps.specs.Follow.{Follows}
+use Rattle.machine_steps.specs.State.{State}
 use Rattle.heap_log.specs.declared.verdict.Tally.{Tally}
-use Rattle.heap_log.specs.Judged.{AllFollow, EventFollows, blocks_told, of_event, one_told, passes_told, sum_told, tags_told, tally_of}
-use Rattle.agreed_log.specs.Agreed.{AreFew, HaveAgreed, IsAgreed, IsAgreedLine, IsToldEvent, LineFollows, after_events}
-use Rattle.agreed_log.specs.Counting.{Grows, HasRoom, counted, counted_event}
+use Rattle.heap_log.specs.Judged.{AllFollow, EventFollows, blocks_of_reply, of_event, one_of_reply, passes_of_reply, sum_over, tags_of_reply, tally_of}
+use Rattle.agreed_log.specs.Agreed.{AreFew, HaveAgreed, IsAgreed, IsAgreedLine, IsAnsweredEvent, LineFollows, after_events}
+use Rattle.agreed_log.specs.Counting.{Grows, HasRoom, tally_with, tally_with_event}
 
 -- ---- a line
 
@@ -34,18 +34,18 @@ pub words_after_blank : (text : List ℕ) → words_of (32 ∷ text) ≡ words_o
 words_after_blank text = refl
 
 -- A blank and a reply's text have its words.
-pub IsAnswer-told : (bytes text : List ℕ) (reply : Reply) → FitsReply reply → text ≡ 32 ∷ (answer_text reply ++ []) → bytes_eq bytes text ≡ true → IsAnswer (words_of bytes) reply
-IsAnswer-told bytes text reply fits is same =
-    let whole : bytes ≡ 32 ∷ answer_text reply = (bytes_eq-Decides bytes text).0 same ∙ is ∙ ap (λ bs. 32 ∷ bs) (append-nil (answer_text reply)) in
-    (fits, ap words_of whole ∙ words_after_blank (answer_text reply))
+pub IsReplyText-told : (bytes text : List ℕ) (reply : Reply) → FitsReply reply → text ≡ 32 ∷ (text_of_reply reply ++ []) → bytes_eq bytes text ≡ true → IsReplyText (words_of bytes) reply
+IsReplyText-told bytes text reply fits is same =
+    let whole : bytes ≡ 32 ∷ text_of_reply reply = (bytes_eq-Decides bytes text).0 same ∙ is ∙ ap (λ bs. 32 ∷ bs) (append-nil (text_of_reply reply)) in
+    (fits, ap words_of whole ∙ words_after_blank (text_of_reply reply))
 
-pub told_of-command : (command : Command) (words : List (List ℕ)) (reply : Reply) → answer_of words ≡ Some reply → told_of (asked.Command command) words ≡ Some (Done command reply)
-unfolding told_of
+pub told_of-command : (command : Command) (words : List (List ℕ)) (reply : Reply) → reply_in words ≡ Some reply → event_of_answer (asked.Command command) words ≡ Some (Done command reply)
+unfolding event_of_answer
 told_of-command command words reply is = ap (option_map (Done command)) is
 
-pub IsToldEvent-command : (command : Command) (told : List ℕ) (reply : Reply) (old new : State) (before after : Tally) → answer_of (words_of told) ≡ Some reply
-    → Follows old command reply new → after ≡ counted before reply → IsToldEvent (asked.Command command) told old new before after
-IsToldEvent-command command told reply old new before after is follows counts = record {
+pub IsAnsweredEvent-command : (command : Command) (told : List ℕ) (reply : Reply) (old new : State) (before after : Tally) → reply_in (words_of told) ≡ Some reply
+    → Follows old command reply new → after ≡ tally_with before reply → IsAnsweredEvent (asked.Command command) told old new before after
+IsAnsweredEvent-command command told reply old new before after is follows counts = record {
   event = Done command reply;
   reads = told_of-command command (words_of told) reply is;
   follows = follows;
@@ -53,7 +53,7 @@ IsToldEvent-command command told reply old new before after is follows counts = 
 }
 
 pub IsAgreedLine-told : {A : Type 0} (line : List ℕ) (asked : Asked) (told : List ℕ) (old new : State) (before after : Tally) (r : Option A) → Asks (words_of line) asked told
-    → IfSome r (λ done. IsToldEvent asked told old new before after) → IfSome r (λ done. IsAgreedLine line old new before after)
+    → IfSome r (λ done. IsAnsweredEvent asked told old new before after) → IfSome r (λ done. IsAgreedLine line old new before after)
 IsAgreedLine-told line asked told old new before after (Some done) asks is = record {
   event = Some is.event;
   reads = λ number. asks.reads number is.event is.reads;
@@ -71,20 +71,20 @@ same_tally a b tags commands blocks passes =
     ap (λ n. with_fields n a.commands a.blocks a.passes) tags ∙ ap (λ n. with_fields b.tags n a.blocks a.passes) commands
     ∙ ap (λ n. with_fields b.tags b.commands n a.passes) blocks ∙ ap (λ n. with_fields b.tags b.commands b.blocks n) passes
 
-told_push : (told : Reply → ℕ) (events : List (ℕ × Event)) (number : ℕ) (event : Event) → sum_told told (events ++ (number, event) ∷ []) ≡ sum_told told events + of_event told event
+told_push : (told : Reply → ℕ) (events : List (ℕ × Event)) (number : ℕ) (event : Event) → sum_over told (events ++ (number, event) ∷ []) ≡ sum_over told events + of_event told event
 told_push told events number event = sum_by_push (λ (one : ℕ × Event). of_event told one.1) events (number, event)
 
-tally_push : (events : List (ℕ × Event)) (number : ℕ) (event : Event) → counted_event (tally_of events) event ≡ tally_of (events ++ (number, event) ∷ [])
+tally_push : (events : List (ℕ × Event)) (number : ℕ) (event : Event) → tally_with_event (tally_of events) event ≡ tally_of (events ++ (number, event) ∷ [])
 tally_push events number (Done command answer) =
     let event = Done command answer in
-    same_tally (counted_event (tally_of events) event) (tally_of (events ++ (number, event) ∷ []))
-    (sym (told_push tags_told events number event)) (sym (told_push one_told events number event))
-    (sym (told_push blocks_told events number event)) (sym (told_push passes_told events number event))
+    same_tally (tally_with_event (tally_of events) event) (tally_of (events ++ (number, event) ∷ []))
+    (sym (told_push tags_of_reply events number event)) (sym (told_push one_of_reply events number event))
+    (sym (told_push blocks_of_reply events number event)) (sym (told_push passes_of_reply events number event))
 tally_push events number (Seen address tag bytes) =
     let event = Seen address tag bytes in
     same_tally (tally_of events) (tally_of (events ++ (number, event) ∷ []))
-    (omega (arith, told_push tags_told events number event)) (omega (arith, told_push one_told events number event))
-    (omega (arith, told_push blocks_told events number event)) (omega (arith, told_push passes_told events number event))
+    (omega (arith, told_push tags_of_reply events number event)) (omega (arith, told_push one_of_reply events number event))
+    (omega (arith, told_push blocks_of_reply events number event)) (omega (arith, told_push passes_of_reply events number event))
 
 pub HasRoom-few : (number : ℕ) (tally : Tally) → AreFew number tally → number + 1 < 2 ^ 32 → HasRoom tally
 HasRoom-few number tally few small = record {
@@ -122,36 +122,36 @@ HaveAgreed-none first lines old tally none = record {
 }
 
 regroup : (events : List (ℕ × Event)) (number : ℕ) (event : Option Event) (later : Result (List (ℕ × Event)) LogFault)
-    → after_events events (later >>= λ list. Ok (listed number event ++ list)) ≡ after_events (events ++ listed number event) later
-regroup events number event (Ok list) = ap Ok (sym (append_assoc events (listed number event) list))
+    → after_events events (later >>= λ list. Ok (listed_event number event ++ list)) ≡ after_events (events ++ listed_event number event) later
+regroup events number event (Ok list) = ap Ok (sym (append_assoc events (listed_event number event) list))
 regroup events number event (Err fault) = refl
 
 -- what is read of a line and those after it
 events_step : (events : List (ℕ × Event)) (number : ℕ) (rest line after : List ℕ) (event : Option Event) → lines_of rest ≡ line ∷ lines_of after
-    → event_at number (words_of line) ≡ Ok event → after_events events (events_from number (lines_of rest)) ≡ after_events (events ++ listed number event) (events_from (number + 1) (lines_of after))
+    → event_at number (words_of line) ≡ Ok event → after_events events (events_from number (lines_of rest)) ≡ after_events (events ++ listed_event number event) (events_from (number + 1) (lines_of after))
 unfolding events_from
 events_step events number rest line after event cut is =
     let later = events_from (number + 1) (lines_of after) in
     ap (λ lines. after_events events (events_from number lines)) cut
-    ∙ ap (λ read. after_events events (read >>= λ one. later >>= λ list. Ok (listed number one ++ list))) is
+    ∙ ap (λ read. after_events events (read >>= λ one. later >>= λ list. Ok (listed_event number one ++ list))) is
     ∙ regroup events number event later
 
 follow_one : (old : State) (events : List (ℕ × Event)) (mid : State) (number : ℕ) (event : Option Event) (new : State) (before after : Tally)
-    → AllFollow old events mid → LineFollows event mid new before after → AllFollow old (events ++ listed number event) new
+    → AllFollow old events mid → LineFollows event mid new before after → AllFollow old (events ++ listed_event number event) new
 follow_one old events mid number None new before after all follows =
     subst (λ (xs : List (ℕ × Event)). AllFollow old xs new) (sym (append-nil events)) (subst (AllFollow old events) (sym follows.0) all)
 follow_one old events mid number (Some event) new before after all follows = AllFollow-push old events mid number event new all follows.0
 
 count_one : (events : List (ℕ × Event)) (mid : State) (number : ℕ) (event : Option Event) (new : State) (before after : Tally)
-    → before ≡ tally_of events → LineFollows event mid new before after → after ≡ tally_of (events ++ listed number event)
+    → before ≡ tally_of events → LineFollows event mid new before after → after ≡ tally_of (events ++ listed_event number event)
 count_one events mid number None new before after is follows = follows.1 ∙ is ∙ ap tally_of (sym (append-nil events))
-count_one events mid number (Some event) new before after is follows = follows.1 ∙ ap (λ t. counted_event t event) is ∙ tally_push events number event
+count_one events mid number (Some event) new before after is follows = follows.1 ∙ ap (λ t. tally_with_event t event) is ∙ tally_push events number event
 
 pub HaveAgreed-more : (first : ℕ) (lines : List (List ℕ)) (number : ℕ) (rest line after : List ℕ) (old mid new : State) (before tally : Tally)
     → HaveAgreed first lines number (lines_of rest) old mid before → lines_of rest ≡ line ∷ lines_of after → IsAgreedLine line mid new before tally
     → HaveAgreed first lines (number + 1) (lines_of after) old new tally
 HaveAgreed-more first lines number rest line after old mid new before tally so_far cut is = record {
-  events = so_far.events ++ listed number is.event;
+  events = so_far.events ++ listed_event number is.event;
   reads = so_far.reads ∙ events_step so_far.events number rest line after is.event cut (is.reads number);
   follow = follow_one old so_far.events mid number is.event new before tally so_far.follow is.follows;
   tally_is = count_one so_far.events mid number is.event new before tally so_far.tally_is is.follows;

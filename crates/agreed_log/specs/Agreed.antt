@@ -5,12 +5,12 @@ use Rattle.trace_text.specs.Reading.{◌>>=◌}
 use Rattle.log_text.specs.declared.event.Asked.{Asked}
 use Rattle.log_text.specs.declared.fault.LogFault.{LogFault}
 use Rattle.log_text.specs.declared.log.Event.{Event}
-use Rattle.log_text.specs.Log.{Record, event_at, events_from, log_of, told_of}
+use Rattle.log_text.specs.Log.{Record, event_at, events_from, log_of, event_of_answer}
 use Rattle.given_state.specs.Given.{AreSafe, given_state}
-use Rattle.heap_machine.specs.State.{State}
+use Rattle.machine_steps.specs.State.{State}
 use Rattle.heap_log.specs.declared.verdict.Tally.{Tally}
 use Rattle.heap_log.specs.Judged.{AllFollow, EventFollows, tally_of}
-use Rattle.agreed_log.specs.Counting.{counted_event}
+use Rattle.agreed_log.specs.Counting.{tally_with_event}
 
 -- ---- a whole text
 
@@ -26,16 +26,16 @@ pub record IsAgreed (text : List ℕ) (tally : Tally) : Type 0 where
 -- ---- a line
 
 -- These words answer what was asked, and that follows.
-pub record IsToldEvent (asked : Asked) (told : List ℕ) (old new : State) (before after : Tally) : Type 0 where
+pub record IsAnsweredEvent (asked : Asked) (told : List ℕ) (old new : State) (before after : Tally) : Type 0 where
   pub event : Event
-  pub reads : told_of asked (words_of told) ≡ Some event
+  pub reads : event_of_answer asked (words_of told) ≡ Some event
   pub follows : EventFollows old event new
-  pub tally_is : after ≡ counted_event before event
+  pub tally_is : after ≡ tally_with_event before event
 
 -- The event of a line follows, if the line has one.
 abbrev pub LineFollows : Option Event → State → State → Tally → Tally → Type 0
 LineFollows None old new before after = (new ≡ old) × (after ≡ before)
-LineFollows (Some event) old new before after = EventFollows old event new × (after ≡ counted_event before event)
+LineFollows (Some event) old new before after = EventFollows old event new × (after ≡ tally_with_event before event)
 
 -- A line is passed over, or its event follows.
 pub record IsAgreedLine (line : List ℕ) (old new : State) (before after : Tally) : Type 0 where

@@ -4,21 +4,21 @@ use Rattle.heap_reply.specs.declared.reply.Reply.{Reply}
 use Rattle.log_text.specs.declared.log.Event.{Event}
 use Rattle.log_text.specs.declared.log.Event.TheVariants.{Done, Seen}
 use Rattle.heap_log.specs.declared.verdict.Tally.{Tally}
-use Rattle.heap_log.specs.Judged.{blocks_told, passes_told, tags_told}
+use Rattle.heap_log.specs.Judged.{blocks_of_reply, passes_of_reply, tags_of_reply}
 
 -- With one more answer.
-abbrev pub counted : Tally → Reply → Tally
-counted tally answer = record {
-  tags = tally.tags + tags_told answer;
+abbrev pub tally_with : Tally → Reply → Tally
+tally_with tally answer = record {
+  tags = tally.tags + tags_of_reply answer;
   commands = tally.commands + 1;
-  blocks = tally.blocks + blocks_told answer;
-  passes = tally.passes + passes_told answer;
+  blocks = tally.blocks + blocks_of_reply answer;
+  passes = tally.passes + passes_of_reply answer;
 }
 
 -- With one more event.
-abbrev pub counted_event : Tally → Event → Tally
-counted_event tally (Done command answer) = counted tally answer
-counted_event tally (Seen address tag bytes) = tally
+abbrev pub tally_with_event : Tally → Event → Tally
+tally_with_event tally (Done command answer) = tally_with tally answer
+tally_with_event tally (Seen address tag bytes) = tally
 
 -- One more can be counted.
 pub record HasRoom (tally : Tally) : Type 0 where

@@ -2,10 +2,10 @@
 
 ghost use Rattle.std.specs.Prelude.{◌≡◌, Some, true};
 ghost use Rattle.trace_text.specs.Lines.{words_of};
-ghost use Rattle.log_text.specs.Answer.{FitsReply, answer_of};
+ghost use Rattle.log_text.specs.ReplyText.{FitsReply, reply_in};
 
 use heap_reply::Reply;
-use log_text::answers;
+use log_text::reply_grammar_law;
 use reply_text::{ShortText, put_reply_of};
 use trace_text::Line;
 
@@ -19,10 +19,10 @@ fn fit_reply(reply: Reply)
 
 /// Whether a line is a blank and just the text of a reply, which is made in `text`.
 #[inline(always)]
-pub fn is_told(line: &Line<'_>, reply: &Reply, text: &mut ShortText) -> bool
-    ensures { result ≡ true → answer_of (words_of line.now) ≡ Some reply.now }
+pub fn says_reply(line: &Line<'_>, reply: &Reply, text: &mut ShortText) -> bool
+    ensures { result ≡ true → reply_in (words_of line.now) ≡ Some reply.now }
 {
-    answers();
+    reply_grammar_law();
     fit_reply(*reply);
     text.clear();
     put_reply_of(text, reply);

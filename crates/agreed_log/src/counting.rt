@@ -1,8 +1,8 @@
 //! What answers come to, one more at a time.
 
 ghost use Rattle.std.specs.Prelude.{◌≡◌, ◌≤◌};
-ghost use Rattle.heap_log.specs.Judged.{blocks_told, passes_told, tags_told};
-ghost use Rattle.agreed_log.specs.Counting.{Grows, HasRoom, counted, counted_event};
+ghost use Rattle.heap_log.specs.Judged.{blocks_of_reply, passes_of_reply, tags_of_reply};
+ghost use Rattle.agreed_log.specs.Counting.{Grows, HasRoom, tally_with, tally_with_event};
 
 use heap_log::Tally;
 use heap_reply::Reply;
@@ -10,7 +10,7 @@ use log_text::Event;
 
 #[inline(always)]
 fn blocks_in(answer: &Reply) -> u32
-    ensures value { result ≡ blocks_told answer.now }
+    ensures value { result ≡ blocks_of_reply answer.now }
     ensures few { result ≤ 1 }
 {
     match *answer {
@@ -21,7 +21,7 @@ fn blocks_in(answer: &Reply) -> u32
 
 #[inline(always)]
 fn passes_in(answer: &Reply) -> u32
-    ensures value { result ≡ passes_told answer.now }
+    ensures value { result ≡ passes_of_reply answer.now }
     ensures few { result ≤ 1 }
 {
     match *answer {
@@ -36,7 +36,7 @@ fn passes_in(answer: &Reply) -> u32
 // The tags that the answer's pass took.
 #[inline(always)]
 fn tags_in(answer: &Reply) -> u32
-    ensures { result ≡ tags_told answer.now }
+    ensures { result ≡ tags_of_reply answer.now }
 {
     match *answer {
         Reply::BlockAfter { cleared, .. }
@@ -51,7 +51,7 @@ fn tags_in(answer: &Reply) -> u32
 #[inline(always)]
 pub fn count(tally: &mut Tally, answer: &Reply)
     requires room { HasRoom tally.old }
-    ensures value { tally.new ≡ counted tally.old answer.now }
+    ensures value { tally.new ≡ tally_with tally.old answer.now }
     ensures few { Grows tally.old tally.new }
 {
     tally.tags += u64::from(tags_in(answer));
@@ -63,7 +63,7 @@ pub fn count(tally: &mut Tally, answer: &Reply)
 /// Counts an event: a granule that was read adds nothing.
 pub fn count_event(tally: &mut Tally, event: &Event)
     requires room { HasRoom tally.old }
-    ensures value { tally.new ≡ counted_event tally.old event.now }
+    ensures value { tally.new ≡ tally_with_event tally.old event.now }
     ensures few { Grows tally.old tally.new }
 {
     if let Event::Done { answer, .. } = event {

@@ -5,16 +5,16 @@ ghost use Rattle.trace_text.specs.Command.{IsValid};
 ghost use Rattle.trace_text.specs.Lines.{lines_of};
 ghost use Rattle.log_text.specs.declared.event.Asked.TheVariants as told_asked;
 ghost use Rattle.log_text.specs.Log.{IsValidAsked};
-ghost use Rattle.heap_machine.specs.Safety.{IsSafe};
+ghost use Rattle.machine_steps.specs.Safety.{IsSafe};
 ghost use Rattle.heap_log.specs.Judged.{tally_of};
-ghost use Rattle.agreed_log.specs.Agreed.{HaveAgreed, IsAgreedLine, IsToldEvent};
+ghost use Rattle.agreed_log.specs.Agreed.{HaveAgreed, IsAgreedLine, IsAnsweredEvent};
 ghost use Rattle.agreed_log.specs.Counting.{Grows, HasRoom};
 
-use crate::comparing::is_told;
+use crate::comparing::says_reply;
 use crate::counting::{count, count_event};
 use heap_log::{Tally, follow_event};
-use heap_machine::{Machine, answers};
-use log_text::{Asked, asked_line, event_told};
+use heap_machine::{Machine, any_placement_law};
+use log_text::{Asked, asked_line, event_of_answer};
 use reply_text::ShortText;
 use std::alloc::Global;
 use std::thread::Threads;
@@ -41,17 +41,17 @@ impl Judge {
         requires valid { IsValid command }
         requires safe { IsSafe self.old.machine.state }
         requires room { HasRoom self.old.tally }
-        ensures event { IfSome result (λ done. IsToldEvent (told_asked.Command command) told.now self.old.machine.state self.new.machine.state self.old.tally self.new.tally) }
+        ensures event { IfSome result (λ done. IsAnsweredEvent (told_asked.Command command) told.now self.old.machine.state self.new.machine.state self.old.tally self.new.tally) }
         ensures few { IfSome result (λ done. Grows self.old.tally self.new.tally) }
         ensures safe { IsSafe self.new.machine.state }
     {
-        answers();
+        any_placement_law();
         let stepped = self.machine.step(rt, alloc, command, &Open);
         // Where it lies: a copy of a reply that was just written waits for the cache.
         let Ok(reply) = &stepped else {
             return None;
         };
-        if !is_told(told, reply, &mut self.text) {
+        if !says_reply(told, reply, &mut self.text) {
             return None;
         }
         count(&mut self.tally, reply);
@@ -70,11 +70,11 @@ impl Judge {
         requires valid { IsValidAsked asked }
         requires safe { IsSafe self.old.machine.state }
         requires room { HasRoom self.old.tally }
-        ensures event { IfSome result (λ done. IsToldEvent asked told.now self.old.machine.state self.new.machine.state self.old.tally self.new.tally) }
+        ensures event { IfSome result (λ done. IsAnsweredEvent asked told.now self.old.machine.state self.new.machine.state self.old.tally self.new.tally) }
         ensures few { IfSome result (λ done. Grows self.old.tally self.new.tally) }
         ensures safe { IsSafe self.new.machine.state }
     {
-        let event = event_told(asked, told)?;
+        let event = event_of_answer(asked, told)?;
         let Ok(None) = follow_event(rt, alloc, &mut self.machine, event) else {
             return None;
         };
@@ -94,7 +94,7 @@ impl Judge {
         requires valid { IsValidAsked asked }
         requires safe { IsSafe self.old.machine.state }
         requires room { HasRoom self.old.tally }
-        ensures event { IfSome result (λ done. IsToldEvent asked told.now self.old.machine.state self.new.machine.state self.old.tally self.new.tally) }
+        ensures event { IfSome result (λ done. IsAnsweredEvent asked told.now self.old.machine.state self.new.machine.state self.old.tally self.new.tally) }
         ensures few { IfSome result (λ done. Grows self.old.tally self.new.tally) }
         ensures safe { IsSafe self.new.machine.state }
     {

@@ -4,10 +4,10 @@ ghost use Rattle.std.specs.Prelude.{◌≡◌, Some, false};
 
 use byteorder::{ByteOrder, LittleEndian};
 use heap_command::tool;
+use program_devices::{Failed, Sink, Source};
 use states_command::states_tool;
 use std::alloc::Global;
 use std::thread::Threads;
-use trace_program::{Failed, Sink, Source};
 
 /// A text that is read from its start.
 #[derive(Drop)]
@@ -102,7 +102,7 @@ pub fn run<R: Threads + Sync>(
 }
 
 /// The same of `heap_states`.
-pub fn tell<R: Threads + Sync>(rt: &R, alloc: Global, text: &[u8], digest: &mut Digest) {
+pub fn give<R: Threads + Sync>(rt: &R, alloc: Global, text: &[u8], digest: &mut Digest) {
     let mut reader = Given { rest: text };
     let status = states_tool(rt, alloc, &["heap_states"], &mut reader, digest);
     digest.add(u64::from(status));

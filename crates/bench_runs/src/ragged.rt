@@ -1,7 +1,7 @@
 //! Awkward traces, three each time: many blocks freed in no order, told by `heap_states`; long blocks asked of a heap whose
 //! free runs are all just too short for their alignment; and a long text whose last line is faulty.
 
-use crate::devices::{Digest, run, tell};
+use crate::devices::{Digest, give, run};
 use crate::draws::Draws;
 use crate::slots::{Policy, Slots};
 use crate::text::Text;
@@ -26,7 +26,7 @@ pub(crate) fn job<R: Threads + Sync>(
 ) -> Result<(), AllocError> {
     let mut draws = Draws::new(seed);
     let freed = freed_in_no_order(alloc, &mut draws)?;
-    tell(rt, alloc, freed.as_bytes(), digest);
+    give(rt, alloc, freed.as_bytes(), digest);
     let ragged = ragged_heap(alloc, &mut draws)?;
     run(rt, alloc, &["heap_tool", "run"], ragged.as_bytes(), digest);
     let faulty = faulty_text(alloc, &mut draws)?;

@@ -1,6 +1,6 @@
 //! Traces of some thousand commands on 64 pages, as a page in a browser shows them. `heap_states` tells their states.
 
-use crate::devices::{Digest, tell};
+use crate::devices::{Digest, give};
 use crate::draws::Draws;
 use crate::slots::{Policy, Slots};
 use crate::text::Text;
@@ -19,7 +19,7 @@ pub(crate) fn job<R: Threads + Sync>(
     digest: &mut Digest,
 ) -> Result<(), AllocError> {
     let text = trace(alloc, seed)?;
-    tell(rt, alloc, text.as_bytes(), digest);
+    give(rt, alloc, text.as_bytes(), digest);
     Ok(())
 }
 

@@ -5,9 +5,9 @@ use Rattle.tag_memory.specs.Cells.{marks_after}
 use Rattle.trace_text.specs.declared.trace.Command.{Command}
 use Rattle.trace_text.specs.declared.trace.Command.TheVariants.{Malloc, Free, Copy, SetAddr, Narrow, AndPerm, StoreCap, LoadCap, Write, Show, Sweep, Begin, End}
 use Rattle.heap_reply.specs.declared.reply.Trap.{Trap}
-use Rattle.heap_machine.specs.Dirty.{dirty_after, dirty_by}
-use Rattle.heap_machine.specs.State.{State, register}
-use Rattle.heap_machine.specs.Step.{checks, first_failed, index_in}
+use Rattle.machine_steps.specs.Dirty.{dirty_after, dirty_by}
+use Rattle.machine_steps.specs.State.{State, register}
+use Rattle.machine_steps.specs.Step.{checks, first_failed, index_in}
 use Rattle.state_bytes.specs.Text.{text_length}
 
 marks_length : (marks : List Bool) (i : ℕ) (tag : Bool) → length (marks_after marks i tag) ≡ length marks

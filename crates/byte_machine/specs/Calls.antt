@@ -1,14 +1,14 @@
 -- What calls on the bytes of states answer: by the machines of which the bytes tell.
 use Rattle.std.specs.Prelude.{◌≡◌, ◌≢◌, ◌<◌, ◌+◌, ◌*◌, ◌/◌, ◌%◌, ◌^◌, ℕ, Bool, true, false, List, length, replicate, slice_index_or}
-use Rattle.heap_core.specs.Blocks.{bytes_in}
-use Rattle.heap_core.specs.Heap.{held_bytes}
-use Rattle.heap_machine.specs.Dirty.{dirty_after}
-use Rattle.heap_machine.specs.Follow.{Follows}
+use Rattle.heap_model.specs.Blocks.{bytes_in}
+use Rattle.heap_model.specs.Heap.{held_bytes}
+use Rattle.machine_steps.specs.Dirty.{dirty_after}
+use Rattle.machine_steps.specs.Follow.{Follows}
 use Rattle.heap_machine.specs.Followed.{IsRefused, IsWhy}
-use Rattle.heap_machine.specs.Parts.{MachineState}
-use Rattle.heap_machine.specs.Safety.{IsUnused, LeavesInUse}
-use Rattle.heap_machine.specs.State.{State, first_state}
-use Rattle.heap_machine.specs.Step.{Step}
+use Rattle.heap_machine.specs.Storage.{MachineState}
+use Rattle.machine_steps.specs.Safety.{IsUnused, LeavesInUse}
+use Rattle.machine_steps.specs.State.{State, first_state}
+use Rattle.machine_steps.specs.Step.{Step}
 use Rattle.heap_machine.specs.declared.followed.Followed.{Followed}
 use Rattle.heap_machine.specs.declared.followed.Followed.TheVariants.{Agrees, Differs}
 use Rattle.heap_machine.specs.declared.followed.Why.{Why}
@@ -108,18 +108,18 @@ pub record AreCounts (bytes : List ℕ) (counts : CountRecord) : Type 0 where
   pub open_is : counts.is_open ≡ flag_byte machine.state.heap.is_open
 
 -- 128 bits with a tag, as a record.
-abbrev pub word_told : ℕ → Bool → WordRecord
-word_told bits tag = record { tag = flag_byte tag; low = bits % 2 ^ 64; high = bits / 2 ^ 64 }
+abbrev pub record_of_word : ℕ → Bool → WordRecord
+record_of_word bits tag = record { tag = flag_byte tag; low = bits % 2 ^ 64; high = bits / 2 ^ 64 }
 
 -- What a register of the machine of the bytes holds.
 pub record IsRegister (bytes : List ℕ) (number : ℕ) (word : WordRecord) : Type 0 where
   pub machine : MachineState
   pub told : IsTextOf bytes machine
-  pub word_is : word ≡ word_told (register_at machine.state.registers number).0.bits (register_at machine.state.registers number).1
+  pub word_is : word ≡ record_of_word (register_at machine.state.registers number).0.bits (register_at machine.state.registers number).1
 
 -- A granule of the machine starts at the address, the i-th from the base.
 pub record StartsAt (m : MachineState) (address i : ℕ) : Type 0 where
-  pub inside : i < length m.state.cells
+  pub inside : i < length m.state.granules
   pub address_is : address ≡ m.state.heap.base + 16 * i
 
 -- What the granule holds that starts at an address, in the machine of the bytes.
@@ -128,7 +128,7 @@ pub record IsGranule (bytes : List ℕ) (address : ℕ) (word : WordRecord) : Ty
   pub told : IsTextOf bytes machine
   pub index : ℕ
   pub starts : StartsAt machine address index
-  pub word_is : word ≡ word_told (slice_index_or machine.state.cells index (0, false)).0 (slice_index_or machine.state.cells index (0, false)).1
+  pub word_is : word ≡ record_of_word (slice_index_or machine.state.granules index (0, false)).0 (slice_index_or machine.state.granules index (0, false)).1
 
 -- No granule starts at an address, in the machine of the bytes.
 pub record HasNoGranule (bytes : List ℕ) (address : ℕ) : Type 0 where

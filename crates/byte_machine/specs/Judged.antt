@@ -1,6 +1,6 @@
 -- What became of an answer, before it is written.
 use Rattle.std.specs.Prelude.{◌≡◌, ℕ, List, length}
-use Rattle.heap_machine.specs.Follow.{Follows}
+use Rattle.machine_steps.specs.Follow.{Follows}
 use Rattle.heap_reply.specs.declared.reply.Reply.{Reply}
 use Rattle.state_bytes.specs.Text.{text_length}
 use Rattle.trace_text.specs.declared.trace.Command.{Command}

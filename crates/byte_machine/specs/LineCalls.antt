@@ -1,6 +1,6 @@
 -- Steps whose commands are lines of a trace, and whose replies are told as text.
 use Rattle.std.specs.Prelude.{◌≡◌, ◌≢◌, ◌<◌, ◌≤◌, ◌++◌, ℕ, List, Ok, Err, drop, false, length, true}
-use Rattle.heap_reply.specs.Answer.{answer_text}
+use Rattle.heap_reply.specs.ReplyText.{text_of_reply}
 use Rattle.heap_reply.specs.declared.reply.Reply.{Reply}
 use Rattle.trace_text.specs.Lines.{is_passed_over, words_of}
 use Rattle.trace_text.specs.Reading.{command_of}
@@ -26,8 +26,8 @@ pub record IsLineStep (old line new before after : List ℕ) (count : ℕ) : Typ
   pub reply : Reply
   pub command_is : IsCommandOf line command
   pub step : IsStep old command reply new
-  pub count_is : count ≡ length (answer_text reply)
-  pub text : after ≡ answer_text reply ++ drop (length (answer_text reply)) before
+  pub count_is : count ≡ length (text_of_reply reply)
+  pub text : after ≡ text_of_reply reply ++ drop (length (text_of_reply reply)) before
 
 -- The line is some command.
 abbrev pub HasCommand : List ℕ → Type 0

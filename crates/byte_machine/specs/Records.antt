@@ -1,8 +1,8 @@
 -- Records of plain numbers, and what they tell.
 use Rattle.std.specs.Prelude.{◌≡◌, ◌+◌, ◌*◌, ◌/◌, ◌%◌, ◌^◌, ◌==◌, ℕ, Bool, true, false, Option, Some, None, nat_lt, if◌then◌else◌}
 use Rattle.cap_codec.specs.Bytes.{bits_of_bytes, bytes_of}
-use Rattle.heap_core.specs.declared.block.Claim.{Claim}
-use Rattle.heap_core.specs.declared.block.Claim.TheVariants as claim
+use Rattle.heap_model.specs.declared.block.Claim.{Claim}
+use Rattle.heap_model.specs.declared.block.Claim.TheVariants as claim
 use Rattle.heap_machine.specs.declared.followed.Why.{Why}
 use Rattle.heap_machine.specs.declared.followed.Why.TheVariants as why
 use Rattle.heap_reply.specs.declared.reply.Reply.{Reply}
@@ -40,19 +40,19 @@ where_true true x = Some x
 where_true false x = None
 
 -- The command that takes permissions, where its mask is one.
-abbrev pub masked : CommandRecord → Option Command
-masked r = where_true (nat_lt r.number 65536) (AndPerm r.first r.second r.number)
+abbrev pub and_perm_command : CommandRecord → Option Command
+and_perm_command r = where_true (nat_lt r.number 65536) (AndPerm r.first r.second r.number)
 
 -- The command of a record, whatever its registers: its kind says which, and it is none where a mask has more than 16 bits.
 -- What a kind doesn't use may be anything.
-unfoldable pub command_told : CommandRecord → Option Command
-command_told r =
+unfoldable pub command_of_record : CommandRecord → Option Command
+command_of_record r =
     if r.kind == 0 then Some (Malloc r.first r.number)
     else if r.kind == 1 then Some (Free r.first)
     else if r.kind == 2 then Some (Copy r.first r.second)
     else if r.kind == 3 then Some (SetAddr r.first r.second r.number)
     else if r.kind == 4 then Some (Narrow r.first r.second r.number)
-    else if r.kind == 5 then masked r
+    else if r.kind == 5 then and_perm_command r
     else if r.kind == 6 then Some (StoreCap r.first r.second)
     else if r.kind == 7 then Some (LoadCap r.first r.second)
     else if r.kind == 8 then Some (Write r.first (bytes_of (wide r.low r.high)))
@@ -64,28 +64,28 @@ command_told r =
 
 -- A record was read as this command, whose registers are registers; or it is no such command's.
 abbrev pub IsRead : CommandRecord → Option Command → Type 0
-IsRead r (Some command) = (command_told r ≡ Some command) × IsValid command
-IsRead r None = (command : Command) → command_told r ≡ Some command → IsValid command → ⊥
+IsRead r (Some command) = (command_of_record r ≡ Some command) × IsValid command
+IsRead r None = (command : Command) → command_of_record r ≡ Some command → IsValid command → ⊥
 
 -- A record with these registers and this number, and no bytes.
-abbrev pub numbered : ℕ → ℕ → ℕ → ℕ → CommandRecord
-numbered kind first second number = record { kind = kind; first = first; second = second; number = number; low = 0; high = 0 }
+abbrev pub number_record : ℕ → ℕ → ℕ → ℕ → CommandRecord
+number_record kind first second number = record { kind = kind; first = first; second = second; number = number; low = 0; high = 0 }
 
 -- The record of a command: what it doesn't use is 0.
-abbrev pub record_told : Command → CommandRecord
-record_told (Malloc rd size) = numbered 0 rd 0 size
-record_told (Free rs) = numbered 1 rs 0 0
-record_told (Copy rd rs) = numbered 2 rd rs 0
-record_told (SetAddr rd rs address) = numbered 3 rd rs address
-record_told (Narrow rd rs length) = numbered 4 rd rs length
-record_told (AndPerm rd rs mask) = numbered 5 rd rs mask
-record_told (StoreCap ra rs) = numbered 6 ra rs 0
-record_told (LoadCap rd ra) = numbered 7 rd ra 0
-record_told (Write ra bytes) = record (numbered 8 ra 0 0) { low = low_half (bits_of_bytes bytes); high = high_half (bits_of_bytes bytes) }
-record_told (Show rs) = numbered 9 rs 0 0
-record_told Sweep = numbered 10 0 0 0
-record_told Begin = numbered 11 0 0 0
-record_told End = numbered 12 0 0 0
+abbrev pub record_of_command : Command → CommandRecord
+record_of_command (Malloc rd size) = number_record 0 rd 0 size
+record_of_command (Free rs) = number_record 1 rs 0 0
+record_of_command (Copy rd rs) = number_record 2 rd rs 0
+record_of_command (SetAddr rd rs address) = number_record 3 rd rs address
+record_of_command (Narrow rd rs length) = number_record 4 rd rs length
+record_of_command (AndPerm rd rs mask) = number_record 5 rd rs mask
+record_of_command (StoreCap ra rs) = number_record 6 ra rs 0
+record_of_command (LoadCap rd ra) = number_record 7 rd ra 0
+record_of_command (Write ra bytes) = record (number_record 8 ra 0 0) { low = low_half (bits_of_bytes bytes); high = high_half (bits_of_bytes bytes) }
+record_of_command (Show rs) = number_record 9 rs 0 0
+record_of_command Sweep = number_record 10 0 0 0
+record_of_command Begin = number_record 11 0 0 0
+record_of_command End = number_record 12 0 0 0
 
 -- ---- replies
 
@@ -102,8 +102,8 @@ trap_number trap.NotBlock = 7
 trap_number trap.Open = 8
 trap_number trap.NotOpen = 9
 
-abbrev pub trap_numbered : ℕ → Option Trap
-trap_numbered n =
+abbrev pub trap_of_number : ℕ → Option Trap
+trap_of_number n =
     if n == 0 then Some trap.Tag
     else if n == 1 then Some trap.Perm
     else if n == 2 then Some trap.Bounds
@@ -117,8 +117,8 @@ trap_numbered n =
     else None
 
 -- A record of this kind, with no more in it.
-abbrev pub bare : ℕ → ReplyRecord
-bare kind = record {
+abbrev pub bare_record : ℕ → ReplyRecord
+bare_record kind = record {
   base = 0;
   top = 0;
   top_high = 0;
@@ -135,7 +135,7 @@ bare kind = record {
 
 -- A record of this kind with a block.
 abbrev pub with_bounds : ℕ → ℕ → ℕ → ReplyRecord
-with_bounds kind base top = record (bare kind) { base = base; top = low_half top; top_high = high_half top }
+with_bounds kind base top = record (bare_record kind) { base = base; top = low_half top; top_high = high_half top }
 
 abbrev pub with_cleared : ReplyRecord → ℕ → ReplyRecord
 with_cleared r cleared = record r { cleared = cleared }
@@ -143,12 +143,12 @@ with_cleared r cleared = record r { cleared = cleared }
 abbrev pub with_bytes : ReplyRecord → ℕ → ReplyRecord
 with_bytes r bytes = record r { bytes = bytes }
 
-abbrev pub trap_told : Trap → ReplyRecord
-trap_told trap = record (bare 10) { trap = trap_number trap }
+abbrev pub record_of_trap : Trap → ReplyRecord
+record_of_trap trap = record (bare_record 10) { trap = trap_number trap }
 
 -- What is shown of a register.
-abbrev pub shown_told : ShownCell → ReplyRecord
-shown_told shown = record (with_bounds 9 shown.base shown.top) {
+abbrev pub record_of_shown : ShownCell → ReplyRecord
+record_of_shown shown = record (with_bounds 9 shown.base shown.top) {
   address = shown.address;
   otype = shown.otype;
   perms = shown.perms;
@@ -157,23 +157,23 @@ shown_told shown = record (with_bounds 9 shown.base shown.top) {
 }
 
 -- The record of a reply: what it doesn't tell is 0.
-abbrev pub reply_told : Reply → ReplyRecord
-reply_told (reply.Block base top) = with_bounds 0 base top
-reply_told (reply.BlockAfter base top cleared) = with_cleared (with_bounds 1 base top) cleared
-reply_told reply.NoSpace = bare 2
-reply_told (reply.NoSpaceAfter cleared) = with_cleared (bare 3) cleared
-reply_told (reply.Held bytes) = with_bytes (bare 4) bytes
-reply_told reply.Done = bare 5
-reply_told reply.Cleared = bare 6
-reply_told (reply.Swept cleared released) = with_bytes (with_cleared (bare 7) cleared) released
-reply_told (reply.Begun cleared) = with_cleared (bare 8) cleared
-reply_told (reply.Shown shown) = shown_told shown
-reply_told (reply.Trap trap) = trap_told trap
+abbrev pub record_of_reply : Reply → ReplyRecord
+record_of_reply (reply.Block base top) = with_bounds 0 base top
+record_of_reply (reply.BlockAfter base top cleared) = with_cleared (with_bounds 1 base top) cleared
+record_of_reply reply.NoSpace = bare_record 2
+record_of_reply (reply.NoSpaceAfter cleared) = with_cleared (bare_record 3) cleared
+record_of_reply (reply.Held bytes) = with_bytes (bare_record 4) bytes
+record_of_reply reply.Done = bare_record 5
+record_of_reply reply.Cleared = bare_record 6
+record_of_reply (reply.Swept cleared released) = with_bytes (with_cleared (bare_record 7) cleared) released
+record_of_reply (reply.Begun cleared) = with_cleared (bare_record 8) cleared
+record_of_reply (reply.Shown shown) = record_of_shown shown
+record_of_reply (reply.Trap trap) = record_of_trap trap
 
 -- A trap as a reply.
-abbrev pub trapped : Option Trap → Option Reply
-trapped None = None
-trapped (Some trap) = Some (reply.Trap trap)
+abbrev pub trap_reply : Option Trap → Option Reply
+trap_reply None = None
+trap_reply (Some trap) = Some (reply.Trap trap)
 
 -- What a record tells of a register, which has this tag.
 abbrev pub cell_of_record : ReplyRecord → Bool → ShownCell
@@ -188,13 +188,13 @@ cell_of_record r tag = record {
 }
 
 -- The reply that shows a register, where the tag is 0 or 1.
-abbrev pub shown_read : ReplyRecord → Option Reply
-shown_read r = where_true (nat_lt r.tag 2) (reply.Shown (cell_of_record r (r.tag == 1)))
+abbrev pub shown_of_record : ReplyRecord → Option Reply
+shown_of_record r = where_true (nat_lt r.tag 2) (reply.Shown (cell_of_record r (r.tag == 1)))
 
 -- The reply of a record: none where no kind has its number, or no trap, or its tag is neither 0 nor 1. What it doesn't
 -- use may be anything.
-unfoldable pub reply_read : ReplyRecord → Option Reply
-reply_read r =
+unfoldable pub reply_of_record : ReplyRecord → Option Reply
+reply_of_record r =
     if r.kind == 0 then Some (reply.Block r.base (wide r.top r.top_high))
     else if r.kind == 1 then Some (reply.BlockAfter r.base (wide r.top r.top_high) r.cleared)
     else if r.kind == 2 then Some reply.NoSpace
@@ -204,41 +204,41 @@ reply_read r =
     else if r.kind == 6 then Some reply.Cleared
     else if r.kind == 7 then Some (reply.Swept r.cleared r.bytes)
     else if r.kind == 8 then Some (reply.Begun r.cleared)
-    else if r.kind == 9 then shown_read r
-    else if r.kind == 10 then trapped (trap_numbered r.trap)
+    else if r.kind == 9 then shown_of_record r
+    else if r.kind == 10 then trap_reply (trap_of_number r.trap)
     else None
 
 -- ---- why an answer isn't allowed
 
 -- A record of this kind, with no more in it.
-abbrev pub reason : ℕ → WhyRecord
-reason kind = record { reply = bare 0; base = 0; top = 0; top_high = 0; count = 0; kind = kind; claim = 0 }
+abbrev pub reason_record : ℕ → WhyRecord
+reason_record kind = record { reply = bare_record 0; base = 0; top = 0; top_high = 0; count = 0; kind = kind; claim = 0 }
 
 -- A place was refused, for the reason of this number; and where a block is in the way.
-abbrev pub refused : ℕ → WhyRecord
-refused claim = record (reason 5) { claim = claim }
+abbrev pub refused_record : ℕ → WhyRecord
+refused_record claim = record (reason_record 5) { claim = claim }
 
-abbrev pub in_the_way : ℕ → ℕ → ℕ → WhyRecord
-in_the_way claim base top = record (refused claim) { base = base; top = low_half top; top_high = high_half top }
+abbrev pub block_record : ℕ → ℕ → ℕ → WhyRecord
+block_record claim base top = record (refused_record claim) { base = base; top = low_half top; top_high = high_half top }
 
 -- The record of a claim, with the block in the way where one is.
-abbrev pub claim_told : Claim → WhyRecord
-claim_told claim.Claimed = refused 0
-claim_told claim.Uneven = refused 1
-claim_told claim.Empty = refused 2
-claim_told claim.Outside = refused 3
-claim_told claim.Inexact = refused 4
-claim_told (claim.OverLive block) = in_the_way 5 block.base block.top
-claim_told (claim.OverHeld block) = in_the_way 6 block.base block.top
+abbrev pub record_of_claim : Claim → WhyRecord
+record_of_claim claim.Claimed = refused_record 0
+record_of_claim claim.Uneven = refused_record 1
+record_of_claim claim.Empty = refused_record 2
+record_of_claim claim.Outside = refused_record 3
+record_of_claim claim.Inexact = refused_record 4
+record_of_claim (claim.OverLive block) = block_record 5 block.base block.top
+record_of_claim (claim.OverHeld block) = block_record 6 block.base block.top
 
 -- The record of a reason.
-abbrev pub why_told : Why → WhyRecord
-why_told (why.MustBe reply) = record (reason 0) { reply = reply_told reply }
-why_told why.NotOfMalloc = reason 1
-why_told why.TooShort = reason 2
-why_told why.MayNotSweep = reason 3
-why_told (why.Takes count) = record (reason 4) { count = count }
-why_told (why.Refused claim) = claim_told claim
+abbrev pub record_of_why : Why → WhyRecord
+record_of_why (why.MustBe reply) = record (reason_record 0) { reply = record_of_reply reply }
+record_of_why why.NotOfMalloc = reason_record 1
+record_of_why why.TooShort = reason_record 2
+record_of_why why.MayNotSweep = reason_record 3
+record_of_why (why.Takes count) = record (reason_record 4) { count = count }
+record_of_why (why.Refused claim) = record_of_claim claim
 
 -- ---- faults of texts
 
@@ -246,13 +246,13 @@ abbrev pub fault_of_line : ℕ → ℕ → FaultRecord
 fault_of_line kind line = record { line = line; kind = kind }
 
 -- The record of a fault.
-abbrev pub fault_told : TraceFault → FaultRecord
-fault_told trace_fault.Memory = fault_of_line 0 0
-fault_told trace_fault.TooLong = fault_of_line 1 0
-fault_told (trace_fault.NoHeap line) = fault_of_line 2 line
-fault_told (trace_fault.BadHeap line) = fault_of_line 3 line
-fault_told (trace_fault.BadCommand line) = fault_of_line 4 line
-fault_told (trace_fault.BadCount line) = fault_of_line 5 line
-fault_told (trace_fault.BadRegister line) = fault_of_line 6 line
-fault_told (trace_fault.BadNumber line) = fault_of_line 7 line
-fault_told (trace_fault.BadData line) = fault_of_line 8 line
+abbrev pub record_of_fault : TraceFault → FaultRecord
+record_of_fault trace_fault.Memory = fault_of_line 0 0
+record_of_fault trace_fault.TooLong = fault_of_line 1 0
+record_of_fault (trace_fault.NoHeap line) = fault_of_line 2 line
+record_of_fault (trace_fault.BadHeap line) = fault_of_line 3 line
+record_of_fault (trace_fault.BadCommand line) = fault_of_line 4 line
+record_of_fault (trace_fault.BadCount line) = fault_of_line 5 line
+record_of_fault (trace_fault.BadRegister line) = fault_of_line 6 line
+record_of_fault (trace_fault.BadNumber line) = fault_of_line 7 line
+record_of_fault (trace_fault.BadData line) = fault_of_line 8 line

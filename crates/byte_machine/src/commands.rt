@@ -3,7 +3,7 @@
 ghost use Rattle.std.specs.Prelude.{◌≡◌, Some};
 ghost use Rattle.cap_codec.specs.Bytes.{bytes_of};
 ghost use Rattle.trace_text.specs.declared.trace.Command.TheVariants.{Write};
-ghost use Rattle.byte_machine.specs.Records.{IsRead, command_told, record_told};
+ghost use Rattle.byte_machine.specs.Records.{IsRead, command_of_record, record_of_command};
 ghost use Rattle.byte_machine.specs.Records as records;
 
 use crate::halves::{high_half, low_half, wide};
@@ -35,7 +35,7 @@ fn bytes_in(given: CommandRecord) -> [u8; 16]
 
 // The command that takes permissions, where its mask is one.
 fn masked(given: CommandRecord) -> Option<Command>
-    ensures { result ≡ records.masked given }
+    ensures { result ≡ records.and_perm_command given }
 {
     if given.number < 65_536 {
         Some(Command::AndPerm {
@@ -49,9 +49,9 @@ fn masked(given: CommandRecord) -> Option<Command>
 }
 
 // The command of a record, whatever its registers.
-#[tactic(auto, unfolding(crate::specs::Records::command_told))]
+#[tactic(auto, unfolding(crate::specs::Records::command_of_record))]
 fn any_command(given: CommandRecord) -> Option<Command>
-    ensures { result ≡ command_told given }
+    ensures { result ≡ command_of_record given }
 {
     let first = given.first;
     let second = given.second;
@@ -114,7 +114,7 @@ pub fn command_of(given: CommandRecord) -> Option<Command>
 
 // A record with these registers and this number.
 fn numbered(kind: u8, first: u8, second: u8, number: u64) -> CommandRecord
-    ensures { result ≡ records.numbered kind first second number }
+    ensures { result ≡ records.number_record kind first second number }
 {
     CommandRecord {
         kind,
@@ -128,7 +128,7 @@ fn numbered(kind: u8, first: u8, second: u8, number: u64) -> CommandRecord
 
 // The record of a write.
 fn written(ra: u8, bytes: [u8; 16]) -> CommandRecord
-    ensures value { result ≡ record_told (Write ra bytes) }
+    ensures value { result ≡ record_of_command (Write ra bytes) }
     ensures back { bytes_of (records.wide result.low result.high) ≡ bytes }
 {
     let word = from_bytes(bytes);
@@ -143,10 +143,10 @@ fn written(ra: u8, bytes: [u8; 16]) -> CommandRecord
 }
 
 /// The record of a command; what it doesn't use is 0.
-#[tactic(auto, unfolding(crate::specs::Records::command_told))]
+#[tactic(auto, unfolding(crate::specs::Records::command_of_record))]
 pub fn record_of(command: Command) -> CommandRecord
-    ensures value { result ≡ record_told command }
-    ensures back { command_told result ≡ Some command }
+    ensures value { result ≡ record_of_command command }
+    ensures back { command_of_record result ≡ Some command }
 {
     match command {
         Command::Malloc { rd, size } => numbered(0, rd, 0, size),

@@ -22,7 +22,7 @@ fn of_line(kind: u8, line: u32) -> FaultRecord
 
 /// The record of a fault.
 pub fn fault_record(fault: &TraceFault) -> FaultRecord
-    ensures { result ≡ records.fault_told fault.now }
+    ensures { result ≡ records.record_of_fault fault.now }
 {
     match *fault {
         TraceFault::Memory => of_line(0, 0),

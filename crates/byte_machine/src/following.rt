@@ -8,7 +8,7 @@ ghost use Rattle.byte_machine.specs.Judged.{IsJudgedBy};
 use crate::fault::CallFault;
 use crate::machines::machine_in;
 use heap_machine::{Followed, Machine, Reply, Why};
-use state_bytes::{encode_into, exactness};
+use state_bytes::{encode_into, exact_blocks_law};
 use std::alloc::Global;
 use sweep_pool::Open;
 use trace_text::Command;
@@ -50,7 +50,7 @@ pub fn follow(
     ensures room { (result ≡ Err CallFault.Room) ↔ (length out.old ≢ length state.now) }
     ensures fault { IfErr result (λ fault. fault ≢ CallFault.Room → IsUnreadable state.now fault) }
 {
-    exactness();
+    exact_blocks_law();
     if out.len() != state.len() {
         return Err(CallFault::Room);
     }

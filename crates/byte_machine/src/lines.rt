@@ -1,7 +1,7 @@
 //! Commands as lines of a trace, and replies as text.
 
 ghost use Rattle.std.specs.Prelude.{◌≡◌, ◌≤◌, ◌<◌, ◌↔◌, ◌++◌, IfErr, IfOk, OnErr, drop, length};
-ghost use Rattle.heap_reply.specs.Answer.{answer_text};
+ghost use Rattle.heap_reply.specs.ReplyText.{text_of_reply};
 ghost use Rattle.trace_text.specs.Command.{IsValid};
 ghost use Rattle.byte_machine.specs.LineCalls.{IsCommandOf, IsLineStep, IsNoCommand, IsNoLineStep};
 
@@ -34,8 +34,8 @@ pub fn command_in(line: &[u8]) -> Result<Command, CallFault>
 // Writes the text of a reply where a text begins; the answer is how many bytes it has.
 fn put_answer(reply: Reply, text: &mut [u8]) -> usize
     requires { 200 ≤ length text.old }
-    ensures count { result ≡ length (answer_text reply) }
-    ensures text { text.new ≡ answer_text reply ++ drop (length (answer_text reply)) text.old }
+    ensures count { result ≡ length (text_of_reply reply) }
+    ensures text { text.new ≡ text_of_reply reply ++ drop (length (text_of_reply reply)) text.old }
 {
     let mut line = ShortText::new();
     put_reply(&mut line, reply);

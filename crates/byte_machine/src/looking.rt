@@ -2,7 +2,7 @@
 
 ghost use Rattle.std.specs.Prelude.{◌≡◌, ◌≤◌, ◌↔◌, ◌≢◌, IfErr, IfOk, MatchOption, ℕ};
 ghost use Rattle.tag_memory.specs.Cells.{register_count};
-ghost use Rattle.byte_machine.specs.Calls.{AreCounts, IsGranule, IsNoGranule, IsRegister, IsUnreadable, StartsAt, word_told};
+ghost use Rattle.byte_machine.specs.Calls.{AreCounts, IsGranule, IsNoGranule, IsRegister, IsUnreadable, StartsAt, record_of_word};
 
 use crate::fault::CallFault;
 use crate::halves::{flag, high_half, low_half};
@@ -31,7 +31,7 @@ pub struct WordRecord {
 }
 
 fn word_of(bits: u128, tag: bool) -> WordRecord
-    ensures { result ≡ word_told bits tag }
+    ensures { result ≡ record_of_word bits tag }
 {
     WordRecord {
         low: low_half(bits),

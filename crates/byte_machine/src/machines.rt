@@ -8,7 +8,7 @@ ghost use Rattle.byte_machine.specs.Calls.{IsTextOf, IsUnreadable};
 
 use crate::fault::CallFault;
 use heap_machine::Machine;
-use state_bytes::{BytesFault, decode, encode, encode_into, text_length, texts};
+use state_bytes::{BytesFault, decode, encode, encode_into, one_text_law, text_length};
 use std::alloc::Global;
 use sweep_pool::Cutting;
 
@@ -29,7 +29,7 @@ pub fn machine_in(alloc: Global, state: &[u8]) -> Result<Machine, CallFault>
     ensures room { IfOk result (λ machine. text.text_length (length machine.dirty) ≡ length state.now) }
     ensures fault { IfErr result (IsUnreadable state.now) }
 {
-    texts();
+    one_text_law();
     match decode(alloc, alone(), state) {
         Ok(machine) => Ok(machine),
         Err(BytesFault::Memory) => Err(CallFault::Memory),
@@ -56,7 +56,7 @@ pub fn put_state(machine: &Machine, out: &mut [u8]) -> bool
     ensures still { result ≡ false → out.new ≡ out.old }
     ensures room { (result ≡ false) ↔ (length out.old ≢ text.text_length (length machine.now.dirty)) }
 {
-    machine.memory().whole();
+    machine.memory().invariant();
     if out.len() != text_length(machine.memory().pages()) {
         return false;
     }

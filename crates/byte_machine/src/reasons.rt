@@ -24,7 +24,7 @@ pub struct WhyRecord {
 }
 
 fn reason(kind: u8) -> WhyRecord
-    ensures { result ≡ records.reason kind }
+    ensures { result ≡ records.reason_record kind }
 {
     WhyRecord {
         kind,
@@ -38,13 +38,13 @@ fn reason(kind: u8) -> WhyRecord
 }
 
 fn refused(claim: u8) -> WhyRecord
-    ensures { result ≡ records.refused claim }
+    ensures { result ≡ records.refused_record claim }
 {
     WhyRecord { claim, ..reason(5) }
 }
 
 fn in_the_way(claim: u8, block: Block) -> WhyRecord
-    ensures { result ≡ records.in_the_way claim block.base block.top }
+    ensures { result ≡ records.block_record claim block.base block.top }
 {
     WhyRecord {
         base: block.base,
@@ -55,7 +55,7 @@ fn in_the_way(claim: u8, block: Block) -> WhyRecord
 }
 
 fn claim_record(claim: Claim) -> WhyRecord
-    ensures { result ≡ records.claim_told claim }
+    ensures { result ≡ records.record_of_claim claim }
 {
     match claim {
         Claim::Claimed => refused(0),
@@ -70,7 +70,7 @@ fn claim_record(claim: Claim) -> WhyRecord
 
 /// The record of a reason; what it doesn't tell is 0.
 pub fn why_record(why: Why) -> WhyRecord
-    ensures { result ≡ records.why_told why }
+    ensures { result ≡ records.record_of_why why }
 {
     match why {
         Why::MustBe(reply) => WhyRecord {

@@ -28,7 +28,7 @@ pub struct ReplyRecord {
 
 // A record of this kind, with no more in it.
 pub fn bare(kind: u8) -> ReplyRecord
-    ensures { result ≡ records.bare kind }
+    ensures { result ≡ records.bare_record kind }
 {
     ReplyRecord {
         kind,
@@ -70,7 +70,7 @@ fn with_bytes(given: ReplyRecord, bytes: u64) -> ReplyRecord
 }
 
 fn shown_record(shown: Shown) -> ReplyRecord
-    ensures { result ≡ records.shown_told shown }
+    ensures { result ≡ records.record_of_shown shown }
 {
     ReplyRecord {
         address: shown.address,
@@ -100,7 +100,7 @@ fn trap_number(trap: Trap) -> u8
 }
 
 fn trap_record(trap: Trap) -> ReplyRecord
-    ensures { result ≡ records.trap_told trap }
+    ensures { result ≡ records.record_of_trap trap }
 {
     ReplyRecord {
         trap: trap_number(trap),
@@ -110,14 +110,14 @@ fn trap_record(trap: Trap) -> ReplyRecord
 
 /// The record of a reply; what it doesn't tell is 0.
 pub fn reply_record(reply: Reply) -> ReplyRecord
-    ensures value { result ≡ records.reply_told reply }
-    ensures back { records.reply_read result ≡ Some reply }
+    ensures value { result ≡ records.record_of_reply reply }
+    ensures back { records.reply_of_record result ≡ Some reply }
 {
     told(reply)
 }
 
 fn told(reply: Reply) -> ReplyRecord
-    ensures { result ≡ records.reply_told reply }
+    ensures { result ≡ records.record_of_reply reply }
 {
     match reply {
         Reply::Block { base, top } => with_bounds(0, base, top),
@@ -138,7 +138,7 @@ fn told(reply: Reply) -> ReplyRecord
 }
 
 fn trap_numbered(number: u8) -> Option<Trap>
-    ensures { result ≡ records.trap_numbered number }
+    ensures { result ≡ records.trap_of_number number }
 {
     match number {
         0 => Some(Trap::Tag),
@@ -157,7 +157,7 @@ fn trap_numbered(number: u8) -> Option<Trap>
 
 // The trap of a record, as a reply.
 fn trapped(given: ReplyRecord) -> Option<Reply>
-    ensures { result ≡ records.trapped (records.trap_numbered given.trap) }
+    ensures { result ≡ records.trap_reply (records.trap_of_number given.trap) }
 {
     match trap_numbered(given.trap) {
         Some(trap) => Some(Reply::Trap(trap)),
@@ -167,7 +167,7 @@ fn trapped(given: ReplyRecord) -> Option<Reply>
 
 // What a record shows of a register.
 fn shown(given: ReplyRecord) -> Option<Reply>
-    ensures { result ≡ records.shown_read given }
+    ensures { result ≡ records.shown_of_record given }
 {
     if given.tag < 2 {
         Some(Reply::Shown(Shown {
@@ -186,9 +186,9 @@ fn shown(given: ReplyRecord) -> Option<Reply>
 
 /// The reply of a record. None where no kind or no trap has its number, or where its tag is neither 0 nor 1; what a kind
 /// doesn't use isn't looked at.
-#[tactic(auto, unfolding(crate::specs::Records::reply_read))]
+#[tactic(auto, unfolding(crate::specs::Records::reply_of_record))]
 pub fn reply_of(given: ReplyRecord) -> Option<Reply>
-    ensures { result ≡ records.reply_read given }
+    ensures { result ≡ records.reply_of_record given }
 {
     let base = given.base;
     let top = wide(given.top, given.top_high);

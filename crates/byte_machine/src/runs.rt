@@ -1,14 +1,14 @@
 //! Whole texts, run by the calling thread alone.
 
 ghost use Rattle.std.specs.Prelude.{◌≡◌, ◌≢◌, ◌<◌, ◌≤◌, ◌++◌, Err, IfErr, IfOk, OnErr, drop, length};
-ghost use Rattle.state_text.specs.States.{IsDataOf};
+ghost use Rattle.state_data.specs.States.{IsDataOf};
 ghost use Rattle.trace_text.specs.Reading.{trace_of};
 ghost use Rattle.trace_text.specs.declared.fault.TraceFault.{TraceFault as TheTraceFault};
 ghost use Rattle.byte_machine.specs.Runs.{IsReportOf};
 
 use crate::machines::alone;
 use heap_trace::{Outcome, RunFault, TraceFault, run_alone};
-use state_text::states_alone;
+use state_data::states_alone;
 use std::alloc::Global;
 
 /// The report of the trace that a text is. Nothing runs where the text is faulty. Want of memory is `RunFault::Memory`, also
@@ -39,7 +39,7 @@ pub fn run_states(alloc: Global, text: &[u8]) -> Result<Vec<u8>, RunFault>
 
 /// Copies all of a text to where a room begins. The answer is how long the text is, and an error where the room is shorter:
 /// then nothing is written.
-pub fn put_whole(whole: &[u8], out: &mut [u8]) -> Result<usize, usize>
+pub fn put_all(whole: &[u8], out: &mut [u8]) -> Result<usize, usize>
     ensures ok { IfOk result (λ count. (count ≡ length whole.now) × (out.new ≡ whole.now ++ drop (length whole.now) out.old)) }
     ensures short { IfErr result (λ count. (count ≡ length whole.now) × (length out.old < count)) }
     ensures still { OnErr result (out.new ≡ out.old) }

@@ -1,8 +1,8 @@
 //! The first state, and commands, from bytes to bytes.
 
 ghost use Rattle.std.specs.Prelude.{◌≡◌, ◌≢◌, ◌↔◌, IfErr, IfOk, MatchOption, OnErr, OnOk, Some, None, false, length, true};
-ghost use Rattle.heap_machine.specs.Follow.{Follows};
-ghost use Rattle.heap_machine.specs.Step.{Step};
+ghost use Rattle.machine_steps.specs.Follow.{Follows};
+ghost use Rattle.machine_steps.specs.Step.{Step};
 ghost use Rattle.state_bytes.specs.Text as text;
 ghost use Rattle.tag_memory.specs.Extent as extent;
 ghost use Rattle.trace_text.specs.Command.{IsValid};
@@ -11,7 +11,7 @@ ghost use Rattle.byte_machine.specs.Calls.{IsFirst, IsJudged, IsNotFirst, IsStep
 use crate::fault::CallFault;
 use crate::machines::{alone, machine_in};
 use heap_machine::{Followed, Machine, Reply};
-use state_bytes::{encode_into, exactness, text_length};
+use state_bytes::{encode_into, exact_blocks_law, text_length};
 use std::alloc::Global;
 use sweep_pool::Open;
 use tag_memory::{is_base, is_size};
@@ -34,7 +34,7 @@ pub fn first(alloc: Global, base: u64, pages: u32, out: &mut [u8]) -> Result<(),
     ensures still { OnErr result (out.new ≡ out.old) }
     ensures fault { IfErr result (IsNotFirst base pages (length out.old)) }
 {
-    exactness();
+    exact_blocks_law();
     let Some(length) = state_length(pages) else {
         return Err(CallFault::BadSize);
     };
@@ -79,7 +79,7 @@ pub fn step(
     ensures room { (result ≡ Err CallFault.Room) ↔ (length out.old ≢ length state.now) }
     ensures fault { IfErr result (λ fault. fault ≢ CallFault.Room → IsUnreadable state.now fault) }
 {
-    exactness();
+    exact_blocks_law();
     if out.len() != state.len() {
         return Err(CallFault::Room);
     }

@@ -9,7 +9,7 @@ use Rattle.cap_codec.specs.declared.word.Bounds.{Bounds}
 use Rattle.cap_codec.specs.declared.word.Fields.{Fields}
 use Rattle.cap_codec.specs.Integers.{IsCongruent, IsWithin}
 use Rattle.cap_codec.specs.Mantissas.{base_mantissa, exponent_of, top_mantissa}
-use Rattle.cap_codec.specs.Bounds.{IsBase, IsBounds, IsPlaceOf, IsTop, IsWindow, base_place, bounds_of, corrected, origin, place_in, top_place, window_mark, window_size, window_start}
+use Rattle.cap_codec.specs.Bounds.{IsBase, IsBounds, IsPlaceOf, IsTop, IsWindow, base_place, bounds_of, top_from, origin, place_in, top_place, window_mark, window_size, window_start}
 use Rattle.cap_codec.proofs.IntegerLaws.{IsCongruent-sym, IsCongruent-trans, near_integers}
 use Rattle.cap_codec.proofs.CountedBounds.{IsBounds-counted, IsPlaceAt, IsTopAt, IsWindowAt}
 use Rattle.cap_codec.proofs.PlaceLaws.{place_in-congruent, place_in-lt}
@@ -28,19 +28,19 @@ IsWindowAt-window_start f =
 pub IsPlaceAt-place_in : (low size x : ℕ) → 0 < size → IsPlaceAt low size x (place_in low size x)
 IsPlaceAt-place_in low size x h = record { from = omega arith; before = place_in-lt low size x h; congruent = place_in-congruent low size x h }
 
-corrected-lt : (e base r : ℕ) → r < 2 ^ 65 → corrected e base r < 2 ^ 65
+corrected-lt : (e base r : ℕ) → r < 2 ^ 65 → top_from e base r < 2 ^ 65
 corrected-lt e base r h = grind (arith, nat_tests)
 
-corrected-congruent : (e base r : ℕ) → corrected e base r % 2 ^ 64 ≡ r % 2 ^ 64
+corrected-congruent : (e base r : ℕ) → top_from e base r % 2 ^ 64 ≡ r % 2 ^ 64
 corrected-congruent e base r = grind (arith, nat_tests)
 
-corrected-large : (e base r : ℕ) → 51 ≤ e → corrected e base r ≡ r
+corrected-large : (e base r : ℕ) → 51 ≤ e → top_from e base r ≡ r
 corrected-large e base r h = grind (arith, nat_tests)
 
-corrected-near : (e base r : ℕ) → base < 2 ^ 64 → r < 2 ^ 65 → e < 51 → (corrected e base r / 2 ^ 63 + 4 - base / 2 ^ 63) % 4 ≤ 1
+corrected-near : (e base r : ℕ) → base < 2 ^ 64 → r < 2 ^ 65 → e < 51 → (top_from e base r / 2 ^ 63 + 4 - base / 2 ^ 63) % 4 ≤ 1
 corrected-near e base r h k s = grind (arith, nat_tests)
 
-pub IsTopAt-corrected : (e base t : ℕ) → base < 2 ^ 64 → IsTopAt e base t (corrected e base (t % 2 ^ 65))
+pub IsTopAt-corrected : (e base t : ℕ) → base < 2 ^ 64 → IsTopAt e base t (top_from e base (t % 2 ^ 65))
 IsTopAt-corrected e base t h =
     let small : t % 2 ^ 65 < 2 ^ 65 = omega arith in
     record {
@@ -56,7 +56,7 @@ unfolding bounds_of
 IsBounds-bounds_of f =
     let small : base_place f % 2 ^ 64 < 2 ^ 64 = omega arith in
     let size = window_size-pos f in
-    IsBounds-counted f (base_place f % 2 ^ 64) (corrected (exponent_of f) (base_place f % 2 ^ 64) (top_place f % 2 ^ 65)) (record {
+    IsBounds-counted f (base_place f % 2 ^ 64) (top_from (exponent_of f) (base_place f % 2 ^ 64) (top_place f % 2 ^ 65)) (record {
       low = window_start f;
       b = base_place f;
       t = top_place f;
@@ -146,7 +146,7 @@ same_ends p q =
 pub bounds_of-parts : (f : Fields) (e unit size mark low b t top : ℕ) → e ≡ exponent_of f → unit ≡ 2 ^ exponent_of f → size ≡ window_size f → mark ≡ window_mark f
     → low ≡ place_in (origin + f.address + 1 - size) size mark
     → b ≡ place_in low size (base_mantissa f * unit) → t ≡ place_in low size (top_mantissa f * unit)
-    → top ≡ corrected e (b % 2 ^ 64) (t % 2 ^ 65)
+    → top ≡ top_from e (b % 2 ^ 64) (t % 2 ^ 65)
     → (let r : Bounds = record { base = b % 2 ^ 64; top = top } in r) ≡ bounds_of f
 unfolding bounds_of
 bounds_of-parts f e unit size mark low b t top ee ue se me le be te pe = cc

@@ -8,7 +8,7 @@ use Rattle.cap_codec.specs.declared.word.Fields.{Fields}
 use Rattle.cap_codec.specs.Fields.{IsValid}
 use Rattle.cap_codec.specs.Bounds.{bounds_of, origin, window_mark, window_size}
 use Rattle.cap_codec.specs.Mantissas.{base_mantissa, exponent_of, top_mantissa}
-use Rattle.cap_codec.specs.Rounding.{IsExponent, exponent_for, is_short, outward, outward_base, outward_top, round_down, round_up, with_bounds_of}
+use Rattle.cap_codec.specs.Rounding.{IsExponent, exponent_for, is_short, outward_bounds, outward_base, outward_top, round_down, round_up, with_bounds_of}
 use Rattle.cap_codec.proofs.BoundsLaws.{IsBounds-bounds_of, IsBounds-unique, same_bounds}
 use Rattle.cap_codec.proofs.CountedBounds.{IsBounds-counted, IsBoundsAt, IsPlaceAt, IsWindowAt}
 use Rattle.cap_codec.proofs.WindowSizes.{origin_is}
@@ -232,9 +232,9 @@ IsBoundsAt-with_bounds_of f base top order room small =
     rw n (bounds_long f base top (exponent_for base top) (IsExponent-exponent_for base top order room) (exponent_for-le base top) order room small l))
     (cases_Bool (is_short base top))
 
-pub bounds_of-with_bounds_of : (f : Fields) (base top : ℕ) → base ≤ top → top ≤ 2 ^ 64 → base < 2 ^ 64 → bounds_of (with_bounds_of f base top) ≡ outward base top
+pub bounds_of-with_bounds_of : (f : Fields) (base top : ℕ) → base ≤ top → top ≤ 2 ^ 64 → base < 2 ^ 64 → bounds_of (with_bounds_of f base top) ≡ outward_bounds base top
 bounds_of-with_bounds_of f base top order room small =
     let g = with_bounds_of f base top in
     let meets = IsBounds-counted g (outward_base base top) (outward_top base top) (IsBoundsAt-with_bounds_of f base top order room small) in
     let u = IsBounds-unique g (bounds_of g).base (bounds_of g).top (outward_base base top) (outward_top base top) (IsBounds-bounds_of g) meets in
-    same_bounds (bounds_of g) (outward base top) u.0 u.1
+    same_bounds (bounds_of g) (outward_bounds base top) u.0 u.1

@@ -7,7 +7,7 @@ use Rattle.std.proofs.lemmas.Nat.{pow-add, pow_pos}
 use Rattle.cap_codec.specs.declared.word.Bounds.{Bounds}
 use Rattle.cap_codec.specs.declared.word.Fields.{Fields}
 use Rattle.cap_codec.specs.declared.word.Word.{Word}
-use Rattle.cap_codec.specs.Bounds.{base_place, bounds_of, corrected, top_place}
+use Rattle.cap_codec.specs.Bounds.{base_place, bounds_of, top_from, top_place}
 use Rattle.cap_codec.specs.Fields.{IsValid, bits_with, fields_of}
 use Rattle.cap_codec.specs.Mantissas.{exponent_of}
 use Rattle.cap_codec.specs.Rounding.{IsDecoded, IsExact, with_bounds_of}
@@ -104,9 +104,9 @@ IsExact-decoded f base top v order room h =
     let t = units.1 in
     let are = units.2 in
     let base_here : base_place f % 2 ^ 64 ≡ base = ap (λ (r : Bounds). r.base) h in
-    let top_here : corrected e (base_place f % 2 ^ 64) (top_place f % 2 ^ 65) ≡ top = ap (λ (r : Bounds). r.top) h in
+    let top_here : top_from e (base_place f % 2 ^ 64) (top_place f % 2 ^ 65) ≡ top = ap (λ (r : Bounds). r.top) h in
     let small : base_place f % 2 ^ 64 < 2 ^ 64 = omega arith in
-    let placed : IsTopAt e (base_place f % 2 ^ 64) (top_place f) (corrected e (base_place f % 2 ^ 64) (top_place f % 2 ^ 65)) =
+    let placed : IsTopAt e (base_place f % 2 ^ 64) (top_place f) (top_from e (base_place f % 2 ^ 64) (top_place f % 2 ^ 65)) =
     IsTopAt-corrected e (base_place f % 2 ^ 64) (top_place f) small in
     let p : IsTopAt e base (t * 2 ^ e) top =
     subst (λ x. IsTopAt e base x top) are.top (subst (λ x. IsTopAt e x (top_place f) top) base_here (subst (λ x. IsTopAt e (base_place f % 2 ^ 64) (top_place f) x) top_here placed)) in

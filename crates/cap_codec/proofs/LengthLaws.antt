@@ -7,7 +7,7 @@ use Rattle.std.proofs.lemmas.Bool.Decides.{nat_tests}
 use Rattle.std.proofs.lemmas.Nat.{pow-add}
 use Rattle.cap_codec.specs.declared.word.Bounds.{Bounds}
 use Rattle.cap_codec.specs.Laws.{le-round_up}
-use Rattle.cap_codec.specs.Rounding.{Fits, exponent_for, is_short, length_for, outward, outward_base, outward_top, round_down, round_up, unit_for}
+use Rattle.cap_codec.specs.Rounding.{Fits, exponent_for, is_short, length_for, outward_bounds, outward_base, outward_top, round_down, round_up, unit_for}
 use Rattle.cap_codec.proofs.BoundsLaws.{same_bounds}
 use Rattle.cap_codec.proofs.RoundingLaws.{IsExponent-exponent_for, round_down-le, round_up-least}
 
@@ -29,7 +29,7 @@ round_up-same k j n h z =
 
 -- Bounds that are multiples of a unit for which they are short enough stay as they are.
 pub outward-aligned : (base l e : ℕ) → base % 2 ^ (e + 3) ≡ 0 → l % 2 ^ (e + 3) ≡ 0 → l < 2 ^ (e + 13) → base + l ≤ 2 ^ 64
-    → outward base (base + l) ≡ record { base = base; top = base + l }
+    → outward_bounds base (base + l) ≡ record { base = base; top = base + l }
 outward-aligned base l e zb zl short room =
     let unit = 2 ^ (e + 3) in
     let sum : (base + l) % 2 ^ (e + 3) ≡ 0 = add-mod base l unit ∙ (ap (λ x. (x + l % unit) % unit) zb ∙ (ap (λ x. (0 + x) % unit) zl ∙ zero-mod unit)) in
@@ -42,9 +42,9 @@ outward-aligned base l e zb zl short room =
     let up : round_up (d + 3) (base + l) ≡ base + l = round_up-same (d + 3) (e + 3) (base + l) (omega (arith, least)) sum in
     let low : outward_base base (base + l) ≡ base = ⊎_elim (λ t. rw t refl) (λ f. rw f down) (cases_Bool (is_short base (base + l))) in
     let high : outward_top base (base + l) ≡ base + l = ⊎_elim (λ t. rw t refl) (λ f. rw f up) (cases_Bool (is_short base (base + l))) in
-    same_bounds (outward base (base + l)) (record { base = base; top = base + l }) low high
+    same_bounds (outward_bounds base (base + l)) (record { base = base; top = base + l }) low high
 
-pub outward-short : (base l : ℕ) → l < 2 ^ 12 → outward base (base + l) ≡ record { base = base; top = base + l }
+pub outward-short : (base l : ℕ) → l < 2 ^ 12 → outward_bounds base (base + l) ≡ record { base = base; top = base + l }
 outward-short base l h = let short : is_short base (base + l) ≡ true = grind (arith, nat_tests) in rw short refl
 
 -- ---- the representable length and its unit
@@ -66,7 +66,7 @@ unfolding unit_for
 unit_for-long n h = let long : is_short 0 n ≡ false = grind (arith, nat_tests) in rw long refl
 
 pub outward-length_for : (n base : ℕ) → n < 2 ^ 64 → base % unit_for n ≡ 0 → base + length_for n ≤ 2 ^ 64
-    → outward base (base + length_for n) ≡ record { base = base; top = base + length_for n }
+    → outward_bounds base (base + length_for n) ≡ record { base = base; top = base + length_for n }
 outward-length_for n base h a r =
     ⊎_elim
     (λ short. rw (length_for-short n short) (outward-short base n short))
@@ -91,7 +91,7 @@ unit-splits d e j h =
     omega arith
 
 -- No length from n on that is held from address 0 is less.
-pub length_for-least : (n m : ℕ) → n ≤ m → m ≤ 2 ^ 64 → outward 0 m ≡ record { base = 0; top = m } → length_for n ≤ m
+pub length_for-least : (n m : ℕ) → n ≤ m → m ≤ 2 ^ 64 → outward_bounds 0 m ≡ record { base = 0; top = m } → length_for n ≤ m
 length_for-least n m h room held =
     ⊎_elim
     (λ short. rw (length_for-short n short) h)

@@ -6,7 +6,7 @@ use Rattle.std.proofs.lemmas.Bool.{cases_lt}
 use Rattle.cap_codec.specs.declared.word.Bounds.{Bounds}
 use Rattle.cap_codec.specs.declared.word.Fields.{Fields}
 use Rattle.cap_codec.specs.Mantissas.{base_mantissa, exponent_of, top_mantissa}
-use Rattle.cap_codec.specs.Bounds.{base_place, bounds_of, corrected, origin, place_in, top_place, window_size, window_start}
+use Rattle.cap_codec.specs.Bounds.{base_place, bounds_of, top_from, origin, place_in, top_place, window_size, window_start}
 use Rattle.cap_codec.specs.Representable.{IsInWindow, IsRepresentable, is_representable}
 use Rattle.cap_codec.proofs.BoundsLaws.{IsTopAt-corrected, IsWindowAt-window_start, near_unique, same_bounds, same_ends}
 use Rattle.cap_codec.proofs.CountedBounds.{IsWindowAt, IsWindowAt-unique}
@@ -24,7 +24,7 @@ place-shift m low low' x e =
     omega arith
 
 -- The top of an exponent below 51 follows from t modulo 2 ^ 64.
-top-follows : (e base t t' : ℕ) → e < 51 → base < 2 ^ 64 → t' % 2 ^ 64 ≡ t % 2 ^ 64 → corrected e base (t' % 2 ^ 65) ≡ corrected e base (t % 2 ^ 65)
+top-follows : (e base t t' : ℕ) → e < 51 → base < 2 ^ 64 → t' % 2 ^ 64 ≡ t % 2 ^ 64 → top_from e base (t' % 2 ^ 65) ≡ top_from e base (t % 2 ^ 65)
 top-follows e base t t' l h s =
     let p = IsTopAt-corrected e base t' h in
     let q = IsTopAt-corrected e base t h in
@@ -54,8 +54,8 @@ same-below_51 f a l s =
     let base : base_place g % 2 ^ 64 ≡ base_place f % 2 ^ 64 = shift-64 (window_start f) (window_start g) (base_place f) (base_place g) s b in
     let top : top_place g % 2 ^ 64 ≡ top_place f % 2 ^ 64 = shift-64 (window_start f) (window_start g) (top_place f) (top_place g) s t in
     let small : base_place f % 2 ^ 64 < 2 ^ 64 = omega arith in
-    let tops : corrected (exponent_of f) (base_place g % 2 ^ 64) (top_place g % 2 ^ 65) ≡ corrected (exponent_of f) (base_place f % 2 ^ 64) (top_place f % 2 ^ 65) =
-    ap (λ x. corrected (exponent_of f) x (top_place g % 2 ^ 65)) base ∙ top-follows (exponent_of f) (base_place f % 2 ^ 64) (top_place f) (top_place g) l small top in
+    let tops : top_from (exponent_of f) (base_place g % 2 ^ 64) (top_place g % 2 ^ 65) ≡ top_from (exponent_of f) (base_place f % 2 ^ 64) (top_place f % 2 ^ 65) =
+    ap (λ x. top_from (exponent_of f) x (top_place g % 2 ^ 65)) base ∙ top-follows (exponent_of f) (base_place f % 2 ^ 64) (top_place f) (top_place g) l small top in
     same_bounds (bounds_of g) (bounds_of f) base tops
 
 -- The two windows' starts are congruent modulo each power of 2 up to the window's size.
@@ -79,8 +79,8 @@ same-from_51 f a l =
     let h65 : 65 ≤ exponent_of f + 14 = omega arith in
     let base : base_place g % 2 ^ 64 ≡ base_place f % 2 ^ 64 = shift-64 (window_start f) (window_start g) (base_place f) (base_place g) (coarse-at f a 64 h64) b in
     let top : top_place g % 2 ^ 65 ≡ top_place f % 2 ^ 65 = shift-65 (window_start f) (window_start g) (top_place f) (top_place g) (coarse-at f a 65 h65) t in
-    let tops : corrected (exponent_of f) (base_place g % 2 ^ 64) (top_place g % 2 ^ 65) ≡ corrected (exponent_of f) (base_place f % 2 ^ 64) (top_place f % 2 ^ 65) =
-    ap (λ x. corrected (exponent_of f) x (top_place g % 2 ^ 65)) base ∙ ap (λ x. corrected (exponent_of f) (base_place f % 2 ^ 64) x) top in
+    let tops : top_from (exponent_of f) (base_place g % 2 ^ 64) (top_place g % 2 ^ 65) ≡ top_from (exponent_of f) (base_place f % 2 ^ 64) (top_place f % 2 ^ 65) =
+    ap (λ x. top_from (exponent_of f) x (top_place g % 2 ^ 65)) base ∙ ap (λ x. top_from (exponent_of f) (base_place f % 2 ^ 64) x) top in
     same_bounds (bounds_of g) (bounds_of f) base tops
 
 same-from_50 : (f : Fields) (a : ℕ) → 50 ≤ exponent_of f → IsRepresentable f a

@@ -6,8 +6,8 @@ use Rattle.cap_codec.specs.declared.word.Fields.{Fields}
 use Rattle.cap_codec.specs.declared.word.Word.{Word}
 use Rattle.cap_codec.specs.Bounds.{bounds_of}
 use Rattle.cap_codec.specs.Fields.{IsValid, bits_with, fields_of}
-use Rattle.cap_codec.specs.Rounding.{IsExact, outward, with_bounds_of}
-use Rattle.cap_codec.specs.Words.{block_fields, bounds_in, capability_of, is_exact, keeps_bounds, narrowed, with_address, with_perms}
+use Rattle.cap_codec.specs.Rounding.{IsExact, outward_bounds, with_bounds_of}
+use Rattle.cap_codec.specs.Words.{block_fields, bounds_in, capability_of, is_exact, keeps_bounds, narrowed_word, with_address, with_perms}
 use Rattle.cap_codec.proofs.BoundsLaws.{same_ends}
 use Rattle.cap_codec.proofs.CorrectedWindow.{same_tests}
 use Rattle.cap_codec.proofs.EncodeLaws.{IsValid-with_bounds_of, bounds_of-with_bounds_of}
@@ -21,18 +21,18 @@ unfolding with_bounds_of
 IsInRange-bounded f base top perms small = record { perms = search (arith, perms, small); address = search (arith, perms, small) }
 
 bounds_of-bounded : (f : Fields) (base top : ℕ) → IsValid f → f.perms < 2 ^ 16 → base < 2 ^ 64 → base ≤ top → top ≤ 2 ^ 64
-    → bounds_of (fields_of (record { bits = bits_with (with_bounds_of f base top) })) ≡ outward base top
+    → bounds_of (fields_of (record { bits = bits_with (with_bounds_of f base top) })) ≡ outward_bounds base top
 bounds_of-bounded f base top valid perms small order room =
     let g = with_bounds_of f base top in
     ap bounds_of (fields_of-bits_with g (record { bits = bits_with g }) (IsValid-with_bounds_of f base top valid) (IsInRange-bounded f base top perms small) refl)
     ∙ bounds_of-with_bounds_of f base top order room small
 
-pub bounds_in-narrowed : (w : Word) (base top : ℕ) → base < 2 ^ 64 → base ≤ top → top ≤ 2 ^ 64 → bounds_in (narrowed w base top) ≡ outward base top
-unfolding narrowed
+pub bounds_in-narrowed : (w : Word) (base top : ℕ) → base < 2 ^ 64 → base ≤ top → top ≤ 2 ^ 64 → bounds_in (narrowed_word w base top) ≡ outward_bounds base top
+unfolding narrowed_word
 bounds_in-narrowed w base top small order room =
     bounds_of-bounded (fields_of w) base top (IsValid-fields_of w) (IsInRange-fields_of w).perms small order room
 
-pub bounds_in-capability_of : (base top : ℕ) → base < 2 ^ 64 → base ≤ top → top ≤ 2 ^ 64 → bounds_in (capability_of base top) ≡ outward base top
+pub bounds_in-capability_of : (base top : ℕ) → base < 2 ^ 64 → base ≤ top → top ≤ 2 ^ 64 → bounds_in (capability_of base top) ≡ outward_bounds base top
 unfolding capability_of
 bounds_in-capability_of base top small order room =
     let v = IsValid-fields_of (record { bits = 0 }) in
@@ -43,7 +43,7 @@ bounds_in-capability_of base top small order room =
 
 pub is_exact-is : (base top : ℕ) → IsTrue (is_exact base top) ↔ IsExact base top
 unfolding is_exact
-is_exact-is base top = same_ends (outward base top) (record { base = base; top = top })
+is_exact-is base top = same_ends (outward_bounds base top) (record { base = base; top = top })
 
 pub is_exact-flag : (t : Bool) (base top : ℕ) → IsTrue t ↔ IsExact base top → t ≡ is_exact base top
 is_exact-flag t base top h =

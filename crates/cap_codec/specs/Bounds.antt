@@ -82,13 +82,13 @@ top_place f = place_in (window_start f) (window_size f) (top_mantissa f * 2 ^ ex
 
 -- The top from t modulo 2 ^ 65: bit 64 is inverted where the exponent is below 51 and bits 64 and 63
 -- are neither bit 63 of the base nor one more.
-abbrev pub corrected : ℕ → ℕ → ℕ → ℕ
-corrected exponent base top =
+abbrev pub top_from : ℕ → ℕ → ℕ → ℕ
+top_from exponent base top =
     if nat_lt exponent 51 && nat_lt 1 ((top / 2 ^ 63 + 4 - base / 2 ^ 63) % 4) then (top + 2 ^ 64) % 2 ^ 65 else top
 
 -- The bounds of the word with these fields.
 unfoldable pub bounds_of : Fields → Bounds
 bounds_of f = record {
   base = base_place f % 2 ^ 64;
-  top = corrected (exponent_of f) (base_place f % 2 ^ 64) (top_place f % 2 ^ 65);
+  top = top_from (exponent_of f) (base_place f % 2 ^ 64) (top_place f % 2 ^ 65);
 }

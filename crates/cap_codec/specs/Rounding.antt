@@ -65,12 +65,12 @@ outward_base base top = if is_short base top then base else round_down (exponent
 abbrev pub outward_top : ℕ → ℕ → ℕ
 outward_top base top = if is_short base top then top else round_up (exponent_for base top + 3) top
 
-abbrev pub outward : ℕ → ℕ → Bounds
-outward base top = record { base = outward_base base top; top = outward_top base top }
+abbrev pub outward_bounds : ℕ → ℕ → Bounds
+outward_bounds base top = record { base = outward_base base top; top = outward_top base top }
 
 -- A word can hold these bounds as they are: they are the same once they are rounded outward.
 abbrev pub IsExact : ℕ → ℕ → Type 0
-IsExact base top = outward base top ≡ record { base = base; top = top }
+IsExact base top = outward_bounds base top ≡ record { base = base; top = top }
 
 -- Some word decodes to these bounds.
 pub record IsDecoded (base top : ℕ) : Type 0 where

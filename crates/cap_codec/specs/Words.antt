@@ -58,8 +58,8 @@ unfoldable pub with_perms : Word → ℕ → Word
 with_perms w mask = record { bits = bits_with (record (fields_of w) { perms = bit_and (fields_of w).perms mask }) }
 
 -- The word with these bounds, its address the base, and whether a word can hold them as they are.
-unfoldable pub narrowed : Word → ℕ → ℕ → Word
-narrowed w base top = record { bits = bits_with (with_bounds_of (fields_of w) base top) }
+unfoldable pub narrowed_word : Word → ℕ → ℕ → Word
+narrowed_word w base top = record { bits = bits_with (with_bounds_of (fields_of w) base top) }
 
 unfoldable pub is_exact : ℕ → ℕ → Bool
 is_exact base top = (outward_base base top == base) && (outward_top base top == top)

@@ -7,6 +7,11 @@ use crate::word::Word;
 use byteorder::{ByteOrder, LittleEndian};
 
 /// The word that these bytes hold.
+///
+/// ```rust
+/// let word = cap_codec::from_bytes([0; 16]);
+/// assert_eq!(rt; word, cap_codec::Word::NULL);
+/// ```
 pub fn from_bytes(bytes: [u8; 16]) -> Word
     ensures value { result.bits ≡ bits_of_bytes bytes }
     ensures back { bytes_of result.bits ≡ bytes }

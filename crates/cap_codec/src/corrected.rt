@@ -23,6 +23,13 @@ pub fn corrections(w: Word) -> (i8, i8)
 }
 
 /// The bounds of a word, whatever its 128 bits are.
+///
+/// ```rust
+/// let word = cap_codec::block_capability(0x4000_0000, 0x4000_0020);
+/// let bounds = cap_codec::bounds(word);
+/// assert_eq!(rt; bounds.base, 0x4000_0000);
+/// assert_eq!(rt; bounds.top, 0x4000_0020);
+/// ```
 pub fn bounds(w: Word) -> Bounds
     ensures value { result ≡ bounds_in w }
     ensures meets { IsBounds (fields_of w) result.base result.top }
@@ -41,6 +48,13 @@ pub fn bounds(w: Word) -> Bounds
 }
 
 /// Whether the word keeps its bounds with this address.
+///
+/// ```rust
+/// let word = cap_codec::block_capability(0x4000_0000, 0x4000_0020);
+/// // One past the end is near enough, and the other half of the address space is not.
+/// assert!(rt; cap_codec::representable(word, 0x4000_0020));
+/// assert!(rt; !cap_codec::representable(word, 0xc000_0000_0000_0000));
+/// ```
 pub fn representable(w: Word, address: u64) -> bool
     ensures value { result ≡ keeps_bounds w address }
     ensures same { IsTrue result ↔ IsRepresentable (fields_of w) address }

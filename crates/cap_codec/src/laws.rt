@@ -3,19 +3,19 @@
 
 ghost use Rattle.std.specs.Prelude.{◌≡◌, ◌<◌, ◌≤◌, ◌+◌, ◌%◌, ◌^◌, ◌↔◌, IsTrue, ℕ};
 ghost use Rattle.cap_codec.specs.declared.word.Word.{Word as TheWord};
-ghost use Rattle.cap_codec.specs.Rounding.{IsDecoded, IsExact, length_for, outward, unit_for};
-ghost use Rattle.cap_codec.specs.Words.{bounds_in, capability_of, global, is_exact, keeps_bounds, load, load_capability, narrowed, store, store_capability, with_address, with_perms};
+ghost use Rattle.cap_codec.specs.Rounding.{IsDecoded, IsExact, length_for, outward_bounds, unit_for};
+ghost use Rattle.cap_codec.specs.Words.{bounds_in, capability_of, global, is_exact, keeps_bounds, load, load_capability, narrowed_word, store, store_capability, with_address, with_perms};
 
 use crate::permissions::{GLOBAL, LOAD, LOAD_CAPABILITY, STORE, STORE_CAPABILITY};
 use crate::word::Word;
 
 /// The bounds of words that are made for bounds, another address or fewer permissions; and from where a
 /// representable length is exact. The calls promise it of the words that they make.
-pub fn derivations()
+pub fn derivation_law()
     ensures narrowed { (w : TheWord) (base top : ℕ) → base < 2 ^ 64 → base ≤ top → top ≤ 2 ^ 64
-        → bounds_in (narrowed w base top) ≡ outward base top }
+        → bounds_in (narrowed_word w base top) ≡ outward_bounds base top }
     ensures capability { (base top : ℕ) → base < 2 ^ 64 → base ≤ top → top ≤ 2 ^ 64
-        → bounds_in (capability_of base top) ≡ outward base top }
+        → bounds_in (capability_of base top) ≡ outward_bounds base top }
     ensures tested { (base top : ℕ) → IsTrue (is_exact base top) ↔ IsExact base top }
     ensures moved { (w : TheWord) (a : ℕ) → a < 2 ^ 64 → IsTrue (keeps_bounds w a)
         → bounds_in (with_address w a) ≡ bounds_in w }
@@ -25,12 +25,12 @@ pub fn derivations()
 {}
 
 /// The null capability is 128 zero bits.
-pub fn null_is_zeros()
+pub fn null_is_zeros_law()
     ensures { Word.NULL.bits ≡ 0 }
 {}
 
 /// The permissions are these bits.
-pub fn permission_bits()
+pub fn permission_bits_law()
     ensures global { GLOBAL ≡ global }
     ensures load { LOAD ≡ load }
     ensures store { STORE ≡ store }
@@ -39,7 +39,7 @@ pub fn permission_bits()
 {}
 
 /// The bounds that a word can hold as they are, are those that some word decodes to.
-pub fn exact_bounds()
+pub fn exact_bounds_law()
     ensures { (base top : ℕ) → base < 2 ^ 64 → base ≤ top → top ≤ 2 ^ 64 →
         IsExact base top ↔ IsDecoded base top }
 {}

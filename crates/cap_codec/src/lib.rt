@@ -18,7 +18,7 @@ pub use crate::bytes::{from_bytes, to_bytes};
 pub use crate::corrected::{bounds, corrections, representable};
 pub use crate::decode::{fields, word_of};
 pub use crate::derive::{and_perms, block_capability, set_address};
-pub use crate::laws::{derivations, exact_bounds, null_is_zeros, permission_bits};
+pub use crate::laws::{derivation_law, exact_bounds_law, null_is_zeros_law, permission_bits_law};
 pub use crate::mantissas::exponent;
 pub use crate::permissions::{GLOBAL, LOAD, LOAD_CAPABILITY, STORE, STORE_CAPABILITY, is_allowed};
 pub use crate::rounding::{alignment_mask, representable_length, with_bounds};

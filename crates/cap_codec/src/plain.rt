@@ -3,7 +3,7 @@
 //! and the exponent, which has one form.
 
 ghost use Rattle.std.specs.Prelude.{◌≡◌, ◌<◌, ◌≤◌, ◌+◌, ◌-◌, ◌*◌, ◌%◌, ◌^◌, ◌↔◌, IsTrue, ℕ};
-ghost use Rattle.cap_codec.specs.Bounds.{IsBounds, corrected, place_in};
+ghost use Rattle.cap_codec.specs.Bounds.{IsBounds, top_from, place_in};
 ghost use Rattle.cap_codec.specs.Fields.{fields_of};
 ghost use Rattle.cap_codec.specs.Representable.{IsInWindow, IsRepresentable};
 ghost use Rattle.cap_codec.specs.Words.{bounds_in, keeps_bounds};
@@ -93,7 +93,7 @@ fn place(low: u128, size: u128, x: u128) -> u128
 // The top, whose bit 64 is chosen by the base where the window is smaller than the address space.
 fn corrected_top(exponent: u8, base: u64, top: u128) -> u128
     requires { top < 2 ^ 65 }
-    ensures value { result ≡ corrected exponent base top }
+    ensures value { result ≡ top_from exponent base top }
     ensures limit { result < 2 ^ 65 }
 {
     let apart = (top / (1 << 63) + 4 - u128::from(base) / (1 << 63)) % 4;

@@ -3,8 +3,8 @@
 ghost use Rattle.std.specs.Prelude.{◌≡◌, ◌<◌, ◌≤◌, ◌+◌, ◌-◌, ◌%◌, ◌^◌, ◌↔◌, IsTrue, ℕ};
 ghost use Rattle.cap_codec.specs.Fields.{IsValid, fields_of};
 ghost use Rattle.cap_codec.specs.Mantissas.{exponent_of};
-ghost use Rattle.cap_codec.specs.Rounding.{Fits, IsExact, IsExponent, IsNearExponent, exponent_for, length_for, outward, round_down, round_up, unit_for, with_bounds_of};
-ghost use Rattle.cap_codec.specs.Words.{bounds_in, is_exact, narrowed};
+ghost use Rattle.cap_codec.specs.Rounding.{Fits, IsExact, IsExponent, IsNearExponent, exponent_for, length_for, outward_bounds, round_down, round_up, unit_for, with_bounds_of};
+ghost use Rattle.cap_codec.specs.Words.{bounds_in, is_exact, narrowed_word};
 
 use crate::decode::{fields, word_of};
 use crate::word::{Bounds, Fields, Word};
@@ -19,9 +19,9 @@ pub fn with_exponent(w: Word, base: u64, top: u128, exponent: u8) -> (Word, bool
     requires exponent { exponent ≡ exponent_for base top }
     requires limit { exponent ≤ 52 }
     ensures fields { fields_of result.0 ≡ with_bounds_of (fields_of w) base top }
-    ensures word { result.0 ≡ narrowed w base top }
-    ensures bounds { bounds_in result.0 ≡ outward base top }
-    ensures limit { (outward base top).top ≤ 2 ^ 64 }
+    ensures word { result.0 ≡ narrowed_word w base top }
+    ensures bounds { bounds_in result.0 ≡ outward_bounds base top }
+    ensures limit { (outward_bounds base top).top ≤ 2 ^ 64 }
     ensures exact { IsTrue result.1 ↔ IsExact base top }
     ensures flag { result.1 ≡ is_exact base top }
 
@@ -111,7 +111,7 @@ fn outward_bounds(base: u64, top: u128, exponent: u8) -> Bounds
     requires room { top ≤ 2 ^ 64 }
     requires exponent { exponent ≡ exponent_for base top }
     requires limit { exponent ≤ 52 }
-    ensures value { result ≡ outward base top }
+    ensures value { result ≡ outward_bounds base top }
     ensures above { top ≤ result.top }
     ensures limit { result.top ≤ 2 ^ 64 }
 {

@@ -3,21 +3,30 @@
 ghost use Rattle.std.specs.Prelude.{◌≡◌, ◌<◌, ◌≤◌, ◌+◌, ◌-◌, ◌%◌, ◌^◌, ◌↔◌, IsTrue, ℕ};
 ghost use Rattle.cap_codec.specs.Fields.{fields_of};
 ghost use Rattle.cap_codec.specs.Mantissas.{exponent_of};
-ghost use Rattle.cap_codec.specs.Rounding.{IsExact, IsExponent, IsNearExponent, exponent_for, length_for, outward, round_up, unit_for, with_bounds_of};
-ghost use Rattle.cap_codec.specs.Words.{bounds_in, is_exact, narrowed};
+ghost use Rattle.cap_codec.specs.Rounding.{IsExact, IsExponent, IsNearExponent, exponent_for, length_for, outward_bounds, round_up, unit_for, with_bounds_of};
+ghost use Rattle.cap_codec.specs.Words.{bounds_in, is_exact, narrowed_word};
 
 use crate::rounded::{SHORT, fits, length_with, mask_with, with_exponent};
 use crate::word::Word;
 
 /// The word with these bounds, rounded outward where it can't hold them, and its address at `base`;
 /// and whether it holds them exactly.
+///
+/// ```rust
+/// use cap_codec::{Word, bounds, with_bounds};
+///
+/// // 4,097 bytes are too many for a word to hold their end to the byte.
+/// let (word, exact) = with_bounds(Word::NULL, 0x4000_0000, 0x4000_1001);
+/// assert!(rt; !exact);
+/// assert_eq!(rt; bounds(word).top, 0x4000_1008);
+/// ```
 pub fn with_bounds(w: Word, base: u64, top: u128) -> (Word, bool)
     requires order { base ≤ top }
     requires room { top ≤ 2 ^ 64 }
     ensures fields { fields_of result.0 ≡ with_bounds_of (fields_of w) base top }
-    ensures word { result.0 ≡ narrowed w base top }
-    ensures bounds { bounds_in result.0 ≡ outward base top }
-    ensures limit { (outward base top).top ≤ 2 ^ 64 }
+    ensures word { result.0 ≡ narrowed_word w base top }
+    ensures bounds { bounds_in result.0 ≡ outward_bounds base top }
+    ensures limit { (outward_bounds base top).top ≤ 2 ^ 64 }
     ensures exact { IsTrue result.1 ↔ IsExact base top }
     ensures flag { result.1 ≡ is_exact base top }
 
@@ -31,6 +40,11 @@ pub fn with_bounds(w: Word, base: u64, top: u128) -> (Word, bool)
 }
 
 /// The least length from `n` on that a word can hold from address 0.
+///
+/// ```rust
+/// assert_eq!(rt; cap_codec::representable_length(4095), 4095);
+/// assert_eq!(rt; cap_codec::representable_length(4097), 4104);
+/// ```
 pub fn representable_length(n: u64) -> u128
     ensures value { result ≡ length_for n }
     ensures least { n ≤ result }

@@ -5,9 +5,9 @@ use Rattle.command_line.specs.declared.asked.Refusal.{Refusal}
 use Rattle.command_line.specs.declared.asked.Refusal.TheVariants.{Memory, Words}
 use Rattle.command_line.specs.Asked.{NamesStates, Text}
 use Rattle.log_text.specs.Log.{Record}
-use Rattle.trace_program.specs.declared.answer.Answer.{Answer}
-use Rattle.trace_program.specs.Answer.{refusal_line, refusal_status, status_of, text_of}
-use Rattle.trace_program.specs.Device.{ReadsUpTo}
+use Rattle.program_devices.specs.declared.answer.Answer.{Answer}
+use Rattle.program_devices.specs.Answer.{refusal_line, refusal_status, status_of, text_of}
+use Rattle.program_devices.specs.Device.{ReadsUpTo}
 use Rattle.check_command.specs.Answer.{IsAnswer, IsJudged, IsLogAnswer, agrees, differs, judged, judges, lacks, lacks_memory, most_read, names_fault, refuses}
 use Rattle.check_command.specs.Text.{usage_line}
 

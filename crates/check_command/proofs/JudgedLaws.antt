@@ -9,11 +9,11 @@ use Rattle.trace_text.specs.declared.fault.TraceFault.TheVariants.{BadCommand, B
 use Rattle.log_text.specs.declared.log.Event.{Event}
 use Rattle.log_text.specs.Log.{Fails, Record, log_of}
 use Rattle.given_state.specs.Given.{AreSafe}
-use Rattle.heap_machine.specs.State.{State}
+use Rattle.machine_steps.specs.State.{State}
 use Rattle.heap_log.specs.declared.verdict.Difference.{Difference}
 use Rattle.heap_log.specs.declared.verdict.Tally.{Tally}
 use Rattle.heap_log.specs.Judged.{AllFollow, DiffersAt, tally_of}
-use Rattle.trace_program.specs.declared.answer.Answer.{Answer}
+use Rattle.program_devices.specs.declared.answer.Answer.{Answer}
 use Rattle.agreed_log.specs.Agreed.{IsAgreed}
 use Rattle.check_command.specs.declared.lines.Origin.{Origin}
 use Rattle.check_command.specs.Answer.{ComesFrom, IsJudged, IsLogAnswer, agrees, differs, due_shown, first_of, is_memory, judged, miscounts, names_fault}

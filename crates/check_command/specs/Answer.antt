@@ -2,8 +2,8 @@
 use Rattle.std.specs.Prelude.{◌≡◌, ◌==◌, ◌<◌, ◌+◌, ◌^◌, ℕ, All, length, Bool, false, true, List, [], ◌++◌, Option, None, Some, Ok, Err, take, if◌then◌else◌}
 use Rattle.command_line.specs.declared.asked.Options.{Options}
 use Rattle.command_line.specs.Asked.{NamesStates, Text}
-use Rattle.heap_core.specs.declared.block.Block.{Block as BlockBounds}
-use Rattle.heap_core.specs.declared.block.Claim.TheVariants.{OverHeld, OverLive}
+use Rattle.heap_model.specs.declared.block.Block.{Block as BlockBounds}
+use Rattle.heap_model.specs.declared.block.Claim.TheVariants.{OverHeld, OverLive}
 use Rattle.heap_reply.specs.declared.reply.Reply.TheVariants.{Begun, Swept}
 use Rattle.log_text.specs.declared.fault.LogFault.{LogFault}
 use Rattle.log_text.specs.declared.fault.LogFault.TheVariants.{Trace}
@@ -18,14 +18,14 @@ use Rattle.given_state.specs.declared.fault.Lack.{Lack}
 use Rattle.given_state.specs.declared.fault.Lack.TheVariants.{Block}
 use Rattle.given_state.specs.Given.{AreSafe, IsFirstFlaw, given_state}
 use Rattle.heap_machine.specs.declared.followed.Why.TheVariants.{MustBe, Refused, Takes}
-use Rattle.heap_machine.specs.State.{State}
+use Rattle.machine_steps.specs.State.{State}
 use Rattle.heap_log.specs.declared.verdict.Difference.{Difference}
 use Rattle.heap_log.specs.declared.verdict.Difference.TheVariants.{Answer}
 use Rattle.heap_log.specs.Due.{due_words}
 use Rattle.heap_log.specs.Judged.{AllFollow, DiffersAt, tally_of}
 use Rattle.heap_log.specs.Origin.{IsLastFree, gives, hands_out, last_line}
-use Rattle.trace_program.specs.Answer.{memory_line}
-use Rattle.trace_program.specs.Device.{ReadsUpTo}
+use Rattle.program_devices.specs.Answer.{memory_line}
+use Rattle.program_devices.specs.Device.{ReadsUpTo}
 use Rattle.check_command.specs.declared.lines.Origin.{Origin}
 use Rattle.check_command.specs.declared.lines.Origin.TheVariants.{Freed, HandedOut, Unknown}
 use Rattle.check_command.specs.declared.lines.Origin.TheVariants as origin

@@ -3,12 +3,12 @@ use Rattle.std.specs.Prelude.{◌==◌, ℕ, Bool, List, [], ◌∷◌, ◌++◌
 use Rattle.std.specs.Fmt.{decimal}
 use Rattle.std.specs.List.{concat}
 use Rattle.hex.specs.Hex.{encode_lower}
-use Rattle.heap_core.specs.declared.block.Block.{Block}
-use Rattle.heap_core.specs.declared.block.Claim.{Claim}
-use Rattle.heap_core.specs.declared.block.Claim.TheVariants.{Claimed, Empty, Inexact, Outside, OverHeld, OverLive, Uneven}
+use Rattle.heap_model.specs.declared.block.Block.{Block}
+use Rattle.heap_model.specs.declared.block.Claim.{Claim}
+use Rattle.heap_model.specs.declared.block.Claim.TheVariants.{Claimed, Empty, Inexact, Outside, OverHeld, OverLive, Uneven}
 use Rattle.heap_reply.specs.declared.reply.Reply.TheVariants.{Block as HandsOut, BlockAfter as HandsOutAfter}
-use Rattle.heap_reply.specs.Answer.{answer_text, block_text}
-use Rattle.heap_reply.specs.Display.{bit_text, hexadecimal_text, joined}
+use Rattle.heap_reply.specs.ReplyText.{text_of_reply, block_text}
+use Rattle.heap_reply.specs.Display.{bit_text, hexadecimal_text, join_pieces}
 use Rattle.log_text.specs.declared.fault.LogFault.{LogFault}
 use Rattle.log_text.specs.declared.log.Event.{Event}
 use Rattle.log_text.specs.declared.log.Event.TheVariants.{Done, Seen}
@@ -50,7 +50,7 @@ plural_text noun = noun_text noun ++ codes "s"
 -- So many of it.
 abbrev pub counted_text : ℕ → Noun → List ℕ
 counted_text count noun =
-    if count == 1 then (codes "1 " ++ noun_text noun) else joined (decimal count ∷ codes " " ∷ plural_text noun ∷ [])
+    if count == 1 then (codes "1 " ++ noun_text noun) else join_pieces (decimal count ∷ codes " " ∷ plural_text noun ∷ [])
 
 -- What is written of a log that agrees.
 abbrev pub agrees_line : Tally → List ℕ
@@ -69,7 +69,7 @@ origin_text origin.Unknown = []
 
 -- The block with it.
 abbrev pub way_text : Block → Origin → List ℕ
-way_text block from = joined (hexadecimal_text block.base ∷ codes " " ∷ hexadecimal_text block.top ∷ origin_text from ∷ [])
+way_text block from = join_pieces (hexadecimal_text block.base ∷ codes " " ∷ hexadecimal_text block.top ∷ origin_text from ∷ [])
 
 -- Why a block may not lie where it is told to.
 abbrev pub refused_text : Claim → Origin → List ℕ
@@ -82,18 +82,18 @@ refused_text (OverLive block) from = codes " lies over the live block " ++ way_t
 refused_text (OverHeld block) from = codes " lies over the held block " ++ way_text block from
 
 -- The block that an event hands out.
-abbrev pub told_text : Event → List ℕ
-told_text (Done command (HandsOut base top)) = block_text base top
-told_text (Done command (HandsOutAfter base top cleared)) = block_text base top
-told_text event = []
+abbrev pub said_block_text : Event → List ℕ
+said_block_text (Done command (HandsOut base top)) = block_text base top
+said_block_text (Done command (HandsOutAfter base top cleared)) = block_text base top
+said_block_text event = []
 
 -- A tag and 16 bytes.
 abbrev pub content_text : Bool → List ℕ → List ℕ
-content_text tag bytes = joined (bit_text tag ∷ codes " " ∷ encode_lower bytes ∷ [])
+content_text tag bytes = join_pieces (bit_text tag ∷ codes " " ∷ encode_lower bytes ∷ [])
 
 -- What the log says: an answer, or what was seen.
 abbrev pub said_text : Event → List ℕ
-said_text (Done command answer) = answer_text answer
+said_text (Done command answer) = text_of_reply answer
 said_text (Seen address tag bytes) = content_text tag bytes
 
 -- It stands behind what must be.
@@ -102,19 +102,19 @@ and_said event = codes ", and the log says " ∷ said_text event ∷ []
 
 -- Why the answer of an event isn't allowed, where an epoch is open or none is.
 abbrev pub why_text : Event → Bool → Origin → Why → List ℕ
-why_text event is_open from (why.MustBe reply) = joined (codes "the answer must be " ∷ answer_text reply ∷ and_said event)
-why_text event is_open from why.NotOfMalloc = joined (codes "a malloc is answered by a block or by nospace" ∷ and_said event)
-why_text event is_open from why.TooShort = told_text event ++ codes " is shorter than the size asked for"
+why_text event is_open from (why.MustBe reply) = join_pieces (codes "the answer must be " ∷ text_of_reply reply ∷ and_said event)
+why_text event is_open from why.NotOfMalloc = join_pieces (codes "a malloc is answered by a block or by nospace" ∷ and_said event)
+why_text event is_open from why.TooShort = said_block_text event ++ codes " is shorter than the size asked for"
 why_text event is_open from why.MayNotSweep =
     if is_open then codes "no sweep may be told: an epoch is open" else codes "no sweep may be told: no block waits"
-why_text event is_open from (why.Takes count) = joined (codes "the sweep takes " ∷ counted_text count noun.Tag ∷ and_said event)
-why_text event is_open from (why.Refused reason) = told_text event ++ refused_text reason from
+why_text event is_open from (why.Takes count) = join_pieces (codes "the sweep takes " ∷ counted_text count noun.Tag ∷ and_said event)
+why_text event is_open from (why.Refused reason) = said_block_text event ++ refused_text reason from
 
 -- How a log differs.
 abbrev pub difference_text : Event → Bool → Origin → Difference → List ℕ
 difference_text event is_open from (Answer reason) = why_text event is_open from reason
 difference_text event is_open from NoGranule = codes "no granule of the heap lies at this address"
-difference_text event is_open from (Granule tag bytes) = joined (codes "the granule holds " ∷ content_text tag bytes ∷ and_said event)
+difference_text event is_open from (Granule tag bytes) = join_pieces (codes "the granule holds " ∷ content_text tag bytes ∷ and_said event)
 
 abbrev pub differs_line : ℕ → Event → Bool → Origin → Difference → List ℕ
 differs_line line event is_open from difference =
@@ -139,7 +139,7 @@ lack_text from (lack.GranuleAgain address line) =
 lack_text from lack.NotNull = codes "register c0 is always null"
 lack_text from lack.NoGranule = codes "no granule of the heap lies at this address"
 lack_text from (lack.Unguarded base top) =
-    joined (codes "the word's bounds " ∷ hexadecimal_text base ∷ codes " " ∷ hexadecimal_text top ∷ codes " lie in no block" ∷ [])
+    join_pieces (codes "the word's bounds " ∷ hexadecimal_text base ∷ codes " " ∷ hexadecimal_text top ∷ codes " lie in no block" ∷ [])
 
 abbrev pub unsafe_line : ℕ → Origin → Lack → List ℕ
 unsafe_line line from lack = concat (codes "unsafe " ∷ decimal line ∷ codes ": " ∷ lack_text from lack ∷ codes "\n" ∷ [])

@@ -2,7 +2,7 @@
 
 ghost use Rattle.std.specs.Prelude.{◌≤◌, length};
 
-use log_text::{Asked, LogFault, asked_line, event_told, parse};
+use log_text::{Asked, LogFault, asked_line, event_of_answer, parse};
 use std::alloc::{AllocError, Global};
 use trace_text::{Line, TraceFault, split_line, split_name};
 
@@ -72,7 +72,7 @@ fn begins_as(
     let mut whole = Vec::with_capacity(alloc, words.len())?;
     whole.extend_from_slice(words)?;
     whole.extend_from_slice(rest)?;
-    Ok(event_told(asked, &Line::of_bytes(&whole)).is_some())
+    Ok(event_of_answer(asked, &Line::of_bytes(&whole)).is_some())
 }
 
 // Whether they begin any answer to what was asked.

@@ -5,7 +5,7 @@ ghost use Rattle.std.specs.List.{All};
 ghost use Rattle.command_line.specs.Asked.{AreWithinLimits};
 ghost use Rattle.log_text.specs.Log.{IsListedEvent, first_line, record_of};
 ghost use Rattle.given_state.specs.Given.{AreSafe, IsFirstFlaw};
-ghost use Rattle.heap_machine.specs.State.{State};
+ghost use Rattle.machine_steps.specs.State.{State};
 ghost use Rattle.heap_log.specs.Judged.{AllFollow, DiffersAt};
 ghost use Rattle.heap_log.specs.Origin.{gives, hands_out, last_line};
 ghost use Rattle.check_command.specs.Answer.{ComesFrom, IsHeldFrom, IsJudged, IsLogAnswer, IsReadLog, first_of, given_at, given_from, is_memory, live_from};
@@ -19,10 +19,10 @@ use heap_core::{Block, Claim};
 use heap_log::{Difference, Verdict, freed_line, given_line, handed_out_line, judge};
 use heap_machine::{Machine, Why};
 use log_text::{Event, Given, Log, LogFault, parse};
+use program_devices::Answer;
 use std::alloc::{AllocError, Global};
 use std::thread::Threads;
 use sweep_pool::Cutting;
-use trace_program::Answer;
 use trace_text::TraceFault;
 
 // The line that gives a block.

@@ -9,4 +9,4 @@ mod program;
 
 pub use crate::program::{check_tool, refuse};
 pub use command_line::{Options, Refusal};
-pub use trace_program::{Failed, FromRead, FromWrite, Sink, Source};
+pub use program_devices::{Failed, FromRead, FromWrite, Sink, Source};

@@ -1,8 +1,8 @@
 //! The lines that the program writes.
 
 ghost use Rattle.std.specs.Prelude.{◌≡◌, IfOk, Some, string_bytes};
-ghost use Rattle.heap_reply.specs.Answer.{answer_text};
-ghost use Rattle.check_command.specs.Text.{agrees_line, content_text, counted_text, differs_line, difference_text, lack_text, line_of_fault, noun_text, origin_text, plural_text, refused_text, said_text, told_text, unsafe_line, way_text, why_text};
+ghost use Rattle.heap_reply.specs.ReplyText.{text_of_reply};
+ghost use Rattle.check_command.specs.Text.{agrees_line, content_text, counted_text, differs_line, difference_text, lack_text, line_of_fault, noun_text, origin_text, plural_text, refused_text, said_text, said_block_text, unsafe_line, way_text, why_text};
 
 use given_state::Lack;
 use heap_core::{Block, Claim};
@@ -164,7 +164,7 @@ impl fmt::Display for RefusedBlock {
 struct ReplyText(Reply);
 
 impl fmt::Display for ReplyText {
-    ghost output = { λ text. Some (answer_text text.0) };
+    ghost output = { λ text. Some (text_of_reply text.0) };
 
     fn fmt<W: fmt::Write>(&self, f: &mut fmt::Formatter<W>) -> fmt::Result {
         let mut text = ShortText::new();
@@ -176,10 +176,10 @@ impl fmt::Display for ReplyText {
 
 /// The block that an event hands out, if it does.
 #[derive(Clone, Copy)]
-struct Told(Event);
+struct SaidBlock(Event);
 
-impl fmt::Display for Told {
-    ghost output = { λ told. Some (told_text told.0) };
+impl fmt::Display for SaidBlock {
+    ghost output = { λ told. Some (said_block_text told.0) };
 
     fn fmt<W: fmt::Write>(&self, f: &mut fmt::Formatter<W>) -> fmt::Result {
         match self.0 {
@@ -256,7 +256,7 @@ impl fmt::Display for WhyText {
     ghost output = { λ it. Some (why_text it.event it.is_open it.from it.why) };
 
     fn fmt<W: fmt::Write>(&self, f: &mut fmt::Formatter<W>) -> fmt::Result {
-        let told = Told(self.event);
+        let told = SaidBlock(self.event);
         let said = Said(self.event);
         match self.why {
             Why::MustBe(reply) => {

@@ -4,8 +4,8 @@ ghost use Rattle.std.specs.Prelude.{◌≡◌, ◌≢◌, ◌↔◌, ◌||◌, f
 ghost use Rattle.std.specs.Io.KnownBytes.{Appends};
 ghost use Rattle.command_line.specs.declared.asked.Options.{Options as TheOptions};
 ghost use Rattle.command_line.specs.Asked.{NamesStates, texts};
-ghost use Rattle.trace_program.specs.Answer.{BeginsAnswer, HasAnswered, refusal_line, refusal_status};
-ghost use Rattle.trace_program.specs.Device.{AppendsBeginning, ReadsFew};
+ghost use Rattle.program_devices.specs.Answer.{BeginsAnswer, HasAnswered, refusal_line, refusal_status};
+ghost use Rattle.program_devices.specs.Device.{AppendsBeginning, ReadsFew};
 ghost use Rattle.check_command.specs.Answer.{IsAnswer, most_read};
 ghost use Rattle.check_command.specs.Text.{usage_line};
 
@@ -13,9 +13,9 @@ use crate::hint::hint;
 use crate::judging::check_answer;
 use command_line::{Refusal, states_options_by};
 use log_text::LONGEST_LOG;
+use program_devices::{Answer, ReadFault, Sink, Source, give, read_text};
 use std::alloc::Global;
 use std::thread::Threads;
-use trace_program::{Answer, ReadFault, Sink, Source, read_text, tell};
 
 const USAGE: &[u8] = b"usage: heap_check [--workers N] [--cut N]\n";
 
@@ -35,7 +35,7 @@ pub fn check_tool<'a, R: Threads + Sync, I: Source, O: Sink, E: Sink>(
     requires reader { I.failed reader.old ≡ false }
     requires writer { O.failed writer.old ≡ false }
     requires errors { E.failed errors.old ≡ false }
-    ensures whole { result ≢ 4 → HasAnswered (IsAnswer (texts words.entry.now) (I.remaining reader.old) (I.remaining reader.new))
+    ensures complete { result ≢ 4 → HasAnswered (IsAnswer (texts words.entry.now) (I.remaining reader.old) (I.remaining reader.new))
         result (O.contents writer.old) (O.contents writer.new) }
     ensures part { result ≡ 4 → BeginsAnswer (IsAnswer (texts words.entry.now) (I.remaining reader.old) (I.remaining reader.new))
         (O.contents writer.old) (O.contents writer.new) }
@@ -50,7 +50,7 @@ pub fn check_tool<'a, R: Threads + Sync, I: Source, O: Sink, E: Sink>(
     match states_options_by(alloc, words) {
         Ok(options) => match read_text(alloc, reader, LONGEST_LOG) {
             Ok(text) => {
-                let status = tell(writer, check_answer(rt, alloc, &text, options), USAGE);
+                let status = give(writer, check_answer(rt, alloc, &text, options), USAGE);
                 say(alloc, errors, status, &text);
                 status
             }
@@ -70,16 +70,16 @@ fn say<E: Sink>(alloc: Global, errors: &mut E, status: u8, log: &[u8])
         return;
     }
     if let Ok(Some(text)) = hint(alloc, log) {
-        let _ = tell(errors, Ok(Answer { status, text }), USAGE);
+        let _ = give(errors, Ok(Answer { status, text }), USAGE);
     }
 }
 
 /// Writes the line of a refusal, and answers its status, or 4 where a write failed.
 pub fn refuse<O: Sink>(writer: &mut O, refusal: Refusal) -> u8
     requires { O.failed writer.old ≡ false }
-    ensures whole { result ≢ 4 → (result ≡ refusal_status refusal) × Appends (O.contents writer.old) (O.contents writer.new) (refusal_line usage_line refusal) }
+    ensures complete { result ≢ 4 → (result ≡ refusal_status refusal) × Appends (O.contents writer.old) (O.contents writer.new) (refusal_line usage_line refusal) }
     ensures part { result ≡ 4 → AppendsBeginning (O.contents writer.old) (O.contents writer.new) (refusal_line usage_line refusal) }
     ensures failed { (result ≡ 4) ↔ (O.failed writer.new ≡ true) }
 {
-    trace_program::refuse(writer, refusal, USAGE)
+    program_devices::refuse(writer, refusal, USAGE)
 }

@@ -2,9 +2,9 @@
 use Rattle.std.proofs.Common.{◌≡◌, ◌∙◌, ◌<◌, ◌-◌, ◌||◌, not, ℕ, Bool, true, false, List, [], ◌∷◌, Option, None, Some, refl, sym, subst, nat_lt, arith}
 use Rattle.std.proofs.lemmas.Bool.{cond_both, true≢false}
 use Rattle.std.proofs.lemmas.Bool.Decides.{nat_tests}
-use Rattle.heap_core.specs.Blocks.{Span, blocks_with, blocks_without, has_bounds, is_block, start_of}
-use Rattle.heap_core.specs.Heap.{HeapState}
-use Rattle.heap_core.specs.Laws.{has_bounds-is}
+use Rattle.heap_model.specs.Blocks.{Span, blocks_with, blocks_without, has_bounds, is_block, start_of}
+use Rattle.heap_model.specs.Heap.{HeapState}
+use Rattle.heap_model.specs.Laws.{has_bounds-is}
 use Rattle.log_text.specs.declared.log.Given.{Given}
 use Rattle.given_state.specs.Given.{MayLie, all_claimed, block_in, with_claimed, with_released}
 use Rattle.given_state.specs.Giving.{IsLive}

@@ -5,14 +5,14 @@ use Rattle.std.proofs.lemmas.Bool.{and_parts, cases_eq, cases_lt, true≢false}
 use Rattle.std.proofs.lemmas.List.{get_or-replicate, get_or-set_other, get_or-set_same, get_or_past, length-replicate, length-set}
 use Rattle.std.proofs.lemmas.List.Elements.{All-replicate, All-set}
 use Rattle.cap_codec.specs.Bytes.{bits_of_bytes}
-use Rattle.tag_memory.specs.Cells.{Cell, MemoryState, cell_of, is_dirty_at, marks_after, new_memory, new_registers, null_cell, register_at, register_count, with_register}
-use Rattle.heap_core.specs.Heap.{HeapState}
-use Rattle.heap_core.specs.Blocks.{Span}
-use Rattle.sweep_pool.specs.Sweep.{is_revoked, takes_tag}
+use Rattle.tag_memory.specs.Cells.{Cell, MemoryState, cell_of, is_dirty_at, marks_after, new_memory, new_registers, null_cell, register_at, register_count, registers_with}
+use Rattle.heap_model.specs.Heap.{HeapState}
+use Rattle.heap_model.specs.Blocks.{Span}
+use Rattle.heap_model.specs.Sweep.{is_revoked, takes_tag}
 use Rattle.log_text.specs.declared.log.Given.{Given}
 use Rattle.log_text.specs.declared.log.Given.TheVariants.{Epoch, Granule, Live, Painted, Register, Waiting}
 use Rattle.heap_machine.specs.Making.{IsFlaw}
-use Rattle.heap_machine.specs.Safety.{HoldsGuarded, IsGuarded}
+use Rattle.machine_steps.specs.Safety.{HoldsGuarded, IsGuarded}
 use Rattle.heap_machine.specs.declared.machine.making.Flaw.{Flaw}
 use Rattle.heap_machine.specs.declared.machine.making.Flaw.TheVariants as flaw
 use Rattle.given_state.specs.Given.{HasGranule, MayHold, cell_with, given_heap, with_given_granule, with_given_register}
@@ -31,7 +31,7 @@ no_tag n i =
     ] in
     ap (λ (g : ℕ × Bool). g.1) none
 
-new_length : (pages : ℕ) → length (new_memory 0 pages).cells ≡ 256 * pages
+new_length : (pages : ℕ) → length (new_memory 0 pages).granules ≡ 256 * pages
 new_length pages = length-replicate (256 * pages) (0, false)
 
 pub FitHeap-new : (s : HeapState) (base pages : ℕ) → s.base ≡ base → s.size ≡ 4096 * pages → FitHeap s (new_memory base pages) new_registers
@@ -85,18 +85,18 @@ marks_length : (dirty : List Bool) (i : ℕ) (tag : Bool) → length (marks_afte
 marks_length dirty i false = refl
 marks_length dirty i true = length-set dirty (i / 256) true
 
-AreTagsDirty-put : (m : MemoryState) (i bits : ℕ) (tag : Bool) → length m.cells ≡ 256 * length m.dirty → i < length m.cells → AreTagsDirty m
-    → (k : ℕ) → (get_or (set m.cells i (bits, tag)) k (0, false)).1 ≡ true → is_dirty_at (marks_after m.dirty i tag) (k / 256) ≡ true
+AreTagsDirty-put : (m : MemoryState) (i bits : ℕ) (tag : Bool) → length m.granules ≡ 256 * length m.dirty → i < length m.granules → AreTagsDirty m
+    → (k : ℕ) → (get_or (set m.granules i (bits, tag)) k (0, false)).1 ≡ true → is_dirty_at (marks_after m.dirty i tag) (k / 256) ≡ true
 AreTagsDirty-put m i bits tag pages within all k tagged =
     elim (cases_eq k i) [
       | inl same ↦
-          let here : get_or (set m.cells i (bits, tag)) k (0, false) ≡ (bits, tag) =
-          subst (λ (j : ℕ). get_or (set m.cells i (bits, tag)) j (0, false) ≡ (bits, tag)) (sym same) (get_or-set_same m.cells i (bits, tag) (0, false) within) in
+          let here : get_or (set m.granules i (bits, tag)) k (0, false) ≡ (bits, tag) =
+          subst (λ (j : ℕ). get_or (set m.granules i (bits, tag)) j (0, false) ≡ (bits, tag)) (sym same) (get_or-set_same m.granules i (bits, tag) (0, false) within) in
           let is : tag ≡ true = ap (λ (g : ℕ × Bool). g.1) (sym here) ∙ tagged in
           subst (λ (j : ℕ). is_dirty_at (marks_after m.dirty i tag) (j / 256) ≡ true) (sym same) (mark_set m.dirty i tag (omega (arith, within, pages)) is)
       | inr other ↦
           mark_kept m.dirty i (k / 256) tag
-          (all k (ap (λ (g : ℕ × Bool). g.1) (sym (get_or-set_other m.cells i k (bits, tag) (0, false) other)) ∙ tagged))
+          (all k (ap (λ (g : ℕ × Bool). g.1) (sym (get_or-set_other m.granules i k (bits, tag) (0, false) other)) ∙ tagged))
     ]
 
 -- A granule more.
@@ -104,14 +104,14 @@ FitHeap-put : (s : HeapState) (m : MemoryState) (registers : List Cell) (address
     → IsGuarded s (cell_with tag bytes) → FitHeap s (memory_with m address tag bytes) registers
 FitHeap-put s m registers address tag bytes fit there guarded =
     let i = (address - m.base) / 16 in
-    let within : (address - m.base) / 16 < length m.cells = omega (arith, there.1.at, there.1.before_end, fit.together.base, fit.together.granules) in
-    let cells : length (set m.cells i (bits_of_bytes bytes, tag)) ≡ length m.cells = length-set m.cells i (bits_of_bytes bytes, tag) in
+    let within : (address - m.base) / 16 < length m.granules = omega (arith, there.1.at, there.1.before_end, fit.together.base, fit.together.granules) in
+    let granules : length (set m.granules i (bits_of_bytes bytes, tag)) ≡ length m.granules = length-set m.granules i (bits_of_bytes bytes, tag) in
     let dirty : length (marks_after m.dirty i tag) ≡ length m.dirty = marks_length m.dirty i tag in
     record {
-      together = record { base = fit.together.base; granules = omega (arith, fit.together.granules, cells) };
-      pages = omega (arith, fit.pages, cells, dirty);
+      together = record { base = fit.together.base; granules = omega (arith, fit.together.granules, granules) };
+      pages = omega (arith, fit.pages, granules, dirty);
       words = fit.words;
-      granules = All-set (HoldsGuarded s) m.cells i (bits_of_bytes bytes, tag) guarded fit.granules;
+      granules = All-set (HoldsGuarded s) m.granules i (bits_of_bytes bytes, tag) guarded fit.granules;
       dirty = AreTagsDirty-put m i (bits_of_bytes bytes) tag fit.pages within fit.dirty;
     }
 
@@ -123,21 +123,21 @@ with_words s m registers new fit all =
 FitHeap-given : (s : HeapState) (m : MemoryState) (registers : List Cell) (given : Given) → FitHeap s m registers → MayHold s given
     → FitHeap s (with_given_memory m given) (with_given_register registers given)
 FitHeap-given s m registers (Register r tag bytes) fit may =
-    with_words s m registers (with_register registers r (cell_with tag bytes)) fit (register_kept s registers r (cell_with tag bytes) (r == 0) fit.words may.1)
+    with_words s m registers (registers_with registers r (cell_with tag bytes)) fit (register_kept s registers r (cell_with tag bytes) (r == 0) fit.words may.1)
 FitHeap-given s m registers (Granule address tag bytes) fit may = FitHeap-put s m registers address tag bytes fit may.0 may.1
 FitHeap-given s m registers (Live base top) fit may = fit
 FitHeap-given s m registers (Waiting base top) fit may = fit
 FitHeap-given s m registers (Painted base top) fit may = fit
 FitHeap-given s m registers Epoch fit may = fit
 
--- The cells of the memory, as the meaning of the lines has them.
-cells_given : (m : MemoryState) (base : ℕ) (given : Given) → m.base ≡ base → (with_given_memory m given).cells ≡ with_given_granule base m.cells given
-cells_given m base (Granule address tag bytes) at = ap (λ (b : ℕ). set m.cells ((address - b) / 16) (bits_of_bytes bytes, tag)) at
-cells_given m base (Register r tag bytes) at = refl
-cells_given m base (Live start top) at = refl
-cells_given m base (Waiting start top) at = refl
-cells_given m base (Painted start top) at = refl
-cells_given m base Epoch at = refl
+-- The granules of the memory, as the meaning of the lines has them.
+granules_given : (m : MemoryState) (base : ℕ) (given : Given) → m.base ≡ base → (with_given_memory m given).granules ≡ with_given_granule base m.granules given
+granules_given m base (Granule address tag bytes) at = ap (λ (b : ℕ). set m.granules ((address - b) / 16) (bits_of_bytes bytes, tag)) at
+granules_given m base (Register r tag bytes) at = refl
+granules_given m base (Live start top) at = refl
+granules_given m base (Waiting start top) at = refl
+granules_given m base (Painted start top) at = refl
+granules_given m base Epoch at = refl
 
 base_given : (m : MemoryState) (given : Given) → (with_given_memory m given).base ≡ m.base
 base_given m (Granule address tag bytes) = refl
@@ -154,8 +154,8 @@ FitHeap-more s m new registers written given fit may puts sets =
     subst (λ (x : MemoryState). FitHeap s x written) (sym puts) (
     subst (λ (x : List Cell). FitHeap s (with_given_memory m given) x) (sym sets) (FitHeap-given s m registers given fit may))
 
-pub cells_more : (m new : MemoryState) (base : ℕ) (given : Given) → m.base ≡ base → new ≡ with_given_memory m given → new.cells ≡ with_given_granule base m.cells given
-cells_more m new base given at puts = ap (λ (x : MemoryState). x.cells) puts ∙ cells_given m base given at
+pub granules_more : (m new : MemoryState) (base : ℕ) (given : Given) → m.base ≡ base → new ≡ with_given_memory m given → new.granules ≡ with_given_granule base m.granules given
+granules_more m new base given at puts = ap (λ (x : MemoryState). x.granules) puts ∙ granules_given m base given at
 
 pub base_more : (m new : MemoryState) (base : ℕ) (given : Given) → m.base ≡ base → new ≡ with_given_memory m given → new.base ≡ base
 base_more m new base given at puts = ap (λ (x : MemoryState). x.base) puts ∙ (base_given m given ∙ at)
@@ -180,7 +180,7 @@ no_flaw : (s : HeapState) (m : MemoryState) (registers : List Cell) (why : Flaw)
 no_flaw s m registers flaw.Elsewhere fit is = is fit.together
 no_flaw s m registers (flaw.Register r) fit is = is.2.lacks (register_at_all s registers r fit.words)
 no_flaw s m registers (flaw.Granule i) fit is = is.3.lacks (fit.granules i (0, false) is.2)
-no_flaw s m registers (flaw.Clean i) fit is = is.4.lacks (λ taken. fit.dirty i (taken_tag s.painted (get_or m.cells i (0, false)) taken))
+no_flaw s m registers (flaw.Clean i) fit is = is.4.lacks (λ taken. fit.dirty i (taken_tag s.painted (get_or m.granules i (0, false)) taken))
 
 pub IsOk-made : {X : Type 0} (s : HeapState) (m : MemoryState) (registers : List Cell) (answer : Result X Flaw) → FitHeap s m registers → IfErr answer (IsFlaw s m registers) → IsOk answer
 IsOk-made s m registers (Ok made) fit flawed = refl

@@ -4,12 +4,12 @@ use Rattle.std.specs.Prelude.{All}
 use Rattle.std.proofs.lemmas.List.{append-nil, append_assoc}
 use Rattle.std.proofs.lemmas.List.Elements.{All-contains, Contains-append_right}
 use Rattle.tag_memory.specs.Cells.{Cell}
-use Rattle.heap_core.specs.Heap.{HeapState, empty_heap}
-use Rattle.heap_core.specs.Laws.{no_reason}
-use Rattle.heap_core.specs.declared.block.Claim.{Claim}
+use Rattle.heap_model.specs.Heap.{HeapState, empty_heap}
+use Rattle.heap_model.specs.Laws.{no_reason}
+use Rattle.heap_model.specs.declared.block.Claim.{Claim}
 use Rattle.log_text.specs.declared.log.Given.{Given}
 use Rattle.log_text.specs.declared.log.Given.TheVariants.{Epoch, Granule, Live, Painted, Register, Waiting}
-use Rattle.heap_machine.specs.Safety.{IsGuarded}
+use Rattle.machine_steps.specs.Safety.{IsGuarded}
 use Rattle.given_state.specs.declared.fault.Lack.{Lack}
 use Rattle.given_state.specs.declared.fault.Lack.TheVariants.{Block, GranuleAgain, NoGranule, NotNull, RegisterAgain, Unguarded}
 use Rattle.log_text.specs.Log.{first_line}

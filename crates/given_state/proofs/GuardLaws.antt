@@ -6,15 +6,15 @@ use Rattle.std.proofs.lemmas.Bool.{true≢false}
 use Rattle.std.proofs.lemmas.List.Elements.{All-contains}
 use Rattle.cap_codec.specs.Words.{bounds_in}
 use Rattle.cap_codec.specs.declared.word.Bounds.{Bounds}
-use Rattle.heap_core.specs.Blocks.{Span, end_of, has_address}
-use Rattle.heap_core.specs.Found.{IsFound, IsInNoBlock, blocks_in}
-use Rattle.heap_core.specs.Heap.{HeapState}
-use Rattle.heap_core.specs.Laws.{Contains-block, has_address-within}
-use Rattle.heap_core.specs.declared.block.Kind.{Kind}
-use Rattle.heap_core.specs.declared.block.Kind.TheVariants.{Live, Painted, Waiting}
+use Rattle.heap_model.specs.Blocks.{Span, end_of, has_address}
+use Rattle.heap_model.specs.Found.{IsFound, IsInNoBlock, blocks_in}
+use Rattle.heap_model.specs.Heap.{HeapState}
+use Rattle.heap_model.specs.Laws.{Contains-block, has_address-within}
+use Rattle.heap_model.specs.declared.block.Kind.{Kind}
+use Rattle.heap_model.specs.declared.block.Kind.TheVariants.{Live, Painted, Waiting}
 use Rattle.tag_memory.specs.Cells.{Cell, MemoryState}
 use Rattle.heap_machine.specs.Making.{LieTogether}
-use Rattle.heap_machine.specs.Safety.{IsGuarded, IsLiveOrHeld}
+use Rattle.machine_steps.specs.Safety.{IsGuarded, IsLiveOrHeld}
 use Rattle.given_state.specs.declared.fault.Lack.{Lack}
 use Rattle.given_state.specs.declared.fault.Lack.TheVariants.{Block, GranuleAgain, NoGranule, NotNull, RegisterAgain, Unguarded}
 use Rattle.given_state.specs.Given.{HasGranule, IsUnguarded, LacksGranule, LacksGuard}
@@ -88,7 +88,7 @@ IsUnguarded-nowhere heap c range is none tagged = unguarded heap c range is (not
 
 -- ---- granules
 
-pub HasGranule-none : (s : HeapState) (m : MemoryState) (address : ℕ) → LieTogether s m → ((i : ℕ) → address ≡ m.base + 16 * i → i < length m.cells → ⊥) → ¬ HasGranule s address
+pub HasGranule-none : (s : HeapState) (m : MemoryState) (address : ℕ) → LieTogether s m → ((i : ℕ) → address ≡ m.base + 16 * i → i < length m.granules → ⊥) → ¬ HasGranule s address
 HasGranule-none s m address together none there =
     none there.0 (omega (arith, there.1.at, together.base)) (omega (arith, there.1.before_end, together.granules))
 

@@ -4,8 +4,8 @@ use Rattle.std.specs.Prelude.{fold}
 use Rattle.std.proofs.Math.Seq.{split_at}
 use Rattle.std.proofs.lemmas.List.{take_more}
 use Rattle.std.proofs.lemmas.List.Sums.{fold_more}
-use Rattle.heap_core.specs.Heap.{HeapState}
-use Rattle.heap_core.specs.declared.block.Claim.{Claim}
+use Rattle.heap_model.specs.Heap.{HeapState}
+use Rattle.heap_model.specs.declared.block.Claim.{Claim}
 use Rattle.log_text.specs.declared.log.Given.{Given}
 use Rattle.given_state.specs.declared.fault.Lack.{Lack}
 use Rattle.given_state.specs.Given.{LacksHold, LacksHoldFirst, LacksPlace, LacksPlaceFirst, MayAllHold, MayAllLie, MayLie, all_claimed, block_in, with_claimed}

@@ -1,21 +1,21 @@
 -- The given heap: how it is made, where it lies, and whether an epoch is open in it.
 use Rattle.std.proofs.Common.{◌≡◌, ◌∙◌, ℕ, Bool, true, false, List, [], ◌∷◌, Option, None, Some, if◌then◌else◌, refl, ap}
 use Rattle.std.specs.List.{list_any}
-use Rattle.heap_core.specs.Heap.{HeapState, empty_heap}
-use Rattle.heap_core.specs.Quarantine.{with_epoch}
-use Rattle.heap_core.specs.declared.block.Kind.{Kind}
-use Rattle.heap_core.specs.declared.block.Kind.TheVariants as kind
+use Rattle.heap_model.specs.Heap.{HeapState, empty_heap}
+use Rattle.heap_model.specs.Quarantine.{with_epoch}
+use Rattle.heap_model.specs.declared.block.Kind.{Kind}
+use Rattle.heap_model.specs.declared.block.Kind.TheVariants as kind
 use Rattle.log_text.specs.declared.log.Given.{Given}
-use Rattle.given_state.specs.Given.{all_claimed, all_released, block_in, block_of_kind, given_heap, tells_epoch, with_claimed, with_epoch_told, with_released}
+use Rattle.given_state.specs.Given.{all_claimed, all_released, block_in, block_of_kind, given_heap, gives_epoch, with_claimed, with_epoch_given, with_released}
 
 -- It is made step by step.
 pub given_heap-made : (base pages : ℕ) (lines : List (ℕ × Given)) (first claimed painted opened last : HeapState) → first ≡ empty_heap base pages
-    → claimed ≡ all_claimed first lines → painted ≡ all_released kind.Painted claimed lines → opened ≡ with_epoch_told painted lines
+    → claimed ≡ all_claimed first lines → painted ≡ all_released kind.Painted claimed lines → opened ≡ with_epoch_given painted lines
     → last ≡ all_released kind.Waiting opened lines → last ≡ given_heap base pages lines
 unfolding given_heap
 given_heap-made base pages lines first claimed painted opened last new claims paints opens waits =
     waits ∙ ap (λ (h : HeapState). all_released kind.Waiting h lines) (
-    opens ∙ ap (λ (h : HeapState). with_epoch_told h lines) (
+    opens ∙ ap (λ (h : HeapState). with_epoch_given h lines) (
     paints ∙ ap (λ (h : HeapState). all_released kind.Painted h lines) (
     claims ∙ ap (λ (h : HeapState). all_claimed h lines) new)))
 
@@ -57,9 +57,9 @@ LieAtOne-given base pages lines =
     let first = empty_heap base pages in
     let claimed = all_claimed first lines in
     let painted = all_released kind.Painted claimed lines in
-    let opened = with_epoch_told painted lines in
+    let opened = with_epoch_given painted lines in
     one_place (all_released kind.Waiting opened lines) opened first (LieAtOne-all_released kind.Waiting opened lines) (
-    one_place opened painted first (LieAtOne-told (list_any (λ line. tells_epoch line.1) lines) painted) (
+    one_place opened painted first (LieAtOne-told (list_any (λ line. gives_epoch line.1) lines) painted) (
     one_place painted claimed first (LieAtOne-all_released kind.Painted claimed lines) (LieAtOne-all_claimed first lines)))
 
 -- ---- whether an epoch is open

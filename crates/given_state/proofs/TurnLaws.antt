@@ -3,16 +3,16 @@ use Rattle.std.proofs.Common.{◌≡◌, ◌<◌, ◌-◌, ℕ, Bool, true, fals
 use Rattle.std.specs.Prelude.{All}
 use Rattle.std.proofs.lemmas.List.Elements.{All-cons, All-contains, All-head, All-nil, All-tail}
 use Rattle.std.specs.List.{list_any}
-use Rattle.heap_core.specs.Blocks.{IsApart}
-use Rattle.heap_core.specs.Claim.{IsClaimable}
-use Rattle.heap_core.specs.Heap.{HeapState}
-use Rattle.heap_core.specs.Laws.{Contains-block}
-use Rattle.heap_core.specs.Quarantine.{with_epoch}
-use Rattle.heap_core.specs.declared.block.Kind.{Kind}
-use Rattle.heap_core.specs.declared.block.Kind.TheVariants as kind
+use Rattle.heap_model.specs.Blocks.{IsApart}
+use Rattle.heap_model.specs.Claim.{IsClaimable}
+use Rattle.heap_model.specs.Heap.{HeapState}
+use Rattle.heap_model.specs.Laws.{Contains-block}
+use Rattle.heap_model.specs.Quarantine.{with_epoch}
+use Rattle.heap_model.specs.declared.block.Kind.{Kind}
+use Rattle.heap_model.specs.declared.block.Kind.TheVariants as kind
 use Rattle.log_text.specs.declared.log.Given.{Given}
 use Rattle.log_text.specs.declared.log.Given.TheVariants.{Epoch, Granule, Live, Painted, Register, Waiting}
-use Rattle.given_state.specs.Given.{MayAllLie, MayLie, all_claimed, all_released, block_in, block_of_kind, tells_epoch, with_claimed, with_epoch_told, with_released}
+use Rattle.given_state.specs.Given.{MayAllLie, MayLie, all_claimed, all_released, block_in, block_of_kind, gives_epoch, with_claimed, with_epoch_given, with_released}
 use Rattle.given_state.specs.Giving.{AreLiveInTurn}
 use Rattle.given_state.proofs.BlockLaws.{IsLive-if, LivesAt, LivesAt-all_claimed, LivesAt-claimed, LivesAt-new, LivesAt-released}
 
@@ -144,8 +144,8 @@ told_live : (told : Bool) (s : HeapState) (b : ℕ × ℕ) → LivesAt s b → L
 told_live true s b live = live
 told_live false s b live = live
 
-live_told : (one : Kind) (s : HeapState) (lines : List (ℕ × Given)) → All (LivesOf one s) lines → All (LivesOf one (with_epoch_told s lines)) lines
-live_told one s lines live = λ k d lt b is. told_live (list_any (λ line. tells_epoch line.1) lines) s b (live k d lt b is)
+live_told : (one : Kind) (s : HeapState) (lines : List (ℕ × Given)) → All (LivesOf one s) lines → All (LivesOf one (with_epoch_given s lines)) lines
+live_told one s lines live = λ k d lt b is. told_live (list_any (λ line. gives_epoch line.1) lines) s b (live k d lt b is)
 
 -- ---- what the two passes over the lines want
 
@@ -156,7 +156,7 @@ painted_in_turn first claimed lines may claims =
     in_turn kind.Painted (all_claimed first lines) lines (all_live_of kind.Painted (all_claimed first lines) lines (all_live first lines may)) (all_differ first lines may))
 
 pub waiting_in_turn : (first claimed painted opened : HeapState) (lines : List (ℕ × Given)) → MayAllLie first lines → claimed ≡ all_claimed first lines
-    → painted ≡ all_released kind.Painted claimed lines → opened ≡ with_epoch_told painted lines → AreLiveInTurn kind.Waiting opened lines
+    → painted ≡ all_released kind.Painted claimed lines → opened ≡ with_epoch_given painted lines → AreLiveInTurn kind.Waiting opened lines
 waiting_in_turn first claimed painted opened lines may claims paints opens =
     let differ = all_differ first lines may in
     let there : All (LivesOf kind.Waiting claimed) lines =

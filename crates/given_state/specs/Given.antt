@@ -5,19 +5,19 @@ use Rattle.std.specs.Prelude.{◌≡◌, ◌==◌, ◌<◌, ◌+◌, ◌-◌, �
 use Rattle.std.specs.List.{All, list_any}
 use Rattle.cap_codec.specs.Bytes.{bits_of_bytes}
 use Rattle.cap_codec.specs.Words.{bounds_in}
-use Rattle.tag_memory.specs.Cells.{Cell, Granule as TheGranule, new_memory, new_registers, null_cell, with_register}
-use Rattle.heap_core.specs.Claim.{IsClaimable, IsReason}
-use Rattle.heap_core.specs.Heap.{HeapState, empty_heap}
-use Rattle.heap_core.specs.Place.{with_block}
-use Rattle.heap_core.specs.Quarantine.{with_epoch, with_waiting}
-use Rattle.heap_core.specs.declared.block.Claim.{Claim}
-use Rattle.heap_core.specs.declared.block.Kind.{Kind}
-use Rattle.heap_core.specs.declared.block.Kind.TheVariants as kind
+use Rattle.tag_memory.specs.Cells.{Cell, Granule as TheGranule, new_memory, new_registers, null_cell, registers_with}
+use Rattle.heap_model.specs.Claim.{IsClaimable, IsReason}
+use Rattle.heap_model.specs.Heap.{HeapState, empty_heap}
+use Rattle.heap_model.specs.Place.{with_block}
+use Rattle.heap_model.specs.Quarantine.{with_epoch, with_waiting}
+use Rattle.heap_model.specs.declared.block.Claim.{Claim}
+use Rattle.heap_model.specs.declared.block.Kind.{Kind}
+use Rattle.heap_model.specs.declared.block.Kind.TheVariants as kind
 use Rattle.log_text.specs.declared.log.Given.{Given}
 use Rattle.log_text.specs.declared.log.Given.TheVariants.{Epoch, Granule, Live, Painted, Register, Waiting}
 use Rattle.log_text.specs.Log.{first_line}
-use Rattle.heap_machine.specs.Safety.{IsGuarded}
-use Rattle.heap_machine.specs.State.{State}
+use Rattle.machine_steps.specs.Safety.{IsGuarded}
+use Rattle.machine_steps.specs.State.{State}
 use Rattle.given_state.specs.declared.fault.Lack.{Lack}
 use Rattle.given_state.specs.declared.fault.Lack.TheVariants.{Block, GranuleAgain, NoGranule, NotNull, RegisterAgain, Unguarded}
 use Rattle.given_state.specs.declared.fault.StartFault.{StartFault}
@@ -58,21 +58,21 @@ abbrev pub all_released : Kind → HeapState → List (ℕ × Given) → HeapSta
 all_released one s lines = fold (λ h line. with_released h (block_of_kind one line.1)) s lines
 
 -- The line says that an epoch is open. It is where a block is painted.
-abbrev pub tells_epoch : Given → Bool
-tells_epoch (Painted base top) = true
-tells_epoch Epoch = true
-tells_epoch given = false
+abbrev pub gives_epoch : Given → Bool
+gives_epoch (Painted base top) = true
+gives_epoch Epoch = true
+gives_epoch given = false
 
 -- The heap once an epoch has begun, where these lines say that one is open.
-abbrev pub with_epoch_told : HeapState → List (ℕ × Given) → HeapState
-with_epoch_told s lines = if list_any (λ line. tells_epoch line.1) lines then with_epoch s else s
+abbrev pub with_epoch_given : HeapState → List (ℕ × Given) → HeapState
+with_epoch_given s lines = if list_any (λ line. gives_epoch line.1) lines then with_epoch s else s
 
 -- The heap that the lines tell of: its blocks are handed out, those that are painted are given up, an epoch begins if one
 -- is open, and then those are given up that wait.
 unfoldable pub given_heap : ℕ → ℕ → List (ℕ × Given) → HeapState
 given_heap base pages lines =
     let claimed = all_claimed (empty_heap base pages) lines in
-    all_released kind.Waiting (with_epoch_told (all_released kind.Painted claimed lines) lines) lines
+    all_released kind.Waiting (with_epoch_given (all_released kind.Painted claimed lines) lines) lines
 
 -- ---- words
 
@@ -82,27 +82,27 @@ cell_with tag bytes = (record { bits = bits_of_bytes bytes }, tag)
 
 -- The registers with what a line gives.
 abbrev pub with_given_register : List Cell → Given → List Cell
-with_given_register registers (Register register tag bytes) = with_register registers register (cell_with tag bytes)
+with_given_register registers (Register register tag bytes) = registers_with registers register (cell_with tag bytes)
 with_given_register registers given = registers
 
 -- The granules of a heap at base with what a line gives, whose address is that of one of them.
 abbrev pub with_given_granule : ℕ → List TheGranule → Given → List TheGranule
-with_given_granule base cells (Granule address tag bytes) = slice_set cells ((address - base) / 16) (bits_of_bytes bytes, tag)
-with_given_granule base cells given = cells
+with_given_granule base granules (Granule address tag bytes) = slice_set granules ((address - base) / 16) (bits_of_bytes bytes, tag)
+with_given_granule base granules given = granules
 
 -- The registers with what the lines give, one after another.
 abbrev pub given_registers : List Cell → List (ℕ × Given) → List Cell
 given_registers registers lines = fold (λ old line. with_given_register old line.1) registers lines
 
 -- The granules with it.
-abbrev pub given_cells : ℕ → List TheGranule → List (ℕ × Given) → List TheGranule
-given_cells base cells lines = fold (λ old line. with_given_granule base old line.1) cells lines
+abbrev pub given_granules : ℕ → List TheGranule → List (ℕ × Given) → List TheGranule
+given_granules base granules lines = fold (λ old line. with_given_granule base old line.1) granules lines
 
 -- The state that the lines tell of, of a heap of so many pages at base.
 abbrev pub given_state : ℕ → ℕ → List (ℕ × Given) → State
 given_state base pages lines = record {
   heap = given_heap base pages lines;
-  cells = given_cells base (new_memory base pages).cells lines;
+  granules = given_granules base (new_memory base pages).granules lines;
   registers = given_registers new_registers lines;
 }
 

@@ -5,14 +5,14 @@ use Rattle.std.specs.List.{All}
 use Rattle.std.specs.Ordering.{nat_cmp}
 use Rattle.cap_codec.specs.Bytes.{bits_of_bytes}
 use Rattle.tag_memory.specs.Cells.{Cell, MemoryState, is_dirty_at, marks_after}
-use Rattle.heap_core.specs.Blocks.{is_block}
-use Rattle.heap_core.specs.Heap.{HeapState}
-use Rattle.heap_core.specs.declared.block.Kind.{Kind}
+use Rattle.heap_model.specs.Blocks.{is_block}
+use Rattle.heap_model.specs.Heap.{HeapState}
+use Rattle.heap_model.specs.declared.block.Kind.{Kind}
 use Rattle.log_text.specs.declared.log.Given.{Given}
 use Rattle.log_text.specs.declared.log.Given.TheVariants.{Granule, Register}
 use Rattle.log_text.specs.Log.{first_line}
 use Rattle.heap_machine.specs.Making.{LieTogether}
-use Rattle.heap_machine.specs.Safety.{HoldsGuarded, IsGuarded}
+use Rattle.machine_steps.specs.Safety.{HoldsGuarded, IsGuarded}
 use Rattle.given_state.specs.Given.{IsGivenAgain, block_of_kind, with_released}
 use Rattle.given_state.specs.declared.fault.StartFault.{StartFault}
 use Rattle.given_state.specs.declared.fault.StartFault.TheVariants.{Memory, Unsafe}
@@ -61,7 +61,7 @@ IsFaultOfWords lines (Unsafe line lack) = IsGivenAgain lines line lack
 abbrev pub memory_with : MemoryState → ℕ → Bool → List ℕ → MemoryState
 memory_with m address tag bytes =
     let i = (address - m.base) / 16 in
-    record m { cells = slice_set m.cells i (bits_of_bytes bytes, tag); may_hold = marks_after m.may_hold i tag; dirty = marks_after m.dirty i tag }
+    record m { granules = slice_set m.granules i (bits_of_bytes bytes, tag); may_hold = marks_after m.may_hold i tag; dirty = marks_after m.dirty i tag }
 
 -- The memory with what a line gives.
 abbrev pub with_given_memory : MemoryState → Given → MemoryState
@@ -70,12 +70,12 @@ with_given_memory m given = m
 
 -- Each tagged granule stands in a dirty page.
 abbrev pub AreTagsDirty : MemoryState → Type 0
-AreTagsDirty m = (i : ℕ) → (slice_index_or m.cells i (0, false)).1 ≡ true → is_dirty_at m.dirty (i / 256) ≡ true
+AreTagsDirty m = (i : ℕ) → (slice_index_or m.granules i (0, false)).1 ≡ true → is_dirty_at m.dirty (i / 256) ≡ true
 
 -- The memory and the registers can be a machine's, with this heap.
 pub record FitHeap (s : HeapState) (m : MemoryState) (registers : List Cell) : Type 0 where
   pub together : LieTogether s m
-  pub pages : length m.cells ≡ 256 * length m.dirty
+  pub pages : length m.granules ≡ 256 * length m.dirty
   pub words : All (IsGuarded s) registers
-  pub granules : All (HoldsGuarded s) m.cells
+  pub granules : All (HoldsGuarded s) m.granules
   pub dirty : AreTagsDirty m

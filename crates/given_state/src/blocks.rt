@@ -2,9 +2,9 @@
 
 ghost use Rattle.std.specs.Prelude.{◌≡◌, IfErr, IfOk, OnOk, false};
 ghost use Rattle.std.specs.List.{list_any};
-ghost use Rattle.heap_core.specs.Heap.{empty_heap};
+ghost use Rattle.heap_model.specs.Heap.{empty_heap};
 ghost use Rattle.trace_text.specs.Heap.{IsHeap};
-ghost use Rattle.given_state.specs.Given.{IsFault, LacksPlace, LacksPlaceFirst, MayAllLie, MayLie, all_claimed, all_released, block_in, block_of_kind, given_heap, tells_epoch, with_claimed, with_epoch_told, with_released};
+ghost use Rattle.given_state.specs.Given.{IsFault, LacksPlace, LacksPlaceFirst, MayAllLie, MayLie, all_claimed, all_released, block_in, block_of_kind, given_heap, gives_epoch, with_claimed, with_epoch_given, with_released};
 ghost use Rattle.given_state.specs.Giving.{AreLiveInTurn, IsLive};
 
 use crate::fault::{Lack, StartFault};
@@ -87,14 +87,14 @@ fn release_all(heap: &mut Heap, kind: Kind, givens: &[(u32, Given)])
 
 // Whether a line says that an epoch is open.
 fn is_epoch(given: Given) -> bool
-    ensures { result ≡ tells_epoch given }
+    ensures { result ≡ gives_epoch given }
 {
     matches!(given, Given::Painted { .. } | Given::Epoch)
 }
 
 // Whether some line says so.
 fn are_epoch(givens: &[(u32, Given)]) -> bool
-    ensures { result ≡ list_any (λ line. tells_epoch line.1) givens.now }
+    ensures { result ≡ list_any (λ line. gives_epoch line.1) givens.now }
 {
     givens.iter().any(|(_, given)| is_epoch(*given))
 }
@@ -102,7 +102,7 @@ fn are_epoch(givens: &[(u32, Given)]) -> bool
 // Begins an epoch, if lines say that one is open.
 fn open_epoch(heap: &mut Heap, givens: &[(u32, Given)])
     requires { heap.old.is_open ≡ false }
-    ensures { heap.new ≡ with_epoch_told heap.old givens.now }
+    ensures { heap.new ≡ with_epoch_given heap.old givens.now }
 {
     if are_epoch(givens) {
         heap.begin_epoch();

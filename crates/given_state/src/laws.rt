@@ -6,7 +6,7 @@ ghost use Rattle.given_state.specs.declared.fault.Lack.{Lack};
 ghost use Rattle.given_state.specs.Given.{AreSafe, IsFirstFlaw};
 
 /// Lines that are as they must be have no flaw.
-pub fn flaws()
+pub fn no_flaw_law()
     ensures { (base pages : ℕ) (lines : List (ℕ × Given)) (line : ℕ) (lack : Lack) →
         AreSafe base pages lines → IsFirstFlaw base pages lines line lack → ⊥ }
 {}

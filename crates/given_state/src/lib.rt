@@ -9,5 +9,5 @@ mod starting;
 mod words;
 
 pub use crate::fault::{Lack, StartFault};
-pub use crate::laws::flaws;
+pub use crate::laws::no_flaw_law;
 pub use crate::starting::start;

@@ -3,8 +3,8 @@
 ghost use Rattle.std.specs.Prelude.{◌≡◌, [], All, IfErr, IfOk, OnOk};
 ghost use Rattle.log_text.specs.Log.{IsListedGiven};
 ghost use Rattle.trace_text.specs.Heap.{IsHeap};
-ghost use Rattle.heap_machine.specs.Making.{made};
-ghost use Rattle.heap_machine.specs.Safety.{IsSafe};
+ghost use Rattle.heap_machine.specs.Making.{machine_of_fields};
+ghost use Rattle.machine_steps.specs.Safety.{IsSafe};
 ghost use Rattle.given_state.specs.Given.{AreSafe, IsFault, given_state};
 ghost use Rattle.given_state.specs.Giving.{FitHeap};
 
@@ -22,7 +22,7 @@ use tag_memory::{Memory, Registers};
 // The machine of parts that fit.
 fn machine_of(heap: Heap, memory: Memory, registers: Registers, cutting: Cutting) -> Machine
     requires { FitHeap heap memory registers }
-    ensures made { result ≡ made heap memory registers cutting }
+    ensures made { result ≡ machine_of_fields heap memory registers cutting }
     ensures safe { IsSafe result.state }
 {
     Machine::of(heap, memory, registers, cutting).unwrap()

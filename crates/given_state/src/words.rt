@@ -2,10 +2,10 @@
 
 ghost use Rattle.std.specs.Prelude.{◌≡◌, ◌<◌, ◌+◌, ◌*◌, ℕ, All, IfErr, MatchOption, OnOk, length};
 ghost use Rattle.log_text.specs.Log.{IsListedGiven, IsValidGiven};
-ghost use Rattle.tag_memory.specs.Cells.{register_count, with_register};
+ghost use Rattle.tag_memory.specs.Cells.{register_count, registers_with};
 ghost use Rattle.heap_machine.specs.Making.{LieTogether};
-ghost use Rattle.heap_machine.specs.Safety.{IsGuarded};
-ghost use Rattle.given_state.specs.Given.{HasGranule, KeepsNull, LacksGranule, LacksGuard, LacksRegister, LacksHold, LacksHoldFirst, MayAllHold, MayHold, cell_with, given_cells, given_registers, with_given_register};
+ghost use Rattle.machine_steps.specs.Safety.{IsGuarded};
+ghost use Rattle.given_state.specs.Given.{HasGranule, KeepsNull, LacksGranule, LacksGuard, LacksRegister, LacksHold, LacksHoldFirst, MayAllHold, MayHold, cell_with, given_granules, given_registers, with_given_register};
 ghost use Rattle.given_state.specs.Giving.{FitHeap, memory_with, with_given_memory};
 
 use crate::fault::Lack;
@@ -50,7 +50,7 @@ fn hold_register(
     requires { register < register_count }
     ensures null { OnOk result (KeepsNull register (cell_with tag bytes)) }
     ensures guarded { OnOk result (IsGuarded heap.now (cell_with tag bytes)) }
-    ensures set { OnOk result (registers.new ≡ with_register registers.old register (cell_with tag bytes)) }
+    ensures set { OnOk result (registers.new ≡ registers_with registers.old register (cell_with tag bytes)) }
     ensures err { IfErr result (LacksRegister heap.now register (cell_with tag bytes)) }
 {
     let word = from_bytes(bytes);
@@ -65,8 +65,8 @@ fn hold_register(
 // Which granule lies at this address, counted from the base.
 fn granule_index(memory: &Memory, address: u64) -> Option<usize>
     ensures { MatchOption result
-        ((i : ℕ) → address ≡ memory.now.base + 16 * i → i < length memory.now.cells → ⊥)
-        (λ i. (address ≡ memory.now.base + 16 * i) × (i < length memory.now.cells)) }
+        ((i : ℕ) → address ≡ memory.now.base + 16 * i → i < length memory.now.granules → ⊥)
+        (λ i. (address ≡ memory.now.base + 16 * i) × (i < length memory.now.granules)) }
 {
     let base = memory.base();
     if address < base {
@@ -148,7 +148,7 @@ pub fn hold_all(
     requires fit { FitHeap heap.now memory.old registers.old }
     ensures may { OnOk result (MayAllHold heap.now givens.now) }
     ensures registers { OnOk result (registers.new ≡ given_registers registers.old givens.now) }
-    ensures cells { OnOk result (memory.new.cells ≡ given_cells memory.old.base memory.old.cells givens.now) }
+    ensures granules { OnOk result (memory.new.granules ≡ given_granules memory.old.base memory.old.granules givens.now) }
     ensures fit { OnOk result (FitHeap heap.now memory.new registers.new) }
     ensures first { IfErr result (λ flaw. LacksHoldFirst heap.now givens.now flaw.0 flaw.1) }
 {

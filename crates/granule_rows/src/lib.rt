@@ -13,5 +13,6 @@ mod word;
 
 pub use crate::count::{count_both, place_of_both};
 pub use crate::last::last_set;
-pub use crate::ranges::{clear_run, clear_words, range_word, row_bit, set_run};
+pub use crate::ranges::{clear_run, clear_words, range_word, set_run};
 pub use crate::row::FreeRow;
+pub use tag_memory::row_bit;

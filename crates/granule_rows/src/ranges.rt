@@ -4,15 +4,7 @@ ghost use Rattle.std.specs.Prelude.{◌≡◌, ◌<◌, ◌≤◌, ◌+◌, ◌*
 ghost use Rattle.granule_rows.specs.Runs.{is_within};
 ghost use Rattle.tag_memory.specs.Tags.{is_set, is_set_for};
 
-use tag_memory::{WORD_GRANULES, bit};
-
-/// Whether bit `k` of a row is 1.
-pub fn row_bit(words: &[u64], k: usize) -> bool
-    requires { k < 64 * length words.now }
-    ensures { result ≡ is_set_for words.now k }
-{
-    bit(words[k / WORD_GRANULES], k % WORD_GRANULES)
-}
+use tag_memory::WORD_GRANULES;
 
 // The word whose bits `low` to `high - 1` are 1.
 pub fn run_word(low: usize, high: usize) -> u64

@@ -5,12 +5,12 @@ ghost use Rattle.granule_rows.specs.Runs.{IsFirstMultiple, IsFirstRun, IsRun, al
 ghost use Rattle.tag_memory.specs.Tags.{is_set_for};
 
 use crate::find::{first_from, first_in};
-use crate::ranges::{add_words, clear_run, row_bit, set_run};
+use crate::ranges::{add_words, clear_run, set_run};
 use crate::summary::Summary;
 use crate::tree::renew;
 use std::alloc::{AllocError, Global};
 use std::marker::Model;
-use tag_memory::WORD_GRANULES;
+use tag_memory::{WORD_GRANULES, row_bit};
 
 /// A row of bits that are 1 where a granule is free.
 #[derive(Drop)]
@@ -81,7 +81,7 @@ impl FreeRow {
     }
 
     /// Makes `n` granules from `p` on free.
-    pub fn give(&mut self, p: usize, n: usize)
+    pub fn vacate(&mut self, p: usize, n: usize)
         requires { p + n ≤ 64 * length self.old }
         ensures count { length self.new ≡ length self.old }
         ensures bits { (k : ℕ) → is_set_for self.new k ≡ (is_within p (p + n) k || is_set_for self.old k) }
@@ -98,7 +98,7 @@ impl FreeRow {
     }
 
     /// Takes `n` granules from `p` on.
-    pub fn take(&mut self, p: usize, n: usize)
+    pub fn occupy(&mut self, p: usize, n: usize)
         requires { p + n ≤ 64 * length self.old }
         ensures count { length self.new ≡ length self.old }
         ensures bits { (k : ℕ) → is_set_for self.new k ≡ (is_set_for self.old k && not (is_within p (p + n) k)) }
@@ -167,7 +167,7 @@ impl FreeRow {
     }
 
     /// Makes those granules of words `first` to `end - 1` free whose bits are 1 in another row.
-    pub fn give_words(&mut self, other: &[u64], first: usize, end: usize)
+    pub fn vacate_words(&mut self, other: &[u64], first: usize, end: usize)
         requires order { first ≤ end }
         requires within { end ≤ length self.old }
         requires there { end ≤ length other.now }

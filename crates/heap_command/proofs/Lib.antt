@@ -1,1 +1,1 @@
-mod AnswerLaws
+pub mod RunLaws

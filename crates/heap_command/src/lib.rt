@@ -1,9 +1,7 @@
-//! The program over any devices: words and bytes in, an exit status and bytes out.
+//! The program over any devices, with runs by threads.
 #![tactic(auto)]
 
-mod lines;
 mod program;
 
-pub use crate::program::{refuse, tool};
-pub use command_line::{Options, Refusal};
-pub use trace_program::{Failed, FromRead, FromWrite, Sink, Source};
+pub use crate::program::tool;
+pub use tool_program::{Failed, FromRead, FromWrite, Options, Refusal, Sink, Source, refuse};

@@ -1,30 +1,35 @@
-//! The program over any devices.
+//! The program with runs by threads.
 
 ghost use Rattle.std.specs.Prelude.{◌≡◌, ◌≢◌, ◌↔◌, ◌||◌, ◌++◌, IfErr, IfOk, false, true};
-ghost use Rattle.std.specs.Io.KnownBytes.{Appends};
-ghost use Rattle.cap_codec.specs.declared.word.Word.{Word};
+ghost use denote.Param.Send.{IsSync};
 ghost use Rattle.command_line.specs.declared.asked.Options.{Options as TheOptions};
 ghost use Rattle.command_line.specs.Asked.{AreWithinLimits, NamesRun, texts};
-ghost use Rattle.heap_trace.specs.Image.{image_of};
-ghost use Rattle.trace_program.specs.Answer.{BeginsAnswer, HasAnswered, refusal_line, refusal_status};
-ghost use Rattle.trace_program.specs.Device.{AppendsBeginning, ReadsFew, most_read};
-ghost use Rattle.heap_command.specs.Answer.{IsAnswer, IsRunAnswer, image_shown};
-ghost use Rattle.heap_command.specs.Text.{usage_line, word_line};
-ghost use Rattle.heap_command.specs.Hex.{IsTextOf};
+ghost use Rattle.program_devices.specs.Answer.{BeginsAnswer, HasAnswered};
+ghost use Rattle.program_devices.specs.Device.{ReadsFew, most_read};
+ghost use Rattle.tool_program.specs.Answer.{IsAnswer, IsRunAnswer, image_shown};
+ghost use Rattle.trace_report.specs.Image.{image_of};
 
-use crate::lines::line_of;
-use cap_codec::from_bytes;
-use command_line::{Asked, Options, Refusal, asked_by};
+use command_line::{Options, Refusal};
 use heap_trace::{Outcome, RunFault, image_text, run};
-use hex::FromHex;
-use std::alloc::{AllocError, Global};
+use program_devices::{Answer, Sink, Source, fault_answer};
+use std::alloc::Global;
 use std::thread::Threads;
 use sweep_pool::Cutting;
-use trace_program::{Answer, ReadFault, Sink, Source, fault_answer, read_text, tell};
-use trace_text::LONGEST_TEXT;
+use tool_program::{Runner, tool_by};
 
-const USAGE: &[u8] =
-    b"usage: heap_tool run [--workers N] [--cut N] [--image] or heap_tool word HEX\n";
+/// Runs by the threads of a runtime.
+#[derive(Drop)]
+struct Workers<'a, R: Threads + Sync> {
+    rt: &'a R,
+}
+
+impl<R: Threads + Sync> Runner for Workers<'_, R> {
+    ghost ready = { IsSync R.row };
+
+    fn run_answer(&self, alloc: Global, text: &[u8], options: Options) -> Result<Answer, Refusal> {
+        run_answer(self.rt, alloc, text, options)
+    }
+}
 
 /// Runs the program on these words, of which the first is its name, and answers the exit status: 0
 /// where it is done, 1 for want of memory, 2 where the words are refused, 3 where the trace is faulty,
@@ -39,7 +44,7 @@ pub fn tool<'a, R: Threads + Sync, I: Source, O: Sink>(
 ) -> u8
     requires reader { I.failed reader.old ≡ false }
     requires writer { O.failed writer.old ≡ false }
-    ensures whole { result ≢ 4 → HasAnswered (IsAnswer (texts words.entry.now) (I.remaining reader.old) (I.remaining reader.new))
+    ensures complete { result ≢ 4 → HasAnswered (IsAnswer (texts words.entry.now) (I.remaining reader.old) (I.remaining reader.new))
         result (O.contents writer.old) (O.contents writer.new) }
     ensures part { result ≡ 4 → BeginsAnswer (IsAnswer (texts words.entry.now) (I.remaining reader.old) (I.remaining reader.new))
         (O.contents writer.old) (O.contents writer.new) }
@@ -49,43 +54,7 @@ pub fn tool<'a, R: Threads + Sync, I: Source, O: Sink>(
     // Where a read failed nothing is written.
     ensures unwritten { I.failed reader.new ≡ true → writer.new ≡ writer.old }
 {
-    match asked_by(alloc, words) {
-        Ok(Asked::Word(hex)) => tell(writer, word_answer(alloc, hex), USAGE),
-        Ok(Asked::Run(options)) => match read_text(alloc, reader, LONGEST_TEXT) {
-            Ok(text) => tell(writer, run_answer(rt, alloc, &text, options), USAGE),
-            Err(ReadFault::Memory) => refuse(writer, Refusal::Memory),
-            Err(ReadFault::Failed) => 4,
-        },
-        Err(refusal) => refuse(writer, refusal),
-    }
-}
-
-/// Writes the line of a refusal, and answers its status, or 4 where a write failed.
-pub fn refuse<O: Sink>(writer: &mut O, refusal: Refusal) -> u8
-    requires { O.failed writer.old ≡ false }
-    ensures whole { result ≢ 4 → (result ≡ refusal_status refusal) × Appends (O.contents writer.old) (O.contents writer.new) (refusal_line usage_line refusal) }
-    ensures part { result ≡ 4 → AppendsBeginning (O.contents writer.old) (O.contents writer.new) (refusal_line usage_line refusal) }
-    ensures failed { (result ≡ 4) ↔ (O.failed writer.new ≡ true) }
-{
-    trace_program::refuse(writer, refusal, USAGE)
-}
-
-// The line of the word that this text is.
-fn word_answer(alloc: Global, hex: &str) -> Result<Answer, Refusal>
-    ensures status { IfOk result (λ answer. answer.status ≡ 0) }
-    ensures ok { IfOk result (λ answer. (w : Word) × IsTextOf hex.now w × (answer.text.items ≡ word_line w)) }
-    ensures refused { result ≡ Err Refusal.Words → (w : Word) → IsTextOf hex.now w → ⊥ }
-{
-    let Ok(bytes) = <[u8; 16] as FromHex>::from_hex(hex) else {
-        return Err(Refusal::Words);
-    };
-    match line_of(alloc, from_bytes(bytes)) {
-        Ok(line) => Ok(Answer {
-            status: 0,
-            text: line.into_bytes(),
-        }),
-        Err(AllocError) => Err(Refusal::Memory),
-    }
+    tool_by(&Workers { rt }, alloc, words, reader, writer)
 }
 
 // The report of the trace that this text is, and the image if asked for, or the line of its fault.
@@ -109,7 +78,7 @@ fn run_answer<R: Threads + Sync>(
 // The report that a run leaves, and the image after it if asked for.
 fn outcome_answer(alloc: Global, outcome: Outcome, options: Options) -> Result<Answer, Refusal>
     ensures ok { IfOk result (λ answer. (answer.status ≡ 0)
-        × (answer.text.items ≡ outcome.report.items ++ image_shown options (image_of outcome.memory.base outcome.memory.cells))) }
+        × (answer.text.items ≡ outcome.report.items ++ image_shown options (image_of outcome.memory.base outcome.memory.granules))) }
     ensures err { IfErr result (λ refusal. refusal ≡ Refusal.Memory) }
 {
     let mut text = outcome.report;

@@ -4,7 +4,7 @@ use Rattle.std.proofs.lemmas.Bool.{and_from, and_parts, cases_Bool, le-ltb, lt-l
 use Rattle.std.proofs.lemmas.List.Elements.{All-cons, All-head, All-nil, All-tail}
 use Rattle.std.proofs.lemmas.List.Kept.{AllPairs-cons}
 use Rattle.std.specs.Prelude.{All, AllPairs}
-use Rattle.heap_core.specs.Blocks.{IsBefore, Span, blocks_with}
+use Rattle.heap_model.specs.Blocks.{IsBefore, Span, blocks_with}
 use Rattle.heap_core.specs.Table.{blocks_of}
 
 -- ---- what holds of each block

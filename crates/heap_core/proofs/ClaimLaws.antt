@@ -4,17 +4,17 @@ use Rattle.std.specs.Prelude.{All, ◌++◌, Option, Some, None, IsSome}
 use Rattle.std.specs.List.{Contains}
 use Rattle.std.proofs.lemmas.List.Elements.{All-contains, All-contains_itself, All-nil, All-weaker, Contains-append_left, Contains-append_right}
 use Rattle.cap_codec.specs.Rounding.{IsExact}
-use Rattle.heap_core.specs.Claim.{AreFitting, CouldBeClaimed, FindsOver, IsClaim, IsClaimable, IsReason}
+use Rattle.heap_model.specs.Claim.{AreFitting, CouldBeClaimed, FindsOver, IsClaim, IsClaimable, IsReason}
 use Rattle.heap_core.specs.Consistent.{AreLate, heap_state}
-use Rattle.heap_core.specs.Heap.{HeapState, IsSound}
-use Rattle.heap_core.specs.Laws.{no_reason}
-use Rattle.heap_core.specs.Place.{with_block}
-use Rattle.heap_core.specs.Quarantine.{without_waiting}
+use Rattle.heap_model.specs.Heap.{HeapState, IsSound}
+use Rattle.heap_model.specs.Laws.{no_reason}
+use Rattle.heap_model.specs.Place.{with_block}
+use Rattle.heap_model.specs.Quarantine.{without_waiting}
 use Rattle.heap_core.specs.Table.{IsGap, IsTable}
-use Rattle.heap_core.specs.Blocks.{IsApart, Span}
-use Rattle.heap_core.specs.declared.block.Block.{Block}
-use Rattle.heap_core.specs.declared.block.Claim.{Claim}
-use Rattle.heap_core.specs.declared.block.Claim.TheVariants.{Claimed, Empty, Inexact, Outside, OverHeld, OverLive, Uneven}
+use Rattle.heap_model.specs.Blocks.{IsApart, Span}
+use Rattle.heap_model.specs.declared.block.Block.{Block}
+use Rattle.heap_model.specs.declared.block.Claim.{Claim}
+use Rattle.heap_model.specs.declared.block.Claim.TheVariants.{Claimed, Empty, Inexact, Outside, OverHeld, OverLive, Uneven}
 use Rattle.heap_core.proofs.HeapLaws.{heap_state-set}
 use Rattle.heap_core.proofs.PlaceLaws.{IsFreeBlock-from_run, IsGap-from_block}
 
@@ -72,10 +72,10 @@ IsClaimable-unused s start top could live held = record {
 }
 
 -- Where they may not be claimed, and no live block is in the way, some held one is.
-pub some_held : (s : HeapState) (start top : ℕ) (found : Option Block) → CouldBeClaimed s start top → ¬ IsClaimable s start top → All (IsApart (start, top - start)) s.live
+pub some_due : (s : HeapState) (start top : ℕ) (found : Option Block) → CouldBeClaimed s start top → ¬ IsClaimable s start top → All (IsApart (start, top - start)) s.live
     → FindsOver (s.waiting ++ s.painted) start top found → IsSome found
-some_held s start top (Some block) could refused live found = refl
-some_held s start top None could refused live found = absurd (refused (IsClaimable-unused s start top could live found))
+some_due s start top (Some block) could refused live found = refl
+some_due s start top None could refused live found = absurd (refused (IsClaimable-unused s start top could live found))
 
 -- Where bounds may be claimed, the claim is not refused, whatever was before.
 pub IsClaim-again : (before now : HeapState) (start top : ℕ) (claim : Claim) (new : HeapState) → IsClaimable now start top → IsClaim now now start top claim new

@@ -2,12 +2,12 @@
 use Rattle.std.proofs.Common.{◌≡◌, ◌+◌, ◌*◌, ◌/◌, ◌%◌, ℕ, zero, suc, Bool, true, false, List, [], length, get_or, replicate, refl, sym, ap, ◌∙◌, arith}
 use Rattle.std.proofs.lemmas.Bool.{le-ltb}
 use Rattle.std.proofs.lemmas.List.{ext_get_or, length-replicate}
-use Rattle.heap_core.specs.Heap.{empty_heap}
+use Rattle.heap_model.specs.Heap.{empty_heap}
 use Rattle.heap_core.specs.Consistent.{AreLate, heap_state}
-use Rattle.heap_core.specs.Shadow.{bits_of}
-use Rattle.heap_core.specs.Table.{IsTable, blocks_of, is_held, is_live, is_taken}
+use Rattle.heap_model.specs.Shadow.{bits_of}
+use Rattle.heap_core.specs.Table.{IsTable, blocks_of, is_marked, is_unmarked, is_occupied}
 use Rattle.heap_core.proofs.LateLaws.{AreLate-none, bits_of-none, either-none_left}
-use Rattle.heap_core.proofs.ShadowLaws.{length-bits_of}
+use Rattle.heap_model.specs.ShadowLaws.{length-bits_of}
 use Rattle.tag_memory.specs.Laws.{is_set_zero}
 use Rattle.tag_memory.specs.Extent.{is_base, is_size}
 use Rattle.tag_memory.specs.Tags.{is_set, is_set_for}
@@ -20,10 +20,10 @@ get_or-zeros zero k = refl
 get_or-zeros (suc n) zero = refl
 get_or-zeros (suc n) (suc k) = get_or-zeros n k
 
-pub is_taken-zeros : (n k : ℕ) → is_taken k (zeros n) ≡ false
-is_taken-zeros zero k = refl
-is_taken-zeros (suc n) zero = refl
-is_taken-zeros (suc n) (suc k) = rw (le-ltb (suc k) 0 (omega arith)) (is_taken-zeros n k)
+pub is_occupied-zeros : (n k : ℕ) → is_occupied k (zeros n) ≡ false
+is_occupied-zeros zero k = refl
+is_occupied-zeros (suc n) zero = refl
+is_occupied-zeros (suc n) (suc k) = rw (le-ltb (suc k) 0 (omega arith)) (is_occupied-zeros n k)
 
 pub blocks_of-zeros : (keeps : Bool → Bool) (base i n : ℕ) → blocks_of keeps base i (zeros n) (replicate n false) ≡ []
 blocks_of-zeros keeps base i zero = refl
@@ -62,7 +62,7 @@ pub heap_state-zeros : (base n pages : ℕ) → n ≡ 256 * pages
     → heap_state base (zeros n) (replicate n false) (replicate n false) false ≡ empty_heap base pages
 heap_state-zeros base n pages count =
     let size : 16 * n ≡ 4096 * pages = omega arith in
-    rw (length-replicate n zero, size, either-none_left n (replicate n false) (length-replicate n false), blocks_of-zeros is_live base 0 n, blocks_of-zeros is_held base 0 n) refl
+    rw (length-replicate n zero, size, either-none_left n (replicate n false) (length-replicate n false), blocks_of-zeros is_unmarked base 0 n, blocks_of-zeros is_marked base 0 n) refl
 
 pub AreLate-zeros : (n : ℕ) → AreLate (zeros n) (replicate n false) (replicate n false) false
 AreLate-zeros n = AreLate-none (zeros n) (replicate n false) (replicate n false) false (length-replicate n false ∙ sym (length-replicate n zero)) (get_or-falses n)

@@ -3,13 +3,13 @@ use Rattle.std.proofs.Common.{◌≡◌, ◌∙◌, ◌⊎◌, ◌<◌, ◌≤�
 use Rattle.std.specs.Prelude.{All}
 use Rattle.std.proofs.lemmas.Bool.{cases_Bool, cases_lt, ne_eqb, true≢false}
 use Rattle.std.proofs.lemmas.List.Elements.{All-nil}
-use Rattle.heap_core.specs.Blocks.{Span, has_address, start_of}
+use Rattle.heap_model.specs.Blocks.{Span, has_address, start_of}
 use Rattle.heap_core.specs.Consistent.{AreLate, either_mark, heap_state}
-use Rattle.heap_core.specs.Found.{IsFound, IsInNoBlock, blocks_in}
-use Rattle.heap_core.specs.Laws.{has_address-after, has_address-before}
-use Rattle.heap_core.specs.Table.{IsBlockAt, IsTable, blocks_of, is_held, is_live}
-use Rattle.heap_core.specs.declared.block.Kind.{Kind}
-use Rattle.heap_core.specs.declared.block.Kind.TheVariants.{Live, Painted, Waiting}
+use Rattle.heap_model.specs.Found.{IsFound, IsInNoBlock, blocks_in}
+use Rattle.heap_model.specs.Laws.{has_address-after, has_address-before}
+use Rattle.heap_core.specs.Table.{IsBlockAt, IsTable, blocks_of, is_marked, is_unmarked}
+use Rattle.heap_model.specs.declared.block.Kind.{Kind}
+use Rattle.heap_model.specs.declared.block.Kind.TheVariants.{Live, Painted, Waiting}
 use Rattle.heap_core.proofs.BlockLaws.{All-blocks_of}
 use Rattle.heap_core.proofs.LateLaws.{get_or-either, length-either}
 use Rattle.heap_core.proofs.QuarantineLaws.{is_block_at, live_mark}
@@ -52,29 +52,29 @@ pub IsFound-painted : (base : ℕ) (lengths : List ℕ) (marks lates : List Bool
 IsFound-painted base lengths marks lates false a start top p table are lies is held = absurd (true≢false (sym is))
 IsFound-painted base lengths marks lates true a start top p table are lies is held =
     record {
-      block = is_block_at is_held base lengths marks start top p table.same lies.at held;
+      block = is_block_at is_marked base lengths marks start top p table.same lies.at held;
       from = lies.from;
       before = lies.before;
       only = each;
     } where
       each : (other : Kind) → All (λ (b : Span). has_address a b ≡ true → (b ≡ (start, top - start)) × (other ≡ Painted)) (blocks_in (heap_state base lengths marks lates true) other)
-      each Live = only_in is_live base lengths (either_mark marks lates) a start top p (Live ≡ Painted) table.apart lies (λ kept. absurd (true≢false (sym kept ∙ either_held marks lates p (are.same ∙ sym table.same) held)))
-      each Waiting = only_in is_held base lengths lates a start top p (Waiting ≡ Painted) table.apart lies (λ kept. absurd (true≢false (sym held ∙ are.apart p kept)))
-      each Painted = only_in is_held base lengths marks a start top p (Painted ≡ Painted) table.apart lies (λ kept. refl)
+      each Live = only_in is_unmarked base lengths (either_mark marks lates) a start top p (Live ≡ Painted) table.apart lies (λ kept. absurd (true≢false (sym kept ∙ either_held marks lates p (are.same ∙ sym table.same) held)))
+      each Waiting = only_in is_marked base lengths lates a start top p (Waiting ≡ Painted) table.apart lies (λ kept. absurd (true≢false (sym held ∙ are.apart p kept)))
+      each Painted = only_in is_marked base lengths marks a start top p (Painted ≡ Painted) table.apart lies (λ kept. refl)
 
 pub IsFound-waiting : (base : ℕ) (lengths : List ℕ) (marks lates : List Bool) (is_open : Bool) (a start top p : ℕ) → IsTable base lengths marks → AreLate lengths marks lates is_open
     → LiesAt base lengths a start top p → is_open ≡ false → get_or marks p false ≡ true → IsFound (heap_state base lengths marks lates is_open) a start top Waiting
 IsFound-waiting base lengths marks lates true a start top p table are lies is held = absurd (true≢false is)
 IsFound-waiting base lengths marks lates false a start top p table are lies is held =
     record {
-      block = is_block_at is_held base lengths marks start top p table.same lies.at held;
+      block = is_block_at is_marked base lengths marks start top p table.same lies.at held;
       from = lies.from;
       before = lies.before;
       only = each;
     } where
       each : (other : Kind) → All (λ (b : Span). has_address a b ≡ true → (b ≡ (start, top - start)) × (other ≡ Waiting)) (blocks_in (heap_state base lengths marks lates false) other)
-      each Live = only_in is_live base lengths (either_mark marks lates) a start top p (Live ≡ Waiting) table.apart lies (λ kept. absurd (true≢false (sym kept ∙ either_held marks lates p (are.same ∙ sym table.same) held)))
-      each Waiting = only_in is_held base lengths marks a start top p (Waiting ≡ Waiting) table.apart lies (λ kept. refl)
+      each Live = only_in is_unmarked base lengths (either_mark marks lates) a start top p (Live ≡ Waiting) table.apart lies (λ kept. absurd (true≢false (sym kept ∙ either_held marks lates p (are.same ∙ sym table.same) held)))
+      each Waiting = only_in is_marked base lengths marks a start top p (Waiting ≡ Waiting) table.apart lies (λ kept. refl)
       each Painted = All-nil (λ (b : Span). has_address a b ≡ true → (b ≡ (start, top - start)) × (Painted ≡ Waiting))
 
 -- A late block waits.
@@ -83,15 +83,15 @@ pub IsFound-late : (base : ℕ) (lengths : List ℕ) (marks lates : List Bool) (
 IsFound-late base lengths marks lates false a start top p table are lies none late = absurd (true≢false (sym late ∙ are.closed refl p))
 IsFound-late base lengths marks lates true a start top p table are lies none late =
     record {
-      block = is_block_at is_held base lengths lates start top p are.same lies.at late;
+      block = is_block_at is_marked base lengths lates start top p are.same lies.at late;
       from = lies.from;
       before = lies.before;
       only = each;
     } where
       each : (other : Kind) → All (λ (b : Span). has_address a b ≡ true → (b ≡ (start, top - start)) × (other ≡ Waiting)) (blocks_in (heap_state base lengths marks lates true) other)
-      each Live = only_in is_live base lengths (either_mark marks lates) a start top p (Live ≡ Waiting) table.apart lies (λ kept. absurd (true≢false (sym kept ∙ either_late marks lates p (are.same ∙ sym table.same) none late)))
-      each Waiting = only_in is_held base lengths lates a start top p (Waiting ≡ Waiting) table.apart lies (λ kept. refl)
-      each Painted = only_in is_held base lengths marks a start top p (Painted ≡ Waiting) table.apart lies (λ kept. absurd (true≢false (sym kept ∙ none)))
+      each Live = only_in is_unmarked base lengths (either_mark marks lates) a start top p (Live ≡ Waiting) table.apart lies (λ kept. absurd (true≢false (sym kept ∙ either_late marks lates p (are.same ∙ sym table.same) none late)))
+      each Waiting = only_in is_marked base lengths lates a start top p (Waiting ≡ Waiting) table.apart lies (λ kept. refl)
+      each Painted = only_in is_marked base lengths marks a start top p (Painted ≡ Waiting) table.apart lies (λ kept. absurd (true≢false (sym kept ∙ none)))
 
 -- And every other block is live.
 pub IsFound-live : (base : ℕ) (lengths : List ℕ) (marks lates : List Bool) (is_open : Bool) (a start top p : ℕ) → IsTable base lengths marks → AreLate lengths marks lates is_open
@@ -99,16 +99,16 @@ pub IsFound-live : (base : ℕ) (lengths : List ℕ) (marks lates : List Bool) (
 IsFound-live base lengths marks lates is_open a start top p table are lies none early =
     let live : not (get_or (either_mark marks lates) p false) ≡ true = ap not (live_mark lengths marks lates is_open p table.same are none early) in
     record {
-      block = is_block_at is_live base lengths (either_mark marks lates) start top p (length-either marks lates ∙ table.same) lies.at live;
+      block = is_block_at is_unmarked base lengths (either_mark marks lates) start top p (length-either marks lates ∙ table.same) lies.at live;
       from = lies.from;
       before = lies.before;
       only = each is_open;
     } where
       each : (opened : Bool) (other : Kind) → All (λ (b : Span). has_address a b ≡ true → (b ≡ (start, top - start)) × (other ≡ Live)) (blocks_in (heap_state base lengths marks lates opened) other)
-      each opened Live = only_in is_live base lengths (either_mark marks lates) a start top p (Live ≡ Live) table.apart lies (λ kept. refl)
-      each true Waiting = only_in is_held base lengths lates a start top p (Waiting ≡ Live) table.apart lies (λ kept. absurd (true≢false (sym kept ∙ early)))
-      each false Waiting = only_in is_held base lengths marks a start top p (Waiting ≡ Live) table.apart lies (λ kept. absurd (true≢false (sym kept ∙ none)))
-      each true Painted = only_in is_held base lengths marks a start top p (Painted ≡ Live) table.apart lies (λ kept. absurd (true≢false (sym kept ∙ none)))
+      each opened Live = only_in is_unmarked base lengths (either_mark marks lates) a start top p (Live ≡ Live) table.apart lies (λ kept. refl)
+      each true Waiting = only_in is_marked base lengths lates a start top p (Waiting ≡ Live) table.apart lies (λ kept. absurd (true≢false (sym kept ∙ early)))
+      each false Waiting = only_in is_marked base lengths marks a start top p (Waiting ≡ Live) table.apart lies (λ kept. absurd (true≢false (sym kept ∙ none)))
+      each true Painted = only_in is_marked base lengths marks a start top p (Painted ≡ Live) table.apart lies (λ kept. absurd (true≢false (sym kept ∙ none)))
       each false Painted = All-nil (λ (b : Span). has_address a b ≡ true → (b ≡ (start, top - start)) × (Painted ≡ Live))
 
 -- So what is so of a block goes by both marks of its granule.
@@ -144,10 +144,10 @@ pub IsInNoBlock-table : (base : ℕ) (lengths : List ℕ) (marks lates : List Bo
     → IsInNoBlock (heap_state base lengths marks lates is_open) a
 IsInNoBlock-table base lengths marks lates is_open a none = each is_open where
   each : (opened : Bool) → IsInNoBlock (heap_state base lengths marks lates opened) a
-  each opened Live = none_in is_live base lengths (either_mark marks lates) a none
-  each true Waiting = none_in is_held base lengths lates a none
-  each false Waiting = none_in is_held base lengths marks a none
-  each true Painted = none_in is_held base lengths marks a none
+  each opened Live = none_in is_unmarked base lengths (either_mark marks lates) a none
+  each true Waiting = none_in is_marked base lengths lates a none
+  each false Waiting = none_in is_marked base lengths marks a none
+  each true Painted = none_in is_marked base lengths marks a none
   each false Painted = All-nil (λ (b : Span). has_address a b ≡ false)
 
 -- So it is outside the heap,
@@ -182,8 +182,8 @@ pub none_start : (base : ℕ) (lengths : List ℕ) (marks lates : List Bool) (is
     → (kind : Kind) → All (λ (b : Span). (start_of b == base + 16 * g) ≡ false) (blocks_in (heap_state base lengths marks lates is_open) kind)
 none_start base lengths marks lates is_open g none = each is_open where
   each : (opened : Bool) (kind : Kind) → All (λ (b : Span). (start_of b == base + 16 * g) ≡ false) (blocks_in (heap_state base lengths marks lates opened) kind)
-  each opened Live = none_starts is_live base lengths (either_mark marks lates) g none
-  each true Waiting = none_starts is_held base lengths lates g none
-  each false Waiting = none_starts is_held base lengths marks g none
-  each true Painted = none_starts is_held base lengths marks g none
+  each opened Live = none_starts is_unmarked base lengths (either_mark marks lates) g none
+  each true Waiting = none_starts is_marked base lengths lates g none
+  each false Waiting = none_starts is_marked base lengths marks g none
+  each true Painted = none_starts is_marked base lengths marks g none
   each false Painted = All-nil (λ (b : Span). (start_of b == base + 16 * g) ≡ false)

@@ -2,13 +2,13 @@
 use Rattle.std.proofs.Common.{◌≡◌, ◌≤◌, ◌+◌, ◌*◌, ℕ, Bool, true, false, List, length, get_or, set, length-set, replicate, refl, sym, ap, ◌∙◌, arith}
 use Rattle.std.proofs.lemmas.Bool.{true≢false}
 use Rattle.std.proofs.lemmas.List.{set-get_or}
-use Rattle.heap_core.specs.Blocks.{blocks_with, bytes_in}
+use Rattle.heap_model.specs.Blocks.{blocks_with, bytes_in}
 use Rattle.heap_core.specs.Consistent.{AreLate, either_mark, heap_state}
-use Rattle.heap_core.specs.Heap.{held_bytes}
-use Rattle.heap_core.specs.Quarantine.{with_epoch, with_waiting, without_due, without_epoch}
-use Rattle.heap_core.specs.Table.{IsBlockAt, IsGap, IsTable, blocks_of, is_held, is_live, kept_lengths}
+use Rattle.heap_model.specs.Heap.{held_bytes}
+use Rattle.heap_model.specs.Quarantine.{with_epoch, with_waiting, without_due, without_epoch}
+use Rattle.heap_core.specs.Table.{IsBlockAt, IsGap, IsTable, blocks_of, is_marked, is_unmarked, kept_lengths}
 use Rattle.heap_core.proofs.KeptLaws.{held_blocks-kept, length-kept_lengths}
-use Rattle.heap_core.proofs.LateLaws.{bytes_in-either, either-none_left, either-none_right, either-set_left, either-set_none, either-set_right, late_blocks-dropped, length-either, live_blocks-dropped, no_held, none_in_gap}
+use Rattle.heap_core.proofs.LateLaws.{bytes_in-either, either-none_left, either-none_right, either-set_left, either-set_none, either-set_right, late_blocks-dropped, length-either, live_blocks-dropped, no_due, none_in_gap}
 use Rattle.heap_core.proofs.QuarantineLaws.{HasMoved-held, held_blocks-held, live_blocks-held}
 use Rattle.heap_core.proofs.RunLaws.{held_blocks-set, live_blocks-set}
 use Rattle.heap_core.proofs.SoundLaws.{IsTable-marks}
@@ -18,22 +18,22 @@ use Rattle.heap_core.proofs.SumLaws.{granules_fit}
 
 -- The late blocks stay.
 pub late_blocks-set : (base : ℕ) (lengths : List ℕ) (marks lates : List Bool) (is_open : Bool) (p n : ℕ) → AreLate lengths marks lates is_open → IsGap lengths p n
-    → blocks_of is_held base 0 (set lengths p n) lates ≡ blocks_of is_held base 0 lengths lates
+    → blocks_of is_marked base 0 (set lengths p n) lates ≡ blocks_of is_marked base 0 lengths lates
 late_blocks-set base lengths marks lates is_open p n are run =
     let same : set lates p false ≡ lates = ap (λ b. set lates p b) (sym (none_in_gap lengths marks lates is_open p n are run)) ∙ set-get_or lates p false in
-    ap (λ (xs : List Bool). blocks_of is_held base 0 (set lengths p n) xs) (sym same) ∙ held_blocks-set base lengths lates p n run
+    ap (λ (xs : List Bool). blocks_of is_marked base 0 (set lengths p n) xs) (sym same) ∙ held_blocks-set base lengths lates p n run
 
 pub live_blocks-put : (base : ℕ) (lengths : List ℕ) (marks lates : List Bool) (is_open : Bool) (p n : ℕ) → length marks ≡ length lengths → AreLate lengths marks lates is_open → IsGap lengths p n
-    → blocks_of is_live base 0 (set lengths p n) (either_mark (set marks p false) lates)
-    ≡ blocks_with (base + 16 * p, 16 * n) (blocks_of is_live base 0 lengths (either_mark marks lates))
+    → blocks_of is_unmarked base 0 (set lengths p n) (either_mark (set marks p false) lates)
+    ≡ blocks_with (base + 16 * p, 16 * n) (blocks_of is_unmarked base 0 lengths (either_mark marks lates))
 live_blocks-put base lengths marks lates is_open p n same are run =
     let none = none_in_gap lengths marks lates is_open p n are run in
-    ap (λ (xs : List Bool). blocks_of is_live base 0 (set lengths p n) xs) (either-set_none marks lates p (are.same ∙ sym same) none)
+    ap (λ (xs : List Bool). blocks_of is_unmarked base 0 (set lengths p n) xs) (either-set_none marks lates p (are.same ∙ sym same) none)
     ∙ live_blocks-set base lengths (either_mark marks lates) p n (length-either marks lates ∙ same) run
 
 pub heap_state-set : (base : ℕ) (lengths : List ℕ) (marks lates : List Bool) (is_open : Bool) (p n : ℕ) → length marks ≡ length lengths → AreLate lengths marks lates is_open → IsGap lengths p n
     → heap_state base (set lengths p n) (set marks p false) lates is_open
-    ≡ record (heap_state base lengths marks lates is_open) { live = blocks_with (base + 16 * p, 16 * n) (blocks_of is_live base 0 lengths (either_mark marks lates)) }
+    ≡ record (heap_state base lengths marks lates is_open) { live = blocks_with (base + 16 * p, 16 * n) (blocks_of is_unmarked base 0 lengths (either_mark marks lates)) }
 heap_state-set base lengths marks lates is_open p n same are run =
     rw (length-set lengths p n, live_blocks-put base lengths marks lates is_open p n same are run, late_blocks-set base lengths marks lates is_open p n are run, held_blocks-set base lengths marks p n run) refl
 
@@ -66,16 +66,16 @@ heap_state-late base lengths marks lates true start top k open_now same are at l
 -- The bytes of the live blocks then.
 pub live_bytes-due : (base : ℕ) (lengths : List ℕ) (marks lates : List Bool) (start top k : ℕ) → length marks ≡ length lengths → length lates ≡ length lengths
     → IsBlockAt base lengths start top k → get_or (either_mark marks lates) k false ≡ false
-    → bytes_in (blocks_of is_live base 0 lengths (either_mark (set marks k true) lates)) + 16 * get_or lengths k 0 ≡ bytes_in (blocks_of is_live base 0 lengths (either_mark marks lates))
+    → bytes_in (blocks_of is_unmarked base 0 lengths (either_mark (set marks k true) lates)) + 16 * get_or lengths k 0 ≡ bytes_in (blocks_of is_unmarked base 0 lengths (either_mark marks lates))
 live_bytes-due base lengths marks lates start top k same also at live =
-    ap (λ (xs : List Bool). bytes_in (blocks_of is_live base 0 lengths xs) + 16 * get_or lengths k 0) (either-set_left marks lates k)
+    ap (λ (xs : List Bool). bytes_in (blocks_of is_unmarked base 0 lengths xs) + 16 * get_or lengths k 0) (either-set_left marks lates k)
     ∙ (HasMoved-held base lengths (either_mark marks lates) start top k (length-either marks lates ∙ same) at live).live
 
 pub live_bytes-late : (base : ℕ) (lengths : List ℕ) (marks lates : List Bool) (start top k : ℕ) → length marks ≡ length lengths → length lates ≡ length lengths
     → IsBlockAt base lengths start top k → get_or (either_mark marks lates) k false ≡ false
-    → bytes_in (blocks_of is_live base 0 lengths (either_mark marks (set lates k true))) + 16 * get_or lengths k 0 ≡ bytes_in (blocks_of is_live base 0 lengths (either_mark marks lates))
+    → bytes_in (blocks_of is_unmarked base 0 lengths (either_mark marks (set lates k true))) + 16 * get_or lengths k 0 ≡ bytes_in (blocks_of is_unmarked base 0 lengths (either_mark marks lates))
 live_bytes-late base lengths marks lates start top k same also at live =
-    ap (λ (xs : List Bool). bytes_in (blocks_of is_live base 0 lengths xs) + 16 * get_or lengths k 0) (either-set_right marks lates k (also ∙ sym same))
+    ap (λ (xs : List Bool). bytes_in (blocks_of is_unmarked base 0 lengths xs) + 16 * get_or lengths k 0) (either-set_right marks lates k (also ∙ sym same))
     ∙ (HasMoved-held base lengths (either_mark marks lates) start top k (length-either marks lates ∙ same) at live).live
 
 -- ---- epochs, and blocks given back
@@ -84,24 +84,24 @@ live_bytes-late base lengths marks lates start top k same also at live =
 pub heap_state-begun : (base : ℕ) (lengths : List ℕ) (marks lates : List Bool) (is_open : Bool) → is_open ≡ false → AreLate lengths marks lates is_open
     → heap_state base lengths marks lates true ≡ with_epoch (heap_state base lengths marks lates is_open)
 heap_state-begun base lengths marks lates true closed are = absurd (true≢false closed)
-heap_state-begun base lengths marks lates false closed are = rw (no_held base 0 lengths lates (are.closed refl)) refl
+heap_state-begun base lengths marks lates false closed are = rw (no_due base 0 lengths lates (are.closed refl)) refl
 
 -- Where no block is late, those that are due are dropped, and no epoch is open then.
 pub heap_state-dropped : (base : ℕ) (lengths : List ℕ) (marks lates : List Bool) (is_open : Bool) → length marks ≡ length lengths → length lates ≡ length lengths
     → ((k : ℕ) → get_or lates k false ≡ false)
-    → heap_state base (kept_lengths is_live lengths marks) (replicate (length lengths) false) lates false ≡ without_due (heap_state base lengths marks lates is_open)
+    → heap_state base (kept_lengths is_unmarked lengths marks) (replicate (length lengths) false) lates false ≡ without_due (heap_state base lengths marks lates is_open)
 unfolding without_due
 heap_state-dropped base lengths marks lates true same also none =
     rw (
-      length-kept_lengths is_live lengths marks same,
+      length-kept_lengths is_unmarked lengths marks same,
       either-none_left (length lengths) lates also,
       live_blocks-dropped base 0 lengths marks lates same also,
       held_blocks-kept base 0 lengths marks same,
-      no_held base 0 lengths lates none,
+      no_due base 0 lengths lates none,
     ) refl
 heap_state-dropped base lengths marks lates false same also none =
     rw (
-      length-kept_lengths is_live lengths marks same,
+      length-kept_lengths is_unmarked lengths marks same,
       either-none_left (length lengths) lates also,
       live_blocks-dropped base 0 lengths marks lates same also,
       held_blocks-kept base 0 lengths marks same,
@@ -110,11 +110,11 @@ heap_state-dropped base lengths marks lates false same also none =
 -- At the end of an epoch the late blocks are due.
 pub heap_state-ended : (base : ℕ) (lengths : List ℕ) (marks lates nones : List Bool) (is_open : Bool) → is_open ≡ true → length marks ≡ length lengths → AreLate lengths marks lates is_open
     → ((k : ℕ) → get_or nones k false ≡ false)
-    → heap_state base (kept_lengths is_live lengths marks) lates nones false ≡ without_epoch (heap_state base lengths marks lates is_open)
+    → heap_state base (kept_lengths is_unmarked lengths marks) lates nones false ≡ without_epoch (heap_state base lengths marks lates is_open)
 heap_state-ended base lengths marks lates nones false open_now same are none = absurd (true≢false (sym open_now))
 heap_state-ended base lengths marks lates nones true open_now same are none =
     rw (
-      length-kept_lengths is_live lengths marks same,
+      length-kept_lengths is_unmarked lengths marks same,
       either-none_right lates nones none,
       live_blocks-dropped base 0 lengths marks lates same are.same,
       late_blocks-dropped base 0 lengths marks lates same are.same are.apart,
@@ -124,12 +124,12 @@ heap_state-ended base lengths marks lates nones true open_now same are none =
 
 -- The held blocks are those that are due and the late ones.
 pub held_bytes-state : (base : ℕ) (lengths : List ℕ) (marks lates : List Bool) (is_open : Bool) → AreLate lengths marks lates is_open
-    → held_bytes (heap_state base lengths marks lates is_open) ≡ bytes_in (blocks_of is_held base 0 lengths marks) + bytes_in (blocks_of is_held base 0 lengths lates)
+    → held_bytes (heap_state base lengths marks lates is_open) ≡ bytes_in (blocks_of is_marked base 0 lengths marks) + bytes_in (blocks_of is_marked base 0 lengths lates)
 held_bytes-state base lengths marks lates true are = omega arith
-held_bytes-state base lengths marks lates false are = rw (no_held base 0 lengths lates (are.closed refl)) refl
+held_bytes-state base lengths marks lates false are = rw (no_due base 0 lengths lates (are.closed refl)) refl
 
 pub granules_of_all : (base : ℕ) (lengths : List ℕ) (marks lates : List Bool) (is_open : Bool) (live held late : ℕ) → IsTable base lengths marks → AreLate lengths marks lates is_open
-    → 16 * live ≡ bytes_in (blocks_of is_live base 0 lengths (either_mark marks lates)) → 16 * held ≡ bytes_in (blocks_of is_held base 0 lengths marks) → 16 * late ≡ bytes_in (blocks_of is_held base 0 lengths lates)
+    → 16 * live ≡ bytes_in (blocks_of is_unmarked base 0 lengths (either_mark marks lates)) → 16 * held ≡ bytes_in (blocks_of is_marked base 0 lengths marks) → 16 * late ≡ bytes_in (blocks_of is_marked base 0 lengths lates)
     → live + held + late ≤ length lengths
 granules_of_all base lengths marks lates is_open live held late table are live_is held_is late_is =
     let both = bytes_in-either base 0 lengths marks lates table.same are.same are.apart in

@@ -4,9 +4,9 @@ use Rattle.std.proofs.lemmas.Bool.{and_from, cases_Bool, cases_lt, lt-ltb, true�
 use Rattle.std.proofs.lemmas.List.{ext_get_or, length-replicate}
 use Rattle.std.proofs.lemmas.List.Folds.{list_any_none}
 use Rattle.std.specs.List.{list_any}
-use Rattle.heap_core.specs.Blocks.{Span, has_address, lies_in}
-use Rattle.heap_core.specs.Laws.{has_address-after, has_address-before, has_address-within}
-use Rattle.heap_core.specs.Table.{IsTable, blocks_of, is_held, is_live, is_taken, kept_lengths}
+use Rattle.heap_model.specs.Blocks.{Span, has_address, lies_in}
+use Rattle.heap_model.specs.Laws.{has_address-after, has_address-before, has_address-within}
+use Rattle.heap_core.specs.Table.{IsTable, blocks_of, is_marked, is_unmarked, is_occupied, kept_lengths}
 use Rattle.heap_core.proofs.BlockLaws.{All-blocks_of}
 use Rattle.heap_core.proofs.RunLaws.{is_taken_by, is_taken_within}
 
@@ -50,17 +50,17 @@ kept_block keeps lengths marks k d same lt some =
       | inr other ↦ absurd (omega (arith, get_or-not_kept keeps lengths marks k d same lt other))
     ]
 
--- The lengths of the live blocks are those of the table, with 0 for the held ones.
+-- The lengths of the live blocks are those of the table, with 0 for the due ones.
 pub kept_lengths-live : (new lengths : List ℕ) (marks : List Bool) → length marks ≡ length lengths → length new ≡ length lengths
     → ((k : ℕ) → k < length lengths → get_or marks k false ≡ true → get_or new k 0 ≡ 0)
     → ((k : ℕ) → k < length lengths → get_or marks k false ≡ false → get_or new k 0 ≡ get_or lengths k 0)
-    → new ≡ kept_lengths is_live lengths marks
-kept_lengths-live new lengths marks same long held live =
-    ext_get_or 0 new (kept_lengths is_live lengths marks) (long ∙ sym (length-kept_lengths is_live lengths marks same))
+    → new ≡ kept_lengths is_unmarked lengths marks
+kept_lengths-live new lengths marks same long due live =
+    ext_get_or 0 new (kept_lengths is_unmarked lengths marks) (long ∙ sym (length-kept_lengths is_unmarked lengths marks same))
     (λ k lt. let inside : k < length lengths = omega (arith, lt, long) in
     elim (cases_Bool (get_or marks k false)) [
-      | inl is ↦ held k inside is ∙ sym (get_or-not_kept is_live lengths marks k false same inside (ap not is))
-      | inr is ↦ live k inside is ∙ sym (get_or-kept is_live lengths marks k false same inside (ap not is))
+      | inl is ↦ due k inside is ∙ sym (get_or-not_kept is_unmarked lengths marks k false same inside (ap not is))
+      | inr is ↦ live k inside is ∙ sym (get_or-kept is_unmarked lengths marks k false same inside (ap not is))
     ])
 
 -- ---- the addresses
@@ -95,11 +95,11 @@ any-no_block test keeps base lengths marks d each =
 -- An address lies in one of the blocks exactly where its granule is taken by one of them.
 pub lies_in-blocks_of : (keeps : Bool → Bool) (base a k : ℕ) (lengths : List ℕ) (marks : List Bool) → length marks ≡ length lengths
     → base + 16 * k ≤ a → a < base + 16 * k + 16 → k < length lengths
-    → lies_in (blocks_of keeps base 0 lengths marks) a ≡ is_taken k (kept_lengths keeps lengths marks)
+    → lies_in (blocks_of keeps base 0 lengths marks) a ≡ is_occupied k (kept_lengths keeps lengths marks)
 lies_in-blocks_of keeps base a k lengths marks same from before lt =
     let kept = kept_lengths keeps lengths marks in
     let long : length (kept_lengths keeps lengths marks) ≡ length lengths = length-kept_lengths keeps lengths marks same in
-    elim (cases_Bool (is_taken k kept)) [
+    elim (cases_Bool (is_occupied k kept)) [
       | inl taken ↦
           let by = is_taken_by kept k taken in
           let inside : by.0 < length lengths = omega (arith, by.1.0) in
@@ -126,9 +126,9 @@ lies_in-blocks_of keeps base a k lengths marks same from before lt =
 
 -- ---- the table of the live blocks alone
 
--- It has no held blocks.
+-- It has no due blocks.
 pub held_blocks-kept : (base i : ℕ) (lengths : List ℕ) (marks : List Bool) → length marks ≡ length lengths
-    → blocks_of is_held base i (kept_lengths is_live lengths marks) (replicate (length lengths) false) ≡ []
+    → blocks_of is_marked base i (kept_lengths is_unmarked lengths marks) (replicate (length lengths) false) ≡ []
 held_blocks-kept base i [] marks same = refl
 held_blocks-kept base i (n ∷ lengths) [] same = absurd (omega arith)
 held_blocks-kept base i (n ∷ lengths) (mark ∷ marks) same =
@@ -138,15 +138,15 @@ held_blocks-kept base i (n ∷ lengths) (mark ∷ marks) same =
     ]
 
 pub IsTable-kept : (base : ℕ) (lengths : List ℕ) (marks : List Bool) → IsTable base lengths marks
-    → IsTable base (kept_lengths is_live lengths marks) (replicate (length lengths) false)
+    → IsTable base (kept_lengths is_unmarked lengths marks) (replicate (length lengths) false)
 IsTable-kept base lengths marks table =
-    let long : length (kept_lengths is_live lengths marks) ≡ length lengths = length-kept_lengths is_live lengths marks table.same in
+    let long : length (kept_lengths is_unmarked lengths marks) ≡ length lengths = length-kept_lengths is_unmarked lengths marks table.same in
     record {
       same = length-replicate (length lengths) false ∙ sym long;
       pages = table.pages;
       count = long ∙ table.count;
       size = table.size;
       place = table.place;
-      inside = λ j lt. omega (arith, table.inside j (omega arith), kept-le is_live lengths marks j);
-      apart = λ j k lt some. omega (arith, table.apart j k lt (omega (arith, kept-le is_live lengths marks k)), kept-le is_live lengths marks j);
+      inside = λ j lt. omega (arith, table.inside j (omega arith), kept-le is_unmarked lengths marks j);
+      apart = λ j k lt some. omega (arith, table.apart j k lt (omega (arith, kept-le is_unmarked lengths marks k)), kept-le is_unmarked lengths marks j);
     }

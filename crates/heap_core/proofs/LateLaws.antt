@@ -4,13 +4,13 @@ use Rattle.std.proofs.lemmas.Bool.{cases_Bool, cases_eq, cases_lt, le-ltb, lt-lt
 use Rattle.std.proofs.lemmas.Bool.Decides.{nat_tests}
 use Rattle.std.proofs.lemmas.List.{ext_get_or, get_or-set_other, get_or-set_same, get_or_past}
 use Rattle.granule_rows.specs.Runs.{is_within}
-use Rattle.heap_core.specs.Blocks.{Span, bytes_in}
+use Rattle.heap_model.specs.Blocks.{Span, bytes_in}
 use Rattle.heap_core.specs.Consistent.{AreLate, either_mark, heap_state}
-use Rattle.heap_core.specs.Shadow.{bits_of}
-use Rattle.heap_core.specs.Table.{IsGap, blocks_of, is_held, is_live, kept_lengths}
+use Rattle.heap_model.specs.Shadow.{bits_of}
+use Rattle.heap_core.specs.Table.{IsGap, blocks_of, is_marked, is_unmarked, kept_lengths}
 use Rattle.heap_core.proofs.KeptLaws.{get_or-kept}
 use Rattle.heap_core.proofs.RunLaws.{run_is_empty}
-use Rattle.heap_core.proofs.ShadowLaws.{get_or-bits_of, length-bits_of}
+use Rattle.heap_model.specs.ShadowLaws.{get_or-bits_of, length-bits_of}
 use Rattle.heap_core.proofs.SumLaws.{bytes_in-cons}
 use Rattle.tag_memory.specs.Laws.{is_set_zero}
 use Rattle.tag_memory.specs.Tags.{is_set, is_set_for}
@@ -73,24 +73,24 @@ either-none_right (mark ∷ marks) (late ∷ lates) none =
 
 -- ---- the lists of blocks
 
--- No block is held where no mark stands.
-pub no_held : (base i : ℕ) (lengths : List ℕ) (marks : List Bool) → ((k : ℕ) → get_or marks k false ≡ false) → blocks_of is_held base i lengths marks ≡ []
-no_held base i [] marks none = refl
-no_held base i (n ∷ lengths) [] none = refl
-no_held base i (n ∷ lengths) (mark ∷ marks) none =
+-- No block is due where no mark stands.
+pub no_due : (base i : ℕ) (lengths : List ℕ) (marks : List Bool) → ((k : ℕ) → get_or marks k false ≡ false) → blocks_of is_marked base i lengths marks ≡ []
+no_due base i [] marks none = refl
+no_due base i (n ∷ lengths) [] none = refl
+no_due base i (n ∷ lengths) (mark ∷ marks) none =
     let here : mark ≡ false = none 0 in
-    rw (here, no_held base (i + 1) lengths marks (λ k. none (suc k))) (grind arith)
+    rw (here, no_due base (i + 1) lengths marks (λ k. none (suc k))) (grind arith)
 
 -- And no mark stands where the blocks with one have no bytes.
 pub no_bytes : (base i : ℕ) (lengths : List ℕ) (marks : List Bool) → length marks ≡ length lengths → ((k : ℕ) → get_or marks k false ≡ true → 0 < get_or lengths k 0)
-    → bytes_in (blocks_of is_held base i lengths marks) ≡ 0 → (k : ℕ) → get_or marks k false ≡ false
+    → bytes_in (blocks_of is_marked base i lengths marks) ≡ 0 → (k : ℕ) → get_or marks k false ≡ false
 no_bytes base i [] [] same some none k = refl
 no_bytes base i [] (mark ∷ marks) same some none k = absurd (omega arith)
 no_bytes base i (n ∷ lengths) [] same some none k = absurd (omega arith)
 no_bytes base i (n ∷ lengths) (true ∷ marks) same some none k =
     let here : 0 < n = some 0 refl in
     let bytes = none in
-    absurd (omega (arith, here, rw (lt-ltb 0 n here) at bytes, bytes_in-cons (base + 16 * i, 16 * n) (blocks_of is_held base (i + 1) lengths marks)))
+    absurd (omega (arith, here, rw (lt-ltb 0 n here) at bytes, bytes_in-cons (base + 16 * i, 16 * n) (blocks_of is_marked base (i + 1) lengths marks)))
 no_bytes base i (n ∷ lengths) (false ∷ marks) same some none zero = refl
 no_bytes base i (n ∷ lengths) (false ∷ marks) same some none (suc k) =
     let bytes = none in
@@ -102,16 +102,16 @@ no_bytes base i (n ∷ lengths) (false ∷ marks) same some none (suc k) =
 -- The blocks with either mark are those with the one and those with the other.
 pub bytes_in-either : (base i : ℕ) (lengths : List ℕ) (marks lates : List Bool) → length marks ≡ length lengths → length lates ≡ length lengths
     → ((k : ℕ) → get_or lates k false ≡ true → get_or marks k false ≡ false)
-    → bytes_in (blocks_of is_held base i lengths (either_mark marks lates)) ≡ bytes_in (blocks_of is_held base i lengths marks) + bytes_in (blocks_of is_held base i lengths lates)
+    → bytes_in (blocks_of is_marked base i lengths (either_mark marks lates)) ≡ bytes_in (blocks_of is_marked base i lengths marks) + bytes_in (blocks_of is_marked base i lengths lates)
 bytes_in-either base i [] marks lates same also apart = omega arith
 bytes_in-either base i (n ∷ lengths) [] lates same also apart = absurd (omega arith)
 bytes_in-either base i (n ∷ lengths) (mark ∷ marks) [] same also apart = absurd (omega arith)
 bytes_in-either base i (n ∷ lengths) (mark ∷ marks) (late ∷ lates) same also apart =
     let rest = bytes_in-either base (i + 1) lengths marks lates (omega arith) (omega arith) (λ k. apart (suc k)) in
     let block : Span = (base + 16 * i, 16 * n) in
-    let both = blocks_of is_held base (i + 1) lengths (either_mark marks lates) in
-    let due = blocks_of is_held base (i + 1) lengths marks in
-    let others = blocks_of is_held base (i + 1) lengths lates in
+    let both = blocks_of is_marked base (i + 1) lengths (either_mark marks lates) in
+    let due = blocks_of is_marked base (i + 1) lengths marks in
+    let others = blocks_of is_marked base (i + 1) lengths lates in
     elim (cases_lt 0 n) [
       | inl some ↦ elim (cases_Bool late) [
         | inl is ↦ (let not_due : mark ≡ false = apart 0 is in rw (lt-ltb 0 n some, is, not_due) (omega (arith, rest, bytes_in-cons block both, bytes_in-cons block others)))
@@ -125,7 +125,7 @@ bytes_in-either base i (n ∷ lengths) (mark ∷ marks) (late ∷ lates) same al
 
 -- Once the blocks that are due are gone, the live ones are those before, ..
 pub live_blocks-dropped : (base i : ℕ) (lengths : List ℕ) (marks lates : List Bool) → length marks ≡ length lengths → length lates ≡ length lengths
-    → blocks_of is_live base i (kept_lengths is_live lengths marks) lates ≡ blocks_of is_live base i lengths (either_mark marks lates)
+    → blocks_of is_unmarked base i (kept_lengths is_unmarked lengths marks) lates ≡ blocks_of is_unmarked base i lengths (either_mark marks lates)
 live_blocks-dropped base i [] marks lates same also = refl
 live_blocks-dropped base i (n ∷ lengths) [] lates same also = absurd (omega arith)
 live_blocks-dropped base i (n ∷ lengths) (mark ∷ marks) [] same also = absurd (omega arith)
@@ -139,7 +139,7 @@ live_blocks-dropped base i (n ∷ lengths) (mark ∷ marks) (late ∷ lates) sam
 -- .. and so are the late ones.
 pub late_blocks-dropped : (base i : ℕ) (lengths : List ℕ) (marks lates : List Bool) → length marks ≡ length lengths → length lates ≡ length lengths
     → ((k : ℕ) → get_or lates k false ≡ true → get_or marks k false ≡ false)
-    → blocks_of is_held base i (kept_lengths is_live lengths marks) lates ≡ blocks_of is_held base i lengths lates
+    → blocks_of is_marked base i (kept_lengths is_unmarked lengths marks) lates ≡ blocks_of is_marked base i lengths lates
 late_blocks-dropped base i [] marks lates same also apart = refl
 late_blocks-dropped base i (n ∷ lengths) [] lates same also apart = absurd (omega arith)
 late_blocks-dropped base i (n ∷ lengths) (mark ∷ marks) [] same also apart = absurd (omega arith)
@@ -204,10 +204,10 @@ none_late base lengths marks lates false are none = are.closed refl
 
 -- An epoch is open where a block is late.
 pub is_open-late : (base : ℕ) (lengths : List ℕ) (marks lates : List Bool) (is_open : Bool) (late : ℕ) → AreLate lengths marks lates is_open
-    → 16 * late ≡ bytes_in (blocks_of is_held base 0 lengths lates) → late ≢ 0 → is_open ≡ true
+    → 16 * late ≡ bytes_in (blocks_of is_marked base 0 lengths lates) → late ≢ 0 → is_open ≡ true
 is_open-late base lengths marks lates true late are bytes some = refl
 is_open-late base lengths marks lates false late are bytes some =
-    let none : bytes_in (blocks_of is_held base 0 lengths lates) ≡ 0 = ap bytes_in (no_held base 0 lengths lates (are.closed refl)) in
+    let none : bytes_in (blocks_of is_marked base 0 lengths lates) ≡ 0 = ap bytes_in (no_due base 0 lengths lates (are.closed refl)) in
     absurd (some (omega (arith, bytes, none)))
 
 -- No late block starts in a gap.
@@ -246,7 +246,7 @@ AreLate-late lengths marks lates is_open k open_now are block live =
 
 -- A late block stays where the blocks that are due are dropped.
 pub late_stays : (lengths : List ℕ) (marks : List Bool) (words : List ℕ) (is_open : Bool) → length marks ≡ length lengths → AreLate lengths marks (bits_of words) is_open
-    → (k : ℕ) → is_set_for words k ≡ true → 0 < get_or (kept_lengths is_live lengths marks) k 0
+    → (k : ℕ) → is_set_for words k ≡ true → 0 < get_or (kept_lengths is_unmarked lengths marks) k 0
 late_stays lengths marks words is_open same are k row =
     let inside : k < 64 * length words = elim (cases_lt k (64 * length words)) [
       | inl lt ↦ lt
@@ -256,7 +256,7 @@ late_stays lengths marks words is_open same are k row =
     ] in
     let late : get_or (bits_of words) k false ≡ true = get_or-bits_of words k inside ∙ row in
     let below : k < length lengths = omega (arith, inside, are.same, length-bits_of words) in
-    omega (arith, are.some k late, get_or-kept is_live lengths marks k false same below (ap not (are.apart k late)))
+    omega (arith, are.some k late, get_or-kept is_unmarked lengths marks k false same below (ap not (are.apart k late)))
 
 -- Marks that are the bits of a row.
 pub marks_of_bits : (marks : List Bool) (words : List ℕ) → length marks ≡ 64 * length words → ((k : ℕ) → get_or marks k false ≡ is_set_for words k) → marks ≡ bits_of words

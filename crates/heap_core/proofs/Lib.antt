@@ -13,10 +13,8 @@ pub mod QuarantineLaws
 pub mod RowLaws
 pub mod RunLaws
 pub mod ShadowLaws
-pub mod SizeLaws
 pub mod SoundLaws
 pub mod ExtentLaws
 pub mod StartLaws
-pub mod StateLaws
 pub mod StoredLaws
 pub mod SumLaws

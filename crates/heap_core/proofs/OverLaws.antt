@@ -5,13 +5,13 @@ use Rattle.std.proofs.lemmas.List.Elements.{All-append, All-nil, Contains-append
 use Rattle.std.specs.Option.{unwrap_or}
 use Rattle.std.specs.Prelude.{All, nat_lt, not}
 use Rattle.std.specs.List.{Contains}
-use Rattle.heap_core.specs.Blocks.{IsApart, end_of, has_bounds, start_of}
-use Rattle.heap_core.specs.Claim.{IsFirstOver}
+use Rattle.heap_model.specs.Blocks.{IsApart, end_of, has_bounds, start_of}
+use Rattle.heap_model.specs.Claim.{IsFirstOver}
 use Rattle.heap_core.specs.Consistent.{AreLate, either_mark, heap_state}
-use Rattle.heap_core.specs.Laws.{Contains-block}
+use Rattle.heap_model.specs.Laws.{Contains-block}
 use Rattle.heap_core.specs.Stored.{AreStored}
-use Rattle.heap_core.specs.Table.{IsFirstPast, IsTable, NonePast, blocks_of, is_held, is_live, is_taken}
-use Rattle.heap_core.specs.declared.block.Block.{Block}
+use Rattle.heap_core.specs.Table.{IsFirstPast, IsTable, NonePast, blocks_of, is_marked, is_unmarked, is_occupied}
+use Rattle.heap_model.specs.declared.block.Block.{Block}
 use Rattle.heap_core.specs.declared.table.Table.TheInside.{Inside}
 use Rattle.heap_core.proofs.BlockLaws.{All-blocks_of}
 use Rattle.heap_core.proofs.KeptLaws.{any-block}
@@ -26,7 +26,7 @@ use Rattle.tag_memory.specs.Tags.{is_set_for}
 pub ends_at_free : (t : Inside) → AreStored t → (k j : ℕ) → is_set_for t.rows.free k ≡ true → j < k
     → j + get_or (lengths_of t.rows.starts.items t.lengths.items) j 0 ≤ k
 ends_at_free t stored k j free lt =
-    let taken = is_taken k (lengths_of t.rows.starts.items t.lengths.items) in
+    let taken = is_occupied k (lengths_of t.rows.starts.items t.lengths.items) in
     let parts = and_parts (nat_lt k (length t.lengths.items)) (not taken) (sym (stored.free k) ∙ free) in
     not_taken_ends (lengths_of t.rows.starts.items t.lengths.items) k j (not-true taken parts.1) (omega arith)
 
@@ -101,77 +101,77 @@ Contains-at keeps base lengths marks p block same lt some kept at top =
 -- ---- in the heap
 
 pub live_first : (base : ℕ) (lengths : List ℕ) (marks lates : List Bool) (is_open : Bool) (first end p : ℕ) (block : Block) → IsTable base lengths marks → end ≤ length lengths
-    → p < end → IsFirstPast is_live lengths (either_mark marks lates) first p → block.base ≡ base + 16 * p → block.top ≡ base + 16 * p + 16 * get_or lengths p 0
+    → p < end → IsFirstPast is_unmarked lengths (either_mark marks lates) first p → block.base ≡ base + 16 * p → block.top ≡ base + 16 * p + 16 * get_or lengths p 0
     → IsFirstOver (heap_state base lengths marks lates is_open).live (base + 16 * first) (base + 16 * end) block
 live_first base lengths marks lates is_open first end p block table within before is at top = record {
-  there = Contains-at is_live base lengths (either_mark marks lates) p block (length-either marks lates ∙ table.same) (omega arith) is.reaches.some is.reaches.kept at top;
+  there = Contains-at is_unmarked base lengths (either_mark marks lates) p block (length-either marks lates ∙ table.same) (omega arith) is.reaches.some is.reaches.kept at top;
   over = (omega arith, omega (arith, is.reaches.past));
-  first = first_before is_live base lengths (either_mark marks lates) first end p is block at;
+  first = first_before is_unmarked base lengths (either_mark marks lates) first end p is block at;
 }
 
 -- A mark of either kind is one of both.
 module _ (lengths : List ℕ) (marks lates : List Bool) (first end : ℕ) (same : length lates ≡ length marks) where
-  none_due : NonePast is_held lengths (either_mark marks lates) first end → NonePast is_held lengths marks first end
+  none_due : NonePast is_marked lengths (either_mark marks lates) first end → NonePast is_marked lengths marks first end
   none_due none k lt reaches =
       none k lt (record { some = reaches.some; kept = get_or-either marks lates k same ∙ ap (λ b. b || get_or lates k false) reaches.kept; past = reaches.past })
 
-  none_late : NonePast is_held lengths (either_mark marks lates) first end → NonePast is_held lengths lates first end
+  none_late : NonePast is_marked lengths (either_mark marks lates) first end → NonePast is_marked lengths lates first end
   none_late none k lt reaches =
       none k lt (record { some = reaches.some; kept = get_or-either marks lates k same ∙ or_right (get_or marks k false) (get_or lates k false) reaches.kept; past = reaches.past }) where
         or_right : (a b : Bool) → b ≡ true → (a || b) ≡ true
         or_right true b is = refl
         or_right false b is = is
 
-pub held_none : (base : ℕ) (lengths : List ℕ) (marks lates : List Bool) (is_open : Bool) (first end : ℕ) → IsTable base lengths marks → AreLate lengths marks lates is_open
-    → (from to : ℕ) → from ≡ base + 16 * first → to ≡ base + 16 * end → NonePast is_held lengths (either_mark marks lates) first end → first < end
+pub due_none : (base : ℕ) (lengths : List ℕ) (marks lates : List Bool) (is_open : Bool) (first end : ℕ) → IsTable base lengths marks → AreLate lengths marks lates is_open
+    → (from to : ℕ) → from ≡ base + 16 * first → to ≡ base + 16 * end → NonePast is_marked lengths (either_mark marks lates) first end → first < end
     → All (IsApart (from, to - from)) ((heap_state base lengths marks lates is_open).waiting ++ (heap_state base lengths marks lates is_open).painted)
-held_none base lengths marks lates true first end table late from to from_is to_is none some =
-    All-append (IsApart (from, to - from)) (blocks_of is_held base 0 lengths lates) (blocks_of is_held base 0 lengths marks)
-    (none_over is_held base lengths lates first end from to from_is to_is (none_late lengths marks lates first end (late.same ∙ sym table.same) none) some)
-    (none_over is_held base lengths marks first end from to from_is to_is (none_due lengths marks lates first end (late.same ∙ sym table.same) none) some)
-held_none base lengths marks lates false first end table late from to from_is to_is none some =
-    All-append (IsApart (from, to - from)) (blocks_of is_held base 0 lengths marks) []
-    (none_over is_held base lengths marks first end from to from_is to_is (none_due lengths marks lates first end (late.same ∙ sym table.same) none) some)
+due_none base lengths marks lates true first end table late from to from_is to_is none some =
+    All-append (IsApart (from, to - from)) (blocks_of is_marked base 0 lengths lates) (blocks_of is_marked base 0 lengths marks)
+    (none_over is_marked base lengths lates first end from to from_is to_is (none_late lengths marks lates first end (late.same ∙ sym table.same) none) some)
+    (none_over is_marked base lengths marks first end from to from_is to_is (none_due lengths marks lates first end (late.same ∙ sym table.same) none) some)
+due_none base lengths marks lates false first end table late from to from_is to_is none some =
+    All-append (IsApart (from, to - from)) (blocks_of is_marked base 0 lengths marks) []
+    (none_over is_marked base lengths marks first end from to from_is to_is (none_due lengths marks lates first end (late.same ∙ sym table.same) none) some)
     (All-nil (IsApart (from, to - from)))
 
 -- What starts before the first of either kind ends before the granules.
 module _ (base : ℕ) (lengths : List ℕ) (marks lates : List Bool) (first p : ℕ) (same : length lates ≡ length marks)
-    (is : IsFirstPast is_held lengths (either_mark marks lates) first p) (block : Block) (at : block.base ≡ base + 16 * p) where
-  before_due : All (λ b. start_of b < block.base → end_of b ≤ base + 16 * first) (blocks_of is_held base 0 lengths marks)
-  before_due = All-blocks_of (λ b. start_of b < block.base → end_of b ≤ base + 16 * first) is_held base 0 lengths marks false
+    (is : IsFirstPast is_marked lengths (either_mark marks lates) first p) (block : Block) (at : block.base ≡ base + 16 * p) where
+  before_due : All (λ b. start_of b < block.base → end_of b ≤ base + 16 * first) (blocks_of is_marked base 0 lengths marks)
+  before_due = All-blocks_of (λ b. start_of b < block.base → end_of b ≤ base + 16 * first) is_marked base 0 lengths marks false
       (λ k start start_is lt some kept before. elim (cases_lt first (k + get_or lengths k 0)) [
         | inl reaches ↦ absurd (none_due lengths marks lates first p same is.least k (omega arith) (record { some = some; kept = kept; past = reaches }))
         | inr ends ↦ omega arith
       ])
 
-  before_late : All (λ b. start_of b < block.base → end_of b ≤ base + 16 * first) (blocks_of is_held base 0 lengths lates)
-  before_late = All-blocks_of (λ b. start_of b < block.base → end_of b ≤ base + 16 * first) is_held base 0 lengths lates false
+  before_late : All (λ b. start_of b < block.base → end_of b ≤ base + 16 * first) (blocks_of is_marked base 0 lengths lates)
+  before_late = All-blocks_of (λ b. start_of b < block.base → end_of b ≤ base + 16 * first) is_marked base 0 lengths lates false
       (λ k start start_is lt some kept before. elim (cases_lt first (k + get_or lengths k 0)) [
         | inl reaches ↦ absurd (none_late lengths marks lates first p same is.least k (omega arith) (record { some = some; kept = kept; past = reaches }))
         | inr ends ↦ omega arith
       ])
 
-pub held_first : (base : ℕ) (lengths : List ℕ) (marks lates : List Bool) (is_open : Bool) (first end p : ℕ) (block : Block) → IsTable base lengths marks → AreLate lengths marks lates is_open
-    → end ≤ length lengths → p < end → IsFirstPast is_held lengths (either_mark marks lates) first p → block.base ≡ base + 16 * p → block.top ≡ base + 16 * p + 16 * get_or lengths p 0
+pub due_first : (base : ℕ) (lengths : List ℕ) (marks lates : List Bool) (is_open : Bool) (first end p : ℕ) (block : Block) → IsTable base lengths marks → AreLate lengths marks lates is_open
+    → end ≤ length lengths → p < end → IsFirstPast is_marked lengths (either_mark marks lates) first p → block.base ≡ base + 16 * p → block.top ≡ base + 16 * p + 16 * get_or lengths p 0
     → IsFirstOver ((heap_state base lengths marks lates is_open).waiting ++ (heap_state base lengths marks lates is_open).painted) (base + 16 * first) (base + 16 * end) block
-held_first base lengths marks lates true first end p block table late within before is at top =
+due_first base lengths marks lates true first end p block table late within before is at top =
     let same = late.same ∙ sym table.same in
-    let due = blocks_of is_held base 0 lengths marks in
-    let lately = blocks_of is_held base 0 lengths lates in
+    let due = blocks_of is_marked base 0 lengths marks in
+    let lately = blocks_of is_marked base 0 lengths lates in
     record {
       there = elim (or_cases (get_or marks p false) (get_or lates p false) (sym (get_or-either marks lates p same) ∙ is.reaches.kept)) [
-        | inl marked ↦ Contains-append_right lately due _ (Contains-at is_held base lengths marks p block table.same (omega arith) is.reaches.some marked at top)
-        | inr was_late ↦ Contains-append_left lately due _ (Contains-at is_held base lengths lates p block late.same (omega arith) is.reaches.some was_late at top)
+        | inl marked ↦ Contains-append_right lately due _ (Contains-at is_marked base lengths marks p block table.same (omega arith) is.reaches.some marked at top)
+        | inr was_late ↦ Contains-append_left lately due _ (Contains-at is_marked base lengths lates p block late.same (omega arith) is.reaches.some was_late at top)
       ];
       over = (omega arith, omega (arith, is.reaches.past));
       first = All-append (λ b. start_of b < block.base → end_of b ≤ base + 16 * first) lately due (before_late base lengths marks lates first p same is block at) (before_due base lengths marks lates first p same is block at);
     }
-held_first base lengths marks lates false first end p block table late within before is at top =
+due_first base lengths marks lates false first end p block table late within before is at top =
     let same = late.same ∙ sym table.same in
-    let due = blocks_of is_held base 0 lengths marks in
+    let due = blocks_of is_marked base 0 lengths marks in
     record {
       there = elim (or_cases (get_or marks p false) (get_or lates p false) (sym (get_or-either marks lates p same) ∙ is.reaches.kept)) [
-        | inl marked ↦ Contains-append_left due [] _ (Contains-at is_held base lengths marks p block table.same (omega arith) is.reaches.some marked at top)
+        | inl marked ↦ Contains-append_left due [] _ (Contains-at is_marked base lengths marks p block table.same (omega arith) is.reaches.some marked at top)
         | inr was_late ↦ absurd (true≢false (sym was_late ∙ late.closed refl p))
       ];
       over = (omega arith, omega (arith, is.reaches.past));

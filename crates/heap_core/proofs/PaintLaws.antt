@@ -9,7 +9,7 @@ use Rattle.std.proofs.lemmas.Nat.Bits.{bit_at-lt, bit_at_or}
 use Rattle.std.proofs.Math.Bool.{and_comm}
 use Rattle.granule_rows.specs.Runs.{is_within}
 use Rattle.heap_core.specs.Painting.{IsPainted}
-use Rattle.mark_board.specs.Bits.{bit, gains, has, without}
+use Rattle.mark_board.specs.Bits.{bit, with_bits, has, bits_without}
 use Rattle.mark_board.specs.Board.{BoardState, IsOf, IsSeat, SeatState, word_count}
 use Rattle.mark_board.specs.Laws.{bit-gains_other, bit-gains_same, bit-without, gains-keep, length-gains}
 use Rattle.tag_memory.specs.Laws.{is_set-and, is_set_zero}
@@ -62,7 +62,7 @@ none_of (suc (suc bit)) below unset = absurd (omega (arith, below))
 
 -- A mark paints the bits of its mask.
 pub painted-mark : (board : BoardState) (old new : SeatState) (w mask answer found : ℕ) → IsOf board new → new.parts ≡ old.parts → IsSeat new → w < word_count board → mask < 2 ^ 64 → found < 2 ^ 64
-    → answer ≡ without mask found → new.seen ≡ gains old.seen w (bit_or found mask) → new.mine ≡ gains old.mine w answer
+    → answer ≡ bits_without mask found → new.seen ≡ with_bits old.seen w (bit_or found mask) → new.mine ≡ with_bits old.mine w answer
     → IsPainted (λ k. (k / 64 == w) && is_set mask (k % 64)) board old new
 painted-mark board old new w mask answer found of parts sound inside fits fits_found answer_is seen_is mine_is =
     let width_seen : length old.seen ≡ word_count board = sym (length-gains old.seen w (bit_or found mask)) ∙ (ap length (sym seen_is) ∙ (sound.seen_width ∙ ap word_count of)) in
@@ -77,7 +77,7 @@ painted-mark board old new w mask answer found of parts sound inside fits fits_f
           let here : k / 64 ≡ w = eqb-true (k / 64) w both.0 in
           let one : bit_at mask (k % 64) ≡ 1 = eqb-true (bit_at mask (k % 64)) 1 both.1 in
           let gained = bit-gains_same old.seen w (bit_or found mask) (k % 64) (omega (arith, inside, width_seen)) in
-          let there : has new.seen k ≡ bit (gains old.seen w (bit_or found mask)) w (k % 64) = (λ i. bit (seen_is i) (here i) (k % 64)) in
+          let there : has new.seen k ≡ bit (with_bits old.seen w (bit_or found mask)) w (k % 64) = (λ i. bit (seen_is i) (here i) (k % 64)) in
           omega (arith, there, gained, bit_at_or found mask (k % 64), one, bit_at-lt (get_or new.seen (k / 64) 0) (k % 64));
       mine = λ k is. dite (ℕ_discrete (k / 64) w)
           (λ here.
@@ -85,7 +85,7 @@ painted-mark board old new w mask answer found of parts sound inside fits fits_f
           let unset : is_set mask (k % 64) ≡ false = (rw test at is) in
           let zero_bit : bit_at mask (k % 64) ≡ 0 = none_of (bit_at mask (k % 64)) (bit_at-lt mask (k % 64)) unset in
           let gained = bit-gains_same old.mine w answer (k % 64) (omega (arith, inside, width_mine)) in
-          let there : has new.mine k ≡ bit (gains old.mine w answer) w (k % 64) = (λ i. bit (mine_is i) (here i) (k % 64)) in
+          let there : has new.mine k ≡ bit (with_bits old.mine w answer) w (k % 64) = (λ i. bit (mine_is i) (here i) (k % 64)) in
           let before : has old.mine k ≡ bit old.mine w (k % 64) = (λ i. bit old.mine (here i) (k % 64)) in
           let nothing : bit_at answer (k % 64) ≡ 0 = omega (arith, ap (λ (n : ℕ). bit_at n (k % 64)) answer_is, bit-without mask found (k % 64) fits fits_found, zero_bit) in
           omega (arith, there, gained, before, nothing))

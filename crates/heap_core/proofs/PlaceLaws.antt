@@ -3,14 +3,14 @@ use Rattle.std.proofs.Common.{◌≡◌, ◌<◌, ◌≤◌, ◌+◌, ◌-◌, �
 use Rattle.std.proofs.lemmas.Bool.{cases_Bool, or_cases}
 use Rattle.std.proofs.lemmas.List.Elements.{All-nil}
 use Rattle.std.specs.Prelude.{All}
-use Rattle.heap_core.specs.Blocks.{IsApart, Span}
+use Rattle.heap_model.specs.Blocks.{IsApart, Span}
 use Rattle.heap_core.specs.Consistent.{AreLate, either_mark, heap_state}
-use Rattle.heap_core.specs.Place.{IsFree, IsFreeBlock, IsPlace, block_unit, granule_size}
-use Rattle.heap_core.specs.Table.{IsFirstGap, IsGap, IsTable, blocks_of, is_held, is_live, is_taken}
+use Rattle.heap_model.specs.Place.{IsFree, IsFreeBlock, IsPlace, block_unit, granule_size}
+use Rattle.heap_core.specs.Table.{IsFirstGap, IsGap, IsTable, blocks_of, is_marked, is_unmarked, is_occupied}
 use Rattle.heap_core.proofs.BlockLaws.{All-block, All-blocks_of}
-use Rattle.heap_core.proofs.LateLaws.{get_or-either, length-either, no_held}
+use Rattle.heap_core.proofs.LateLaws.{get_or-either, length-either, no_due}
 use Rattle.heap_core.proofs.RunLaws.{is_taken_by, run_is_apart}
-use Rattle.heap_core.proofs.SizeLaws.{HasShape, IsFreeBlock-free, le-block_length}
+use Rattle.heap_model.specs.SizeLaws.{HasShape, IsFreeBlock-free, le-block_length}
 use Rattle.heap_core.proofs.ExtentLaws.{LiesWithin-table}
 
 -- Each block shares no address with a free run.
@@ -22,11 +22,11 @@ All-IsApart keeps base lengths marks p n run =
 
 -- Granules that share no address with a block, live or held, are free.
 apart_is_free : (base : ℕ) (lengths : List ℕ) (marks : List Bool) (p n k : ℕ) → length marks ≡ length lengths
-    → All (IsApart (base + 16 * p, 16 * n)) (blocks_of is_live base 0 lengths marks)
-    → All (IsApart (base + 16 * p, 16 * n)) (blocks_of is_held base 0 lengths marks)
-    → p ≤ k → k < p + n → k < length lengths → is_taken k lengths ≡ false
+    → All (IsApart (base + 16 * p, 16 * n)) (blocks_of is_unmarked base 0 lengths marks)
+    → All (IsApart (base + 16 * p, 16 * n)) (blocks_of is_marked base 0 lengths marks)
+    → p ≤ k → k < p + n → k < length lengths → is_occupied k lengths ≡ false
 apart_is_free base lengths marks p n k same live held le lt within =
-    elim (cases_Bool (is_taken k lengths)) [
+    elim (cases_Bool (is_occupied k lengths)) [
       | inl taken ↦
           let by = is_taken_by lengths k taken in
           let start = base + 16 * by.0 in
@@ -35,8 +35,8 @@ apart_is_free base lengths marks p n k same live held le lt within =
           let P : Span → Type 0 = IsApart (base + 16 * p, 16 * n) in
           let apart : IsApart (base + 16 * p, 16 * n) (base + 16 * by.0, 16 * get_or lengths by.0 0) =
           elim (cases_Bool (get_or marks by.0 true)) [
-            | inl is ↦ All-block P is_held base 0 lengths marks true by.0 start held same (omega arith) inside some is
-            | inr is ↦ All-block P is_live base 0 lengths marks true by.0 start live same (omega arith) inside some (rw is refl)
+            | inl is ↦ All-block P is_marked base 0 lengths marks true by.0 start held same (omega arith) inside some is
+            | inr is ↦ All-block P is_unmarked base 0 lengths marks true by.0 start live same (omega arith) inside some (rw is refl)
           ] in
           elim apart [
             | inl before ↦ absurd (omega (arith, by.1.0, by.1.1))
@@ -51,12 +51,12 @@ base_granule base lengths marks table = omega (arith, (LiesWithin-table base len
 
 -- What holds of the blocks that are due and of the late ones holds of those with either mark.
 All-either : (P : Span → Type 0) (base : ℕ) (lengths : List ℕ) (marks lates : List Bool) → length marks ≡ length lengths → length lates ≡ length lengths
-    → All P (blocks_of is_held base 0 lengths marks) → All P (blocks_of is_held base 0 lengths lates) → All P (blocks_of is_held base 0 lengths (either_mark marks lates))
+    → All P (blocks_of is_marked base 0 lengths marks) → All P (blocks_of is_marked base 0 lengths lates) → All P (blocks_of is_marked base 0 lengths (either_mark marks lates))
 All-either P base lengths marks lates same also due late =
-    All-blocks_of P is_held base 0 lengths (either_mark marks lates) false
+    All-blocks_of P is_marked base 0 lengths (either_mark marks lates) false
     (λ k start at lt some kept. elim (or_cases (get_or marks k false) (get_or lates k false) (sym (get_or-either marks lates k (also ∙ sym same)) ∙ kept)) [
-      | inl is ↦ All-block P is_held base 0 lengths marks false k start due same at lt some is
-      | inr is ↦ All-block P is_held base 0 lengths lates false k start late also at lt some is
+      | inl is ↦ All-block P is_marked base 0 lengths marks false k start due same at lt some is
+      | inr is ↦ All-block P is_marked base 0 lengths lates false k start late also at lt some is
     ])
 
 -- A block may lie at a free run.
@@ -69,9 +69,9 @@ IsFreeBlock-from_run base lengths marks lates true p n table run =
       some = omega (arith, run.some);
       from = omega arith;
       end = omega (arith, run.end);
-      live = All-IsApart is_live base lengths (either_mark marks lates) p n run;
-      waiting = All-IsApart is_held base lengths lates p n run;
-      painted = All-IsApart is_held base lengths marks p n run;
+      live = All-IsApart is_unmarked base lengths (either_mark marks lates) p n run;
+      waiting = All-IsApart is_marked base lengths lates p n run;
+      painted = All-IsApart is_marked base lengths marks p n run;
     }
 IsFreeBlock-from_run base lengths marks lates false p n table run =
     record {
@@ -80,8 +80,8 @@ IsFreeBlock-from_run base lengths marks lates false p n table run =
       some = omega (arith, run.some);
       from = omega arith;
       end = omega (arith, run.end);
-      live = All-IsApart is_live base lengths (either_mark marks lates) p n run;
-      waiting = All-IsApart is_held base lengths marks p n run;
+      live = All-IsApart is_unmarked base lengths (either_mark marks lates) p n run;
+      waiting = All-IsApart is_marked base lengths marks p n run;
       painted = All-nil (IsApart (base + 16 * p, 16 * n));
     }
 
@@ -103,14 +103,14 @@ IsFree-from_run base lengths marks lates is_open size p n unit table has run mul
 
 -- What a free block shares no address with, by the marks.
 apart_from_due : (base : ℕ) (lengths : List ℕ) (marks lates : List Bool) (is_open : Bool) (a n : ℕ) → IsFreeBlock (heap_state base lengths marks lates is_open) a n
-    → All (IsApart (a, n)) (blocks_of is_held base 0 lengths marks)
+    → All (IsApart (a, n)) (blocks_of is_marked base 0 lengths marks)
 apart_from_due base lengths marks lates true a n free = free.painted
 apart_from_due base lengths marks lates false a n free = free.waiting
 
 apart_from_late : (base : ℕ) (lengths : List ℕ) (marks lates : List Bool) (is_open : Bool) (a n : ℕ) → AreLate lengths marks lates is_open → IsFreeBlock (heap_state base lengths marks lates is_open) a n
-    → All (IsApart (a, n)) (blocks_of is_held base 0 lengths lates)
+    → All (IsApart (a, n)) (blocks_of is_marked base 0 lengths lates)
 apart_from_late base lengths marks lates true a n are free = free.waiting
-apart_from_late base lengths marks lates false a n are free = rw (no_held base 0 lengths lates (are.closed refl)) (All-nil (IsApart (a, n)))
+apart_from_late base lengths marks lates false a n are free = rw (no_due base 0 lengths lates (are.closed refl)) (All-nil (IsApart (a, n)))
 
 -- Where a block may lie, there is a free run.
 pub IsGap-from_block : (base : ℕ) (lengths : List ℕ) (marks lates : List Bool) (is_open : Bool) (p n : ℕ) → IsTable base lengths marks → AreLate lengths marks lates is_open

@@ -4,11 +4,11 @@ use Rattle.std.proofs.lemmas.Bool.{and_left, and_right, cases_Bool, cases_eq, eq
 use Rattle.std.proofs.lemmas.List.{set-get_or}
 use Rattle.std.proofs.lemmas.List.Elements.{All-head, All-tail}
 use Rattle.std.specs.Prelude.{All}
-use Rattle.heap_core.specs.Blocks.{Span, blocks_with, blocks_without, bytes_in, has_bounds, is_block}
+use Rattle.heap_model.specs.Blocks.{Span, blocks_with, blocks_without, bytes_in, has_bounds, is_block}
 use Rattle.heap_core.specs.Consistent.{AreLate, either_mark, heap_state}
-use Rattle.heap_core.specs.Quarantine.{freed_of}
-use Rattle.heap_core.specs.Table.{IsBlockAt, IsTable, blocks_of, is_held, is_live}
-use Rattle.heap_core.specs.declared.block.Freed.TheVariants.{AlreadyHeld, Held, NotBlock}
+use Rattle.heap_model.specs.Quarantine.{freed_of}
+use Rattle.heap_core.specs.Table.{IsBlockAt, IsTable, blocks_of, is_marked, is_unmarked}
+use Rattle.heap_model.specs.declared.block.Freed.TheVariants.{AlreadyHeld, Held, NotBlock}
 use Rattle.heap_core.proofs.BlockLaws.{All-blocks_of, blocks_of-set}
 use Rattle.heap_core.proofs.KeptLaws.{any-block, any-no_block}
 use Rattle.heap_core.proofs.LateLaws.{get_or-either, length-either}
@@ -57,9 +57,9 @@ is_no_block keeps base lengths marks start top none =
 pub freed_of-none : (base : ℕ) (lengths : List ℕ) (marks lates : List Bool) (is_open : Bool) (start top : ℕ) → ((k : ℕ) → IsBlockAt base lengths start top k → ⊥)
     → freed_of (heap_state base lengths marks lates is_open) start top ≡ NotBlock
 freed_of-none base lengths marks lates true start top none =
-    rw (is_no_block is_live base lengths (either_mark marks lates) start top none, is_no_block is_held base lengths lates start top none, is_no_block is_held base lengths marks start top none) refl
+    rw (is_no_block is_unmarked base lengths (either_mark marks lates) start top none, is_no_block is_marked base lengths lates start top none, is_no_block is_marked base lengths marks start top none) refl
 freed_of-none base lengths marks lates false start top none =
-    rw (is_no_block is_live base lengths (either_mark marks lates) start top none, is_no_block is_held base lengths marks start top none) refl
+    rw (is_no_block is_unmarked base lengths (either_mark marks lates) start top none, is_no_block is_marked base lengths marks start top none) refl
 
 -- A block that is due.
 pub freed_of-due : (base : ℕ) (lengths : List ℕ) (marks lates : List Bool) (is_open : Bool) (start top k : ℕ) → length marks ≡ length lengths → AreLate lengths marks lates is_open
@@ -67,17 +67,17 @@ pub freed_of-due : (base : ℕ) (lengths : List ℕ) (marks lates : List Bool) (
 freed_of-due base lengths marks lates true start top k same are at held =
     let either : get_or (either_mark marks lates) k false ≡ true = get_or-either marks lates k (are.same ∙ sym same) ∙ ap (λ b. b || get_or lates k false) held in
     let other : get_or lates k false ≡ false = false_from_ne_true (get_or lates k false) (λ late. true≢false (sym held ∙ are.apart k late)) in
-    rw (is_other_block is_live base lengths (either_mark marks lates) start top k at (ap not either), is_other_block is_held base lengths lates start top k at other, is_block_at is_held base lengths marks start top k same at held) refl
+    rw (is_other_block is_unmarked base lengths (either_mark marks lates) start top k at (ap not either), is_other_block is_marked base lengths lates start top k at other, is_block_at is_marked base lengths marks start top k same at held) refl
 freed_of-due base lengths marks lates false start top k same are at held =
     let either : get_or (either_mark marks lates) k false ≡ true = get_or-either marks lates k (are.same ∙ sym same) ∙ ap (λ b. b || get_or lates k false) held in
-    rw (is_other_block is_live base lengths (either_mark marks lates) start top k at (ap not either), is_block_at is_held base lengths marks start top k same at held) refl
+    rw (is_other_block is_unmarked base lengths (either_mark marks lates) start top k at (ap not either), is_block_at is_marked base lengths marks start top k same at held) refl
 
 -- A late block.
 pub freed_of-late : (base : ℕ) (lengths : List ℕ) (marks lates : List Bool) (is_open : Bool) (start top k : ℕ) → length marks ≡ length lengths → AreLate lengths marks lates is_open
     → IsBlockAt base lengths start top k → get_or lates k false ≡ true → freed_of (heap_state base lengths marks lates is_open) start top ≡ AlreadyHeld
 freed_of-late base lengths marks lates true start top k same are at late =
     let either : get_or (either_mark marks lates) k false ≡ true = get_or-either marks lates k (are.same ∙ sym same) ∙ (λ i. are.apart k late i || late i) in
-    rw (is_other_block is_live base lengths (either_mark marks lates) start top k at (ap not either), is_block_at is_held base lengths lates start top k are.same at late) refl
+    rw (is_other_block is_unmarked base lengths (either_mark marks lates) start top k at (ap not either), is_block_at is_marked base lengths lates start top k are.same at late) refl
 freed_of-late base lengths marks lates false start top k same are at late = absurd (true≢false (sym late ∙ are.closed refl k))
 
 -- The mark of a live block.
@@ -88,7 +88,7 @@ live_mark lengths marks lates is_open k same are not_due not_late = get_or-eithe
 pub freed_of-live : (base : ℕ) (lengths : List ℕ) (marks lates : List Bool) (is_open : Bool) (start top k : ℕ) → length marks ≡ length lengths → AreLate lengths marks lates is_open
     → IsBlockAt base lengths start top k → get_or (either_mark marks lates) k false ≡ false → freed_of (heap_state base lengths marks lates is_open) start top ≡ Held
 freed_of-live base lengths marks lates is_open start top k same are at live =
-    rw (is_block_at is_live base lengths (either_mark marks lates) start top k (length-either marks lates ∙ same) at (ap not live)) refl
+    rw (is_block_at is_unmarked base lengths (either_mark marks lates) start top k (length-either marks lates ∙ same) at (ap not live)) refl
 
 -- ---- the table once the block is held
 
@@ -102,14 +102,14 @@ blocks_without-none start top (b ∷ blocks) none =
 -- The live blocks are all but that one.
 pub live_blocks-held : (base i : ℕ) (lengths : List ℕ) (marks : List Bool) (start top k : ℕ) → length marks ≡ length lengths → k < length lengths
     → start ≡ base + 16 * (i + k) → top ≡ start + 16 * get_or lengths k 0 → 0 < get_or lengths k 0
-    → blocks_of is_live base i lengths (set marks k true) ≡ blocks_without start top (blocks_of is_live base i lengths marks)
+    → blocks_of is_unmarked base i lengths (set marks k true) ≡ blocks_without start top (blocks_of is_unmarked base i lengths marks)
 live_blocks-held base i [] marks start top k same lt at end some = absurd (omega arith)
 live_blocks-held base i (n ∷ lengths) [] start top k same lt at end some = absurd (omega arith)
 live_blocks-held base i (n ∷ lengths) (mark ∷ marks) start top zero same lt at end some =
     let here : has_bounds start top (base + 16 * i, 16 * n) ≡ true = has_bounds_same (base + 16 * i) (16 * n) start top (omega arith) (omega arith) in
-    let later : blocks_without start top (blocks_of is_live base (i + 1) lengths marks) ≡ blocks_of is_live base (i + 1) lengths marks =
-    blocks_without-none start top (blocks_of is_live base (i + 1) lengths marks)
-    (All-blocks_of (λ block. has_bounds start top block ≡ false) is_live base (i + 1) lengths marks false
+    let later : blocks_without start top (blocks_of is_unmarked base (i + 1) lengths marks) ≡ blocks_of is_unmarked base (i + 1) lengths marks =
+    blocks_without-none start top (blocks_of is_unmarked base (i + 1) lengths marks)
+    (All-blocks_of (λ block. has_bounds start top block ≡ false) is_unmarked base (i + 1) lengths marks false
     (λ j s s_is j_lt j_some kept. has_bounds_other s (16 * get_or lengths j 0) start top (λ first last. absurd (omega arith)))) in
     elim (cases_Bool mark) [
       | inl is ↦ rw (is, lt-ltb 0 n some) (sym later)
@@ -126,21 +126,21 @@ live_blocks-held base i (n ∷ lengths) (mark ∷ marks) start top (suc k) same 
 -- And it is one more of the held ones.
 pub held_blocks-held : (base : ℕ) (lengths : List ℕ) (marks : List Bool) (start top k : ℕ) → length marks ≡ length lengths
     → IsBlockAt base lengths start top k → get_or marks k false ≡ false
-    → blocks_of is_held base 0 lengths (set marks k true) ≡ blocks_with (start, top - start) (blocks_of is_held base 0 lengths marks)
+    → blocks_of is_marked base 0 lengths (set marks k true) ≡ blocks_with (start, top - start) (blocks_of is_marked base 0 lengths marks)
 held_blocks-held base lengths marks start top k same at live =
     let n = get_or lengths k 0 in
     let bytes : 16 * get_or lengths k 0 ≡ top - start = omega (arith, at.top_is) in
-    let more = blocks_of-set is_held base 0 lengths marks false k n start true at.within same (and_right (nat_lt 0 n) (get_or marks k false) live) at.some refl (omega (arith, at.start_is)) in
-    subst (λ (xs : List ℕ). blocks_of is_held base 0 xs (set marks k true) ≡ blocks_with (start, top - start) (blocks_of is_held base 0 lengths marks))
-    (set-get_or lengths k 0) (more ∙ ap (λ (x : ℕ). blocks_with (start, x) (blocks_of is_held base 0 lengths marks)) bytes)
+    let more = blocks_of-set is_marked base 0 lengths marks false k n start true at.within same (and_right (nat_lt 0 n) (get_or marks k false) live) at.some refl (omega (arith, at.start_is)) in
+    subst (λ (xs : List ℕ). blocks_of is_marked base 0 xs (set marks k true) ≡ blocks_with (start, top - start) (blocks_of is_marked base 0 lengths marks))
+    (set-get_or lengths k 0) (more ∙ ap (λ (x : ℕ). blocks_with (start, x) (blocks_of is_marked base 0 lengths marks)) bytes)
 
 pub IsTable-held : (base : ℕ) (lengths : List ℕ) (marks : List Bool) (k : ℕ) → IsTable base lengths marks → IsTable base lengths (set marks k true)
 IsTable-held base lengths marks k table = IsTable-marks base lengths marks (set marks k true) (length-set marks k true ∙ table.same) table
 
 -- The bytes of the block go from the live to the held ones.
 pub record HasMoved (base : ℕ) (lengths : List ℕ) (marks : List Bool) (k : ℕ) : Type 0 where
-  pub live : bytes_in (blocks_of is_live base 0 lengths (set marks k true)) + 16 * get_or lengths k 0 ≡ bytes_in (blocks_of is_live base 0 lengths marks)
-  pub held : bytes_in (blocks_of is_held base 0 lengths (set marks k true)) ≡ bytes_in (blocks_of is_held base 0 lengths marks) + 16 * get_or lengths k 0
+  pub live : bytes_in (blocks_of is_unmarked base 0 lengths (set marks k true)) + 16 * get_or lengths k 0 ≡ bytes_in (blocks_of is_unmarked base 0 lengths marks)
+  pub held : bytes_in (blocks_of is_marked base 0 lengths (set marks k true)) ≡ bytes_in (blocks_of is_marked base 0 lengths marks) + 16 * get_or lengths k 0
 
 pub HasMoved-held : (base : ℕ) (lengths : List ℕ) (marks : List Bool) (start top k : ℕ) → length marks ≡ length lengths
     → IsBlockAt base lengths start top k → get_or marks k false ≡ false → HasMoved base lengths marks k
@@ -148,5 +148,5 @@ HasMoved-held base lengths marks start top k same at live =
     let before = bytes_of_both base 0 lengths marks same in
     let after = bytes_of_both base 0 lengths (set marks k true) (length-set marks k true ∙ same) in
     let more = ap bytes_in (held_blocks-held base lengths marks start top k same at live)
-    ∙ bytes_in-blocks_with (start, top - start) (blocks_of is_held base 0 lengths marks) in
+    ∙ bytes_in-blocks_with (start, top - start) (blocks_of is_marked base 0 lengths marks) in
     record { live = omega (arith, at.top_is); held = omega (arith, at.top_is) }

@@ -27,7 +27,7 @@ module _ {len : ℕ} {old now : List ℕ} (new : List ℕ) (value : now ≡ old)
       → (k : ℕ) → is_set_for (take len (new ++ drop (length new) old)) k ≡ make k (is_set_for old k)
   bits-written make bits k = ap (λ (xs : List ℕ). is_set_for xs k) written ∙ (bits k ∙ ap (λ (xs : List ℕ). make k (is_set_for xs k)) value)
 
--- ---- a block held
+-- ---- a block due
 
 within_pages : (start end to k : ℕ) → to ≡ (end + 255) / 256 → is_within (start / 256) to (k / 256) ≡ false → is_within start end k ≡ false
 within_pages start end to k to_is out =
@@ -49,28 +49,28 @@ inside_pages start end to pages page to_is le is =
       | inr past ↦ absurd (grind (arith, nat_tests, is, past))
     ]
 
-pub AreRows-held : (r s : Rows) (start end to : ℕ) → AreRows r → to ≡ (end + 255) / 256 → end ≤ row_granules r → s.free ≡ r.free → s.starts ≡ r.starts
-    → length s.held.items ≡ length r.held.items → length s.held_pages.items ≡ length r.held_pages.items
-    → ((k : ℕ) → is_set_for s.held.items k ≡ (is_within start end k || is_set_for r.held.items k))
-    → ((page : ℕ) → is_set_for s.held_pages.items page ≡ (is_within (start / 256) to page || is_set_for r.held_pages.items page))
+pub AreRows-due : (r s : Rows) (start end to : ℕ) → AreRows r → to ≡ (end + 255) / 256 → end ≤ row_granules r → s.free ≡ r.free → s.starts ≡ r.starts
+    → length s.due.items ≡ length r.due.items → length s.due_pages.items ≡ length r.due_pages.items
+    → ((k : ℕ) → is_set_for s.due.items k ≡ (is_within start end k || is_set_for r.due.items k))
+    → ((page : ℕ) → is_set_for s.due_pages.items page ≡ (is_within (start / 256) to page || is_set_for r.due_pages.items page))
     → AreRows s
-AreRows-held r s start end to rows to_is le free starts held held_pages bits page_bits =
+AreRows-due r s start end to rows to_is le free starts due due_pages bits page_bits =
     let count : row_granules s ≡ row_granules r = ap (λ x. 64 * length x.items) starts in
     record {
       pages = rows.pages;
       whole = count ∙ rows.whole;
       limit = omega (arith, rows.limit);
       free = omega (arith, rows.free, ap length free);
-      held = held ∙ (rows.held ∙ sym (ap (λ x. length x.items) starts));
-      held_pages = omega (arith, rows.held_pages);
-      held_pages_limit = omega (arith, rows.held_pages_limit);
+      due = due ∙ (rows.due ∙ sym (ap (λ x. length x.items) starts));
+      due_pages = omega (arith, rows.due_pages);
+      due_pages_limit = omega (arith, rows.due_pages_limit);
       inside = λ page set. elim (or_cases _ _ (sym (page_bits page) ∙ set)) [
         | inl new ↦ inside_pages start end to rows.pages page to_is (omega (arith, rows.whole)) new
         | inr old ↦ rows.inside page old
       ];
       marked = λ k clear.
           let none = or_parts _ _ (sym (page_bits (k / 256)) ∙ clear) in
-          bits k ∙ (ap (λ b. b || is_set_for r.held.items k) (within_pages start end to k to_is none.0) ∙ rows.marked k none.1);
+          bits k ∙ (ap (λ b. b || is_set_for r.due.items k) (within_pages start end to k to_is none.0) ∙ rows.marked k none.1);
     }
 
 -- ---- pages given back
@@ -96,21 +96,21 @@ given_starts true true false = refl
 given_starts true true true = refl
 
 -- What lies in some granules is given back.
-pub AreGiven-within : (r s : Rows) (test : ℕ → Bool) → row_granules s ≡ row_granules r → s.held_pages ≡ r.held_pages
-    → ((k : ℕ) → is_set_for s.free k ≡ ((test k && is_set_for r.held.items k) || is_set_for r.free k))
-    → ((k : ℕ) → is_set_for s.starts.items k ≡ (is_set_for r.starts.items k && not (test k && is_set_for r.held.items k)))
-    → ((k : ℕ) → is_set_for s.held.items k ≡ (is_set_for r.held.items k && not (test k)))
+pub AreGiven-within : (r s : Rows) (test : ℕ → Bool) → row_granules s ≡ row_granules r → s.due_pages ≡ r.due_pages
+    → ((k : ℕ) → is_set_for s.free k ≡ ((test k && is_set_for r.due.items k) || is_set_for r.free k))
+    → ((k : ℕ) → is_set_for s.starts.items k ≡ (is_set_for r.starts.items k && not (test k && is_set_for r.due.items k)))
+    → ((k : ℕ) → is_set_for s.due.items k ≡ (is_set_for r.due.items k && not (test k)))
     → AreGiven r s
-AreGiven-within r s test count pages free starts held = record {
+AreGiven-within r s test count pages free starts due = record {
   count = count;
   marks = ap (λ x. length x.items) pages;
-  free = λ k. rw (free k, held k) (given_free (test k) (is_set_for r.held.items k) (is_set_for r.free k));
-  starts = λ k. rw (starts k, held k) (given_starts (test k) (is_set_for r.held.items k) (is_set_for r.starts.items k));
-  held_pages = λ page clear. ap (λ x. is_set_for x.items page) pages ∙ clear;
+  free = λ k. rw (free k, due k) (given_free (test k) (is_set_for r.due.items k) (is_set_for r.free k));
+  starts = λ k. rw (starts k, due k) (given_starts (test k) (is_set_for r.due.items k) (is_set_for r.starts.items k));
+  due_pages = λ page clear. ap (λ x. is_set_for x.items page) pages ∙ clear;
 }
 
 pub AreGiven-none : (r : Rows) → AreGiven r r
-AreGiven-none r = record { count = refl; marks = refl; free = λ k. refl; starts = λ k. refl; held_pages = λ page clear. clear }
+AreGiven-none r = record { count = refl; marks = refl; free = λ k. refl; starts = λ k. refl; due_pages = λ page clear. clear }
 
 pub AreGiven-then : {r s t : Rows} → AreGiven r s → AreGiven s t → AreGiven r t
 AreGiven-then first second = record {
@@ -118,7 +118,7 @@ AreGiven-then first second = record {
   marks = second.marks ∙ first.marks;
   free = λ k. second.free k ∙ first.free k;
   starts = λ k. second.starts k ∙ first.starts k;
-  held_pages = λ page clear. second.held_pages page (first.held_pages page clear);
+  due_pages = λ page clear. second.due_pages page (first.due_pages page clear);
 }
 
 -- One mark is taken away.
@@ -146,80 +146,80 @@ IsUnmarked-bit {old = old} {words = words} {w = w} {word = word} {j = j} less sa
     }
 
 -- The mark of a page is taken away whose granules are given back.
-pub AreRows-unmarked : (r s : Rows) (page : ℕ) → AreRows r → ((k : ℕ) → k / 256 ≡ page → is_set_for r.held.items k ≡ false)
-    → s.free ≡ r.free → s.starts ≡ r.starts → s.held ≡ r.held → IsUnmarked r.held_pages.items s.held_pages.items page → AreRows s
-AreRows-unmarked r s page rows gone free starts held marks =
+pub AreRows-unmarked : (r s : Rows) (page : ℕ) → AreRows r → ((k : ℕ) → k / 256 ≡ page → is_set_for r.due.items k ≡ false)
+    → s.free ≡ r.free → s.starts ≡ r.starts → s.due ≡ r.due → IsUnmarked r.due_pages.items s.due_pages.items page → AreRows s
+AreRows-unmarked r s page rows gone free starts due marks =
     let count : row_granules s ≡ row_granules r = ap (λ x. 64 * length x.items) starts in
     record {
       pages = rows.pages;
       whole = count ∙ rows.whole;
       limit = omega (arith, rows.limit);
       free = omega (arith, rows.free, ap length free);
-      held = ap (λ x. length x.items) held ∙ (rows.held ∙ sym (ap (λ x. length x.items) starts));
-      held_pages = omega (arith, rows.held_pages, marks.long);
-      held_pages_limit = omega (arith, rows.held_pages_limit, marks.long);
+      due = ap (λ x. length x.items) due ∙ (rows.due ∙ sym (ap (λ x. length x.items) starts));
+      due_pages = omega (arith, rows.due_pages, marks.long);
+      due_pages_limit = omega (arith, rows.due_pages_limit, marks.long);
       inside = λ p set. elim (cases_eq p page) [
-        | inl same ↦ absurd (both_ways _ (ap (is_set_for s.held_pages.items) same ∙ marks.here) set)
+        | inl same ↦ absurd (both_ways _ (ap (is_set_for s.due_pages.items) same ∙ marks.here) set)
         | inr other ↦ rows.inside p (sym (marks.rest p other) ∙ set)
       ];
-      marked = λ k clear. ap (λ x. is_set_for x.items k) held
+      marked = λ k clear. ap (λ x. is_set_for x.items k) due
           ∙ elim (cases_eq (k / 256) page) [
             | inl same ↦ gone k same
             | inr other ↦ rows.marked k (sym (marks.rest (k / 256) other) ∙ clear)
           ];
     }
 
-pub AreGiven-unmarked : (r s : Rows) (page : ℕ) → s.free ≡ r.free → s.starts ≡ r.starts → s.held ≡ r.held
-    → IsUnmarked r.held_pages.items s.held_pages.items page → AreGiven r s
-AreGiven-unmarked r s page free starts held marks = record {
+pub AreGiven-unmarked : (r s : Rows) (page : ℕ) → s.free ≡ r.free → s.starts ≡ r.starts → s.due ≡ r.due
+    → IsUnmarked r.due_pages.items s.due_pages.items page → AreGiven r s
+AreGiven-unmarked r s page free starts due marks = record {
   count = ap (λ x. 64 * length x.items) starts;
   marks = marks.long;
-  free = λ k. rw (free, held) refl;
-  starts = λ k. rw (starts, held) refl;
-  held_pages = λ p clear. elim (cases_eq p page) [
-    | inl same ↦ ap (is_set_for s.held_pages.items) same ∙ marks.here
+  free = λ k. rw (free, due) refl;
+  starts = λ k. rw (starts, due) refl;
+  due_pages = λ p clear. elim (cases_eq p page) [
+    | inl same ↦ ap (is_set_for s.due_pages.items) same ∙ marks.here
     | inr other ↦ marks.rest p other ∙ clear
   ];
 }
 
 -- ---- no page is marked
 
-none_marked : {r : Rows} → AreRows r → ((page : ℕ) → page / 64 < length r.held_pages.items → is_set_for r.held_pages.items page ≡ false)
-    → (page : ℕ) → is_set_for r.held_pages.items page ≡ false
-none_marked {r = r} rows clear page = elim (cases_Bool (is_set_for r.held_pages.items page)) [
-  | inl set ↦ clear page (omega (arith, rows.inside page set, rows.held_pages))
+none_marked : {r : Rows} → AreRows r → ((page : ℕ) → page / 64 < length r.due_pages.items → is_set_for r.due_pages.items page ≡ false)
+    → (page : ℕ) → is_set_for r.due_pages.items page ≡ false
+none_marked {r = r} rows clear page = elim (cases_Bool (is_set_for r.due_pages.items page)) [
+  | inl set ↦ clear page (omega (arith, rows.inside page set, rows.due_pages))
   | inr none ↦ none
 ]
 
-pub nothing_held : {r : Rows} → AreRows r → ((page : ℕ) → page / 64 < length r.held_pages.items → is_set_for r.held_pages.items page ≡ false)
-    → (k : ℕ) → is_set_for r.held.items k ≡ false
+pub nothing_held : {r : Rows} → AreRows r → ((page : ℕ) → page / 64 < length r.due_pages.items → is_set_for r.due_pages.items page ≡ false)
+    → (k : ℕ) → is_set_for r.due.items k ≡ false
 nothing_held rows clear k = rows.marked k (none_marked rows clear (k / 256))
 
 pub word_of_zero : (words : List ℕ) (w : ℕ) → get_or words w 0 ≡ 0 → (page : ℕ) → page / 64 ≡ w → is_set_for words page ≡ false
 word_of_zero words w zero page at = ap (λ (i : ℕ). is_set (get_or words i 0) (page % 64)) at ∙ (ap (λ (x : ℕ). is_set x (page % 64)) zero ∙ is_set_zero (page % 64))
 
--- What is left once nothing is held.
-pub given_all_free : {r s : Rows} → AreGiven r s → ((k : ℕ) → is_set_for s.held.items k ≡ false) → (k : ℕ)
-    → is_set_for s.free k ≡ (is_set_for r.free k || is_set_for r.held.items k)
+-- What is left once nothing is due.
+pub given_all_free : {r s : Rows} → AreGiven r s → ((k : ℕ) → is_set_for s.due.items k ≡ false) → (k : ℕ)
+    → is_set_for s.free k ≡ (is_set_for r.free k || is_set_for r.due.items k)
 given_all_free {s = s} given none k = sym (or-false (is_set_for s.free k)) ∙ (ap (λ b. is_set_for s.free k || b) (sym (none k)) ∙ given.free k)
 
-pub given_all_starts : {r s : Rows} → AreGiven r s → ((k : ℕ) → is_set_for s.held.items k ≡ false) → (k : ℕ)
-    → is_set_for s.starts.items k ≡ (is_set_for r.starts.items k && not (is_set_for r.held.items k))
+pub given_all_starts : {r s : Rows} → AreGiven r s → ((k : ℕ) → is_set_for s.due.items k ≡ false) → (k : ℕ)
+    → is_set_for s.starts.items k ≡ (is_set_for r.starts.items k && not (is_set_for r.due.items k))
 given_all_starts {s = s} given none k = sym (and-true (is_set_for s.starts.items k)) ∙ (ap (λ b. is_set_for s.starts.items k && not b) (sym (none k)) ∙ given.starts k)
 
 -- ---- no block
 
-pub AreRows-new : (r : Rows) (n : ℕ) → n ≤ 2 ^ 18 → n % 256 ≡ 0 → n / 64 ≤ length r.free → length r.starts.items ≡ n / 64 → length r.held.items ≡ n / 64
-    → length r.held_pages.items ≡ (n / 256 + 63) / 64 → ((k : ℕ) → is_set_for r.held.items k ≡ false) → ((page : ℕ) → is_set_for r.held_pages.items page ≡ false)
+pub AreRows-new : (r : Rows) (n : ℕ) → n ≤ 2 ^ 18 → n % 256 ≡ 0 → n / 64 ≤ length r.free → length r.starts.items ≡ n / 64 → length r.due.items ≡ n / 64
+    → length r.due_pages.items ≡ (n / 256 + 63) / 64 → ((k : ℕ) → is_set_for r.due.items k ≡ false) → ((page : ℕ) → is_set_for r.due_pages.items page ≡ false)
     → AreRows r
-AreRows-new r n limit whole free starts held held_pages none no_marks = record {
+AreRows-new r n limit whole free starts due due_pages none no_marks = record {
   pages = n / 256;
   whole = omega arith;
   limit = omega arith;
   free = omega arith;
-  held = omega arith;
-  held_pages = omega arith;
-  held_pages_limit = omega arith;
+  due = omega arith;
+  due_pages = omega arith;
+  due_pages_limit = omega arith;
   inside = λ page set. absurd (both_ways _ (no_marks page) set);
   marked = λ k clear. none k;
 }

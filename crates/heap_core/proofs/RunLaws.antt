@@ -3,14 +3,14 @@ use Rattle.std.proofs.Common.{◌≡◌, ◌<◌, ◌≤◌, ◌+◌, ◌*◌, �
 use Rattle.std.proofs.lemmas.Bool.{cases_Bool, cases_eq, cases_lt, lt-ltb, ltb-true, or_cases, true≢false}
 use Rattle.std.proofs.lemmas.Bool.Decides.{nat_tests}
 use Rattle.std.proofs.lemmas.List.{get_or-set_other, get_or-set_same}
-use Rattle.heap_core.specs.Blocks.{blocks_with}
-use Rattle.heap_core.specs.Table.{IsGap, IsTable, blocks_of, is_held, is_live, is_taken}
+use Rattle.heap_model.specs.Blocks.{blocks_with}
+use Rattle.heap_core.specs.Table.{IsGap, IsTable, blocks_of, is_marked, is_unmarked, is_occupied}
 use Rattle.heap_core.proofs.BlockLaws.{blocks_of-set, blocks_of-set_other}
 
 -- ---- the granules taken
 
 -- The granules of a block are taken.
-pub is_taken_within : (lengths : List ℕ) (j k : ℕ) → j ≤ k → k < j + get_or lengths j 0 → is_taken k lengths ≡ true
+pub is_taken_within : (lengths : List ℕ) (j k : ℕ) → j ≤ k → k < j + get_or lengths j 0 → is_occupied k lengths ≡ true
 is_taken_within [] j k le lt = absurd (omega arith)
 is_taken_within (n ∷ lengths) zero zero le lt = lt-ltb 0 n (omega arith)
 is_taken_within (n ∷ lengths) zero (suc k) le lt = rw (lt-ltb (suc k) n (omega arith)) refl
@@ -18,33 +18,33 @@ is_taken_within (n ∷ lengths) (suc j) zero le lt = absurd (omega arith)
 is_taken_within (n ∷ lengths) (suc j) (suc k) le lt = rw (is_taken_within lengths j k (omega arith) (omega arith)) (grind arith)
 
 -- And no others.
-pub is_taken_by : (lengths : List ℕ) (k : ℕ) → is_taken k lengths ≡ true → (j : ℕ) × ((j ≤ k) × (k < j + get_or lengths j 0))
+pub is_taken_by : (lengths : List ℕ) (k : ℕ) → is_occupied k lengths ≡ true → (j : ℕ) × ((j ≤ k) × (k < j + get_or lengths j 0))
 is_taken_by [] k is = absurd (true≢false (sym is))
 is_taken_by (n ∷ lengths) zero is = (0, (omega arith, omega (arith, ltb-true 0 n is)))
 is_taken_by (n ∷ lengths) (suc k) is =
-    elim (or_cases (nat_lt (suc k) n) (is_taken k lengths) is) [
+    elim (or_cases (nat_lt (suc k) n) (is_occupied k lengths) is) [
       | inl here ↦ (0, (omega arith, omega (arith, ltb-true (suc k) n here)))
       | inr later ↦ (let by = is_taken_by lengths k later in (suc by.0, (omega (arith, by.1.0), omega (arith, by.1.1))))
     ]
 
 -- A granule into which no block reaches is in none.
-pub is_taken_none : (lengths : List ℕ) (k : ℕ) → ((j : ℕ) → j ≤ k → j + get_or lengths j 0 ≤ k) → is_taken k lengths ≡ false
+pub is_taken_none : (lengths : List ℕ) (k : ℕ) → ((j : ℕ) → j ≤ k → j + get_or lengths j 0 ≤ k) → is_occupied k lengths ≡ false
 is_taken_none lengths k ends =
-    elim (cases_Bool (is_taken k lengths)) [
+    elim (cases_Bool (is_occupied k lengths)) [
       | inl taken ↦ (let by = is_taken_by lengths k taken in absurd (omega (arith, by.1.0, by.1.1, ends by.0 by.1.0)))
       | inr free ↦ free
     ]
 
 -- A block at a granule where none started takes no granule outside it.
-pub is_taken-set_other : (lengths : List ℕ) (p n k : ℕ) → get_or lengths p 0 ≡ 0 → (k < p) ⊎ (p + n ≤ k)
-    → is_taken k (set lengths p n) ≡ is_taken k lengths
-is_taken-set_other [] p n k none other = refl
-is_taken-set_other (m ∷ lengths) zero n zero none other = rw none (grind (arith, nat_tests))
-is_taken-set_other (m ∷ lengths) zero n (suc k) none other = rw none (grind (arith, nat_tests))
-is_taken-set_other (m ∷ lengths) (suc p) n zero none other = refl
-is_taken-set_other (m ∷ lengths) (suc p) n (suc k) none other =
+pub is_occupied-set_other : (lengths : List ℕ) (p n k : ℕ) → get_or lengths p 0 ≡ 0 → (k < p) ⊎ (p + n ≤ k)
+    → is_occupied k (set lengths p n) ≡ is_occupied k lengths
+is_occupied-set_other [] p n k none other = refl
+is_occupied-set_other (m ∷ lengths) zero n zero none other = rw none (grind (arith, nat_tests))
+is_occupied-set_other (m ∷ lengths) zero n (suc k) none other = rw none (grind (arith, nat_tests))
+is_occupied-set_other (m ∷ lengths) (suc p) n zero none other = refl
+is_occupied-set_other (m ∷ lengths) (suc p) n (suc k) none other =
     let outside : (k < p) ⊎ (p + n ≤ k) = elim other [ inl lt ↦ inl (omega arith) | inr le ↦ inr (omega arith) ] in
-    ap (λ later. nat_lt (suc k) m || later) (is_taken-set_other lengths p n k none outside)
+    ap (λ later. nat_lt (suc k) m || later) (is_occupied-set_other lengths p n k none outside)
 
 -- ---- free runs
 
@@ -132,15 +132,15 @@ IsTable-set base lengths marks p n table run =
 
 -- One more block is live.
 pub live_blocks-set : (base : ℕ) (lengths : List ℕ) (marks : List Bool) (p n : ℕ) → length marks ≡ length lengths → IsGap lengths p n
-    → blocks_of is_live base 0 (set lengths p n) (set marks p false)
-    ≡ blocks_with (base + 16 * p, 16 * n) (blocks_of is_live base 0 lengths marks)
+    → blocks_of is_unmarked base 0 (set lengths p n) (set marks p false)
+    ≡ blocks_with (base + 16 * p, 16 * n) (blocks_of is_unmarked base 0 lengths marks)
 live_blocks-set base lengths marks p n same run =
     let none = run_is_empty lengths p n p run (omega arith) (omega (arith, run.some)) in
-    blocks_of-set is_live base 0 lengths marks true p n (base + 16 * p) false (omega (arith, run.end, run.some)) same (rw none refl) run.some refl (omega arith)
+    blocks_of-set is_unmarked base 0 lengths marks true p n (base + 16 * p) false (omega (arith, run.end, run.some)) same (rw none refl) run.some refl (omega arith)
 
--- The same blocks are held.
+-- The same blocks are due.
 pub held_blocks-set : (base : ℕ) (lengths : List ℕ) (marks : List Bool) (p n : ℕ) → IsGap lengths p n
-    → blocks_of is_held base 0 (set lengths p n) (set marks p false) ≡ blocks_of is_held base 0 lengths marks
+    → blocks_of is_marked base 0 (set lengths p n) (set marks p false) ≡ blocks_of is_marked base 0 lengths marks
 held_blocks-set base lengths marks p n run =
     let none = run_is_empty lengths p n p run (omega arith) (omega (arith, run.some)) in
-    blocks_of-set_other is_held base 0 lengths marks p n false none refl
+    blocks_of-set_other is_marked base 0 lengths marks p n false none refl

@@ -3,10 +3,10 @@ use Rattle.std.proofs.Common.{◌≡◌, ◌<◌, ◌+◌, ◌*◌, ◌||◌, in
 use Rattle.std.proofs.lemmas.Bool.{cases_order, true≢false}
 use Rattle.std.proofs.lemmas.List.Elements.{All-nil}
 use Rattle.std.specs.Prelude.{All}
-use Rattle.heap_core.specs.Blocks.{IsApart}
+use Rattle.heap_model.specs.Blocks.{IsApart}
 use Rattle.heap_core.specs.Consistent.{AreLate, either_mark, heap_state}
-use Rattle.heap_core.specs.Heap.{HeapState, IsInside, IsSound}
-use Rattle.heap_core.specs.Table.{IsTable, blocks_of, is_held, is_live}
+use Rattle.heap_model.specs.Heap.{HeapState, IsInside, IsSound}
+use Rattle.heap_core.specs.Table.{IsTable, blocks_of, is_marked, is_unmarked}
 use Rattle.heap_core.proofs.BlockLaws.{All-blocks_of, AllPairs-blocks_of}
 use Rattle.heap_core.proofs.LateLaws.{get_or-either, length-either}
 use Rattle.heap_core.proofs.ExtentLaws.{LiesWithin-table}
@@ -67,7 +67,7 @@ neither false true e = absurd cc
 neither false false e = (refl, refl)
 
 -- What a live block isn't.
-pub live_is_neither : (lengths : List ℕ) (marks lates : List Bool) (k : ℕ) → length marks ≡ length lengths → length lates ≡ length lengths → is_live (get_or (either_mark marks lates) k false) ≡ true
+pub live_is_neither : (lengths : List ℕ) (marks lates : List Bool) (k : ℕ) → length marks ≡ length lengths → length lates ≡ length lengths → is_unmarked (get_or (either_mark marks lates) k false) ≡ true
     → (get_or marks k false ≡ false) × (get_or lates k false ≡ false)
 live_is_neither lengths marks lates k same also live =
     neither (get_or marks k false) (get_or lates k false) (ap not (sym (get_or-either marks lates k (also ∙ sym same))) ∙ live)
@@ -76,19 +76,19 @@ module _ (base : ℕ) (lengths : List ℕ) (marks lates : List Bool) (table : Is
   both : length lates ≡ length lengths → IsTable base lengths (either_mark marks lates)
   both also = IsTable-marks base lengths marks (either_mark marks lates) (length-either marks lates ∙ table.same) table
 
-  live_and_due : length lates ≡ length lengths → All (λ block. All (IsApart block) (blocks_of is_held base 0 lengths marks)) (blocks_of is_live base 0 lengths (either_mark marks lates))
+  live_and_due : length lates ≡ length lengths → All (λ block. All (IsApart block) (blocks_of is_marked base 0 lengths marks)) (blocks_of is_unmarked base 0 lengths (either_mark marks lates))
   live_and_due also =
-      All-IsApart is_live is_held base lengths (either_mark marks lates) marks (both also)
+      All-IsApart is_unmarked is_marked base lengths (either_mark marks lates) marks (both also)
       (λ k live held. true≢false (sym held ∙ (live_is_neither lengths marks lates k table.same also live).0))
 
-  live_and_late : length lates ≡ length lengths → All (λ block. All (IsApart block) (blocks_of is_held base 0 lengths lates)) (blocks_of is_live base 0 lengths (either_mark marks lates))
+  live_and_late : length lates ≡ length lengths → All (λ block. All (IsApart block) (blocks_of is_marked base 0 lengths lates)) (blocks_of is_unmarked base 0 lengths (either_mark marks lates))
   live_and_late also =
-      All-IsApart is_live is_held base lengths (either_mark marks lates) lates (both also)
+      All-IsApart is_unmarked is_marked base lengths (either_mark marks lates) lates (both also)
       (λ k live late. true≢false (sym late ∙ (live_is_neither lengths marks lates k table.same also live).1))
 
-  late_and_due : (is_open : Bool) → AreLate lengths marks lates is_open → All (λ block. All (IsApart block) (blocks_of is_held base 0 lengths marks)) (blocks_of is_held base 0 lengths lates)
+  late_and_due : (is_open : Bool) → AreLate lengths marks lates is_open → All (λ block. All (IsApart block) (blocks_of is_marked base 0 lengths marks)) (blocks_of is_marked base 0 lengths lates)
   late_and_due is_open are =
-      All-IsApart is_held is_held base lengths lates marks (IsTable-marks base lengths marks lates are.same table)
+      All-IsApart is_marked is_marked base lengths lates marks (IsTable-marks base lengths marks lates are.same table)
       (λ k late held. true≢false (sym held ∙ are.apart k late))
 
 pub IsSound-from_table : (base : ℕ) (lengths : List ℕ) (marks lates : List Bool) (is_open : Bool) → IsTable base lengths marks → AreLate lengths marks lates is_open
@@ -100,12 +100,12 @@ IsSound-from_table base lengths marks lates true table are =
       bytes = omega (arith, table.count);
       size = table.size;
       place = table.place;
-      live_inside = All-IsInside s is_live base lengths (either_mark marks lates) refl refl (both base lengths marks lates table are.same);
-      waiting_inside = All-IsInside s is_held base lengths lates refl refl (IsTable-marks base lengths marks lates are.same table);
-      painted_inside = All-IsInside s is_held base lengths marks refl refl table;
-      live_order = AllPairs-blocks_of is_live base 0 lengths (either_mark marks lates) table.apart;
-      waiting_order = AllPairs-blocks_of is_held base 0 lengths lates table.apart;
-      painted_order = AllPairs-blocks_of is_held base 0 lengths marks table.apart;
+      live_inside = All-IsInside s is_unmarked base lengths (either_mark marks lates) refl refl (both base lengths marks lates table are.same);
+      waiting_inside = All-IsInside s is_marked base lengths lates refl refl (IsTable-marks base lengths marks lates are.same table);
+      painted_inside = All-IsInside s is_marked base lengths marks refl refl table;
+      live_order = AllPairs-blocks_of is_unmarked base 0 lengths (either_mark marks lates) table.apart;
+      waiting_order = AllPairs-blocks_of is_marked base 0 lengths lates table.apart;
+      painted_order = AllPairs-blocks_of is_marked base 0 lengths marks table.apart;
       apart_waiting = live_and_late base lengths marks lates table are.same;
       apart_painted = live_and_due base lengths marks lates table are.same;
       apart_held = late_and_due base lengths marks lates table true are;
@@ -118,11 +118,11 @@ IsSound-from_table base lengths marks lates false table are =
       bytes = omega (arith, table.count);
       size = table.size;
       place = table.place;
-      live_inside = All-IsInside s is_live base lengths (either_mark marks lates) refl refl (both base lengths marks lates table are.same);
-      waiting_inside = All-IsInside s is_held base lengths marks refl refl table;
+      live_inside = All-IsInside s is_unmarked base lengths (either_mark marks lates) refl refl (both base lengths marks lates table are.same);
+      waiting_inside = All-IsInside s is_marked base lengths marks refl refl table;
       painted_inside = All-nil (IsInside s);
-      live_order = AllPairs-blocks_of is_live base 0 lengths (either_mark marks lates) table.apart;
-      waiting_order = AllPairs-blocks_of is_held base 0 lengths marks table.apart;
+      live_order = AllPairs-blocks_of is_unmarked base 0 lengths (either_mark marks lates) table.apart;
+      waiting_order = AllPairs-blocks_of is_marked base 0 lengths marks table.apart;
       painted_order = λ j k d less within. absurd (omega arith);
       apart_waiting = live_and_due base lengths marks lates table are.same;
       apart_painted = λ k d within. All-nil (IsApart _);

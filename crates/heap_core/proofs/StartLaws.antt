@@ -1,4 +1,4 @@
--- Blocks made held by the bits of their first granules.
+-- Blocks made due by the bits of their first granules.
 use Rattle.std.proofs.Common.{◌≡◌, ◌≢◌, ◌==◌, if◌then◌else◌, ◌<◌, ◌≤◌, ◌+◌, ◌*◌, ◌/◌, ◌%◌, ◌&&◌, inl, inr, nat_lt, ℕ, Bool, true, false, List, length, get_or, set, refl, sym, ap, ◌∙◌, arith}
 use Rattle.std.proofs.lemmas.Bool.{both_ways, cases_eq, eq-eqb, ne_eqb, cases_lt, le-ltb, lt-ltb}
 use Rattle.std.proofs.lemmas.Grind.{get_or-set_at}
@@ -15,14 +15,14 @@ below_other i j other =
       | inr from ↦ rw (le-ltb i j from, le-ltb i (j + 1) (omega (arith, from, other))) refl
     ]
 
--- Blocks that start at the bits of a word are made held, one by one: those of `rest` are left.
+-- Blocks that start at the bits of a word are made due, one by one: those of `rest` are left.
 pub record AreLeft (marks : List Bool) (w word rest : ℕ) : Type 0 where
   pub ones : (i : ℕ) → is_set rest i ≡ true → is_set word i ≡ true
   pub live : (i : ℕ) → i < 64 → is_set rest i ≡ true → get_or marks (64 * w + i) false ≡ false
-  pub held : (i : ℕ) → i < 64 → is_set rest i ≡ false → get_or marks (64 * w + i) false ≡ is_set word i
+  pub due : (i : ℕ) → i < 64 → is_set rest i ≡ false → get_or marks (64 * w + i) false ≡ is_set word i
 
 pub AreLeft-all : (marks : List Bool) (w word : ℕ) → ((i : ℕ) → i < 64 → get_or marks (64 * w + i) false ≡ false) → AreLeft marks w word word
-AreLeft-all marks w word none = record { ones = λ i one. one; live = λ i lt one. none i lt; held = λ i lt unset. none i lt ∙ sym unset }
+AreLeft-all marks w word none = record { ones = λ i one. one; live = λ i lt one. none i lt; due = λ i lt unset. none i lt ∙ sym unset }
 
 pub AreLeft-less : (marks : List Bool) (w word rest less j : ℕ) → AreLeft marks w word rest → 64 * w + j < length marks → is_set rest j ≡ true
     → ((i : ℕ) → is_set less i ≡ (if i == j then false else is_set rest i)) → AreLeft (set marks (64 * w + j) true) w word less
@@ -40,17 +40,17 @@ AreLeft-less marks w word rest less j are inside one bits =
         | inl same ↦ absurd (both_ways _ (here i same) is)
         | inr other ↦ kept i other ∙ are.live i lt (there i other ∙ is)
       ];
-      held = λ i lt unset. elim (cases_eq i j) [
+      due = λ i lt unset. elim (cases_eq i j) [
         | inl same ↦
             get_or-set_at marks (64 * w + j) (64 * w + i) true false (omega (arith, same)) inside
             ∙ sym (ap (is_set word) same ∙ are.ones j one)
-        | inr other ↦ kept i other ∙ are.held i lt (there i other ∙ unset)
+        | inr other ↦ kept i other ∙ are.due i lt (there i other ∙ unset)
       ];
     }
 
 -- No other word's marks change.
-pub held_elsewhere : (marks : List Bool) (w j k : ℕ) → j < 64 → k / 64 ≢ w → get_or (set marks (64 * w + j) true) k false ≡ get_or marks k false
-held_elsewhere marks w j k below other = get_or-set_other marks (64 * w + j) k true false (λ e. other (omega (arith, e, below)))
+pub due_elsewhere : (marks : List Bool) (w j k : ℕ) → j < 64 → k / 64 ≢ w → get_or (set marks (64 * w + j) true) k false ≡ get_or marks k false
+due_elsewhere marks w j k below other = get_or-set_other marks (64 * w + j) k true false (λ e. other (omega (arith, e, below)))
 
 -- ---- one word more
 

@@ -2,8 +2,8 @@
 use Rattle.std.proofs.Common.{◌≡◌, ◌<◌, ◌≤◌, ◌+◌, ◌-◌, ◌*◌, ◌⊎◌, inl, inr, nat_lt, ℕ, suc, Bool, List, [], ◌∷◌, length, get_or, sum, arith}
 use Rattle.std.proofs.lemmas.Bool.{cases_Bool, cases_lt, le-ltb, lt-ltb}
 use Rattle.std.proofs.lemmas.List.Sums.{sum_by-cons}
-use Rattle.heap_core.specs.Blocks.{Span, blocks_with, bytes_in, length_of, start_of}
-use Rattle.heap_core.specs.Table.{IsTable, blocks_of, is_held, is_live}
+use Rattle.heap_model.specs.Blocks.{Span, blocks_with, bytes_in, length_of, start_of}
+use Rattle.heap_core.specs.Table.{IsTable, blocks_of, is_marked, is_unmarked}
 
 pub bytes_in-cons : (block : Span) (blocks : List Span) → bytes_in (block ∷ blocks) ≡ length_of block + bytes_in blocks
 bytes_in-cons block blocks = sum_by-cons length_of block blocks
@@ -18,12 +18,12 @@ bytes_in-blocks_with block (b ∷ blocks) =
 
 -- Each block is live or held.
 pub bytes_of_both : (base i : ℕ) (lengths : List ℕ) (marks : List Bool) → length marks ≡ length lengths
-    → bytes_in (blocks_of is_live base i lengths marks) + bytes_in (blocks_of is_held base i lengths marks) ≡ 16 * sum lengths
+    → bytes_in (blocks_of is_unmarked base i lengths marks) + bytes_in (blocks_of is_marked base i lengths marks) ≡ 16 * sum lengths
 bytes_of_both base i [] marks same = omega arith
 bytes_of_both base i (n ∷ lengths) [] same = absurd (omega arith)
 bytes_of_both base i (n ∷ lengths) (mark ∷ marks) same =
-    let live = blocks_of is_live base (i + 1) lengths marks in
-    let held = blocks_of is_held base (i + 1) lengths marks in
+    let live = blocks_of is_unmarked base (i + 1) lengths marks in
+    let held = blocks_of is_marked base (i + 1) lengths marks in
     let rest = bytes_of_both base (i + 1) lengths marks (omega arith) in
     let all : sum (n ∷ lengths) ≡ n + sum lengths = sum_by-cons (λ x. x) n lengths in
     elim (cases_lt 0 n) [
@@ -57,7 +57,7 @@ sum_fits taken (n ∷ lengths) none inside apart le =
 
 -- So do those of blocks with a mark and without together.
 pub granules_fit : (base : ℕ) (lengths : List ℕ) (marks : List Bool) (live held : ℕ) → IsTable base lengths marks
-    → 16 * live ≡ bytes_in (blocks_of is_live base 0 lengths marks) → 16 * held ≡ bytes_in (blocks_of is_held base 0 lengths marks)
+    → 16 * live ≡ bytes_in (blocks_of is_unmarked base 0 lengths marks) → 16 * held ≡ bytes_in (blocks_of is_marked base 0 lengths marks)
     → live + held ≤ length lengths
 granules_fit base lengths marks live held table live_is held_is =
     let all = sum_fits 0 lengths (λ k lt. absurd (omega arith)) table.inside table.apart (omega arith) in

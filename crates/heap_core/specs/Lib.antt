@@ -1,13 +1,5 @@
-pub mod Blocks
-pub mod Claim
 pub mod Consistent
-pub mod Found
-pub mod Heap
-pub mod Laws
 pub mod Painting
-pub mod Place
-pub mod Quarantine
 pub mod Rows
-pub mod Shadow
 pub mod Stored
 pub mod Table

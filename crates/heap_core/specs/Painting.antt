@@ -3,8 +3,8 @@
 use Rattle.std.specs.Prelude.{◌≡◌, ◌+◌, ◌-◌, ◌*◌, ℕ, Bool, true, false, List, drop, take}
 use Rattle.mark_board.specs.Bits.{Within, has}
 use Rattle.mark_board.specs.Board.{BoardState, IsOf, IsSeat, SeatState}
-use Rattle.heap_core.specs.Blocks.{Span, lies_in}
-use Rattle.heap_core.specs.Heap.{HeapState, due}
+use Rattle.heap_model.specs.Blocks.{Span, lies_in}
+use Rattle.heap_model.specs.Heap.{HeapState, due}
 
 -- Through a seat the granules that pass a test are painted, and no others: it has seen all of them set, and has set
 -- none but them.

@@ -1,8 +1,8 @@
 -- A heap as a table, which has for each granule the length in granules of the block that starts there,
--- or 0, and a mark that says whether that block is held. (Those that are held in an open epoch alone, since it began,
+-- or 0, and a mark that says whether that block is due. (Those that are due in an open epoch alone, since it began,
 -- have marks apart from it: `Consistent.antt`.)
 use Rattle.std.specs.Prelude.{◌≡◌, ◌<◌, ◌≤◌, ◌+◌, ◌*◌, ◌%◌, nat_lt, ◌&&◌, ◌||◌, not, if◌then◌else◌, ℕ, zero, suc, Bool, true, false, List, [], ◌∷◌, ◌++◌, count_by, length, slice_index, slice_index_or, take}
-use Rattle.heap_core.specs.Blocks.{Span}
+use Rattle.heap_model.specs.Blocks.{Span}
 use Rattle.tag_memory.specs.Extent.{is_base, is_size}
 
 -- The table of a heap.
@@ -18,19 +18,19 @@ blocks_of keeps base i (n ∷ lengths) (mark ∷ marks) =
     (if nat_lt 0 n && keeps mark then (base + 16 * i, 16 * n) ∷ [] else [])
     ++ blocks_of keeps base (i + 1) lengths marks
 
--- The test that the marks of live blocks pass.
-abbrev pub is_live : Bool → Bool
-is_live mark = not mark
+-- The test that the absence of a mark passes.
+abbrev pub is_unmarked : Bool → Bool
+is_unmarked mark = not mark
 
--- The test that the marks of held blocks pass.
-abbrev pub is_held : Bool → Bool
-is_held mark = mark
+-- The test that a mark passes.
+abbrev pub is_marked : Bool → Bool
+is_marked mark = mark
 
 -- Granule k lies in a block.
-abbrev pub is_taken : ℕ → List ℕ → Bool
-is_taken k [] = false
-is_taken zero (n ∷ lengths) = nat_lt 0 n
-is_taken (suc k) (n ∷ lengths) = nat_lt (suc k) n || is_taken k lengths
+abbrev pub is_occupied : ℕ → List ℕ → Bool
+is_occupied k [] = false
+is_occupied zero (n ∷ lengths) = nat_lt 0 n
+is_occupied (suc k) (n ∷ lengths) = nat_lt (suc k) n || is_occupied k lengths
 
 -- The lengths of the blocks whose marks pass the test, and 0 in place of all others.
 abbrev pub kept_lengths : (Bool → Bool) → List ℕ → List Bool → List ℕ
@@ -49,7 +49,7 @@ pub record IsBlockAt (base : ℕ) (lengths : List ℕ) (start top k : ℕ) : Typ
 pub record IsGap (lengths : List ℕ) (p n : ℕ) : Type 0 where
   pub some : 0 < n
   pub end : p + n ≤ length lengths
-  pub free : (k : ℕ) → p ≤ k → k < p + n → is_taken k lengths ≡ false
+  pub free : (k : ℕ) → p ≤ k → k < p + n → is_occupied k lengths ≡ false
 
 -- And p is the first such granule that is a multiple of the unit. Multiples are counted from address 0,
 -- of which the heap's base is granule `origin`.
@@ -68,23 +68,23 @@ pub record IsTable (base : ℕ) (lengths : List ℕ) (marks : List Bool) : Type 
   pub inside : (j : ℕ) → j < length lengths → j + slice_index lengths j ≤ length lengths
   pub apart : (j k : ℕ) → j < k → 0 < slice_index lengths k → j + slice_index lengths j ≤ k
 
--- How many held blocks these marks say.
-abbrev pub held_count : List Bool → ℕ
-held_count marks = count_by is_held marks
+-- How many due blocks these marks say.
+abbrev pub marked_count : List Bool → ℕ
+marked_count marks = count_by is_marked marks
 
 -- No block is empty: a mark stands only where a block starts.
 abbrev pub AreBlocks : List ℕ → List Bool → Type 0
 AreBlocks lengths marks = (k : ℕ) → slice_index_or marks k false ≡ true → 0 < slice_index lengths k
 
--- The held block that has n before it starts at granule p, or p is the end of the table and the last one has fewer.
-pub record IsHeldStart (lengths : List ℕ) (marks : List Bool) (n p : ℕ) : Type 0 where
-  pub before : held_count (take p marks) ≡ n
+-- The due block that has n before it starts at granule p, or p is the end of the table and the last one has fewer.
+pub record IsDueStart (lengths : List ℕ) (marks : List Bool) (n p : ℕ) : Type 0 where
+  pub before : marked_count (take p marks) ≡ n
   pub within : p ≤ length lengths
-  pub held : p < length lengths → slice_index_or marks p false ≡ true
+  pub due : p < length lengths → slice_index_or marks p false ≡ true
 
--- The test that the marks of held blocks pass, or that of live ones.
+-- The test that marks pass, or the one that their absence passes.
 abbrev pub has_mark : Bool → Bool → Bool
-has_mark held mark = if held then mark else not mark
+has_mark marked mark = if marked then mark else not mark
 
 -- The block that starts at granule k passes the test, and reaches past granule `first`.
 pub record ReachesPast (keeps : Bool → Bool) (lengths : List ℕ) (marks : List Bool) (first k : ℕ) : Type 0 where

@@ -2,10 +2,10 @@
 
 ghost use Rattle.std.specs.Prelude.{◌≡◌, ◌↔◌, ◌+◌, ℕ, IfOk, IsOk, IsOkUnless, false, true};
 ghost use Rattle.cap_codec.specs.Rounding.{IsExact};
-ghost use Rattle.heap_core.specs.Blocks.{bytes_in};
-ghost use Rattle.heap_core.specs.Heap.{IsSound, empty_heap};
-ghost use Rattle.heap_core.specs.Heap as heap;
-ghost use Rattle.heap_core.specs.Place.{IfOkSome, IsFree, IsPlace, block_length, with_live};
+ghost use Rattle.heap_model.specs.Blocks.{bytes_in};
+ghost use Rattle.heap_model.specs.Heap.{IsSound, empty_heap};
+ghost use Rattle.heap_model.specs.Heap as heap;
+ghost use Rattle.heap_model.specs.Place.{IfOkSome, IsFree, IsPlace, block_length, with_live};
 ghost use Rattle.tag_memory.specs.Extent as span;
 
 mod claiming;
@@ -13,9 +13,10 @@ mod finding;
 mod painting;
 mod quarantine;
 
-use crate::block::{Block, granules_for, shape_for};
 use crate::fault::HeapFault;
+use crate::shape::{granules_for, shape_for};
 use crate::table::Table;
+use heap_model::Block;
 use std::alloc::Global;
 use std::marker::Model;
 use tag_memory::{GRANULE, PAGE_GRANULES, WORD_GRANULES, is_base, is_size};
@@ -33,12 +34,12 @@ pub struct Heap {
     is_open: bool,
     // How many granules lie in live blocks, in those that are due, and in late ones.
     live_granules: u32,
-    held_granules: u32,
+    due_granules: u32,
     late_granules: u32,
 }
 
 impl Model for Heap {
-    ghost use Rattle.heap_core.specs.Heap.{HeapState};
+    ghost use Rattle.heap_model.specs.Heap.{HeapState};
 
     ghost Value = { HeapState };
 
@@ -52,6 +53,19 @@ impl Model for Heap {
 impl Heap {
     /// The empty heap of `pages` pages of 4,096 bytes, from the address `base` on. It errs with
     /// `BadSize` first, then `BadBase`, and `Memory` last.
+    ///
+    /// ```rust
+    /// use heap_core::{Block, Freed, Heap};
+    ///
+    /// let mut heap = Heap::new(alloc, 0x4000_0000, 1)?;
+    /// let block = heap.reserve(20)?;
+    /// assert_eq!(rt; block, Some(Block { base: 0x4000_0000, top: 0x4000_0020 }));
+    /// // The block waits in quarantine until it is given back, and the next one lies behind it.
+    /// assert_eq!(rt; heap.release(0x4000_0000, 0x4000_0020)?, Freed::Held);
+    /// assert_eq!(rt; heap.reserve(16)?, Some(Block { base: 0x4000_0020, top: 0x4000_0030 }));
+    /// assert_eq!(rt; heap.give_back(), 32);
+    /// assert_eq!(rt; heap.reserve(16)?, Some(Block { base: 0x4000_0000, top: 0x4000_0010 }));
+    /// ```
     pub fn new(alloc: Global, base: u64, pages: u32) -> Result<Heap, HeapFault>
         ensures bad_size { (result ≡ Err HeapFault.BadSize) ↔ (span.is_size pages ≡ false) }
         ensures bad_base { (result ≡ Err HeapFault.BadBase)
@@ -86,7 +100,7 @@ impl Heap {
             late,
             is_open: false,
             live_granules: 0,
-            held_granules: 0,
+            due_granules: 0,
             late_granules: 0,
         })
     }
@@ -122,7 +136,7 @@ impl Heap {
     }
 
     /// Tells what holds of every heap. Nothing is done.
-    pub fn whole(&self)
+    pub fn invariant(&self)
         ensures { IsSound self.now }
     {
         let _ = &self.table;
@@ -153,7 +167,7 @@ impl Heap {
     pub fn held_bytes(&self) -> u64
         ensures { result ≡ heap.held_bytes self.now }
     {
-        GRANULE * (u64::from(self.held_granules) + u64::from(self.late_granules))
+        GRANULE * (u64::from(self.due_granules) + u64::from(self.late_granules))
     }
 
     /// The bytes of the heap that lie in no block.
@@ -161,7 +175,7 @@ impl Heap {
         ensures { bytes_in self.now.live + heap.held_bytes self.now + result ≡ self.now.size }
     {
         let granules = self.table.granules() as u64;
-        let held = u64::from(self.held_granules) + u64::from(self.late_granules);
+        let held = u64::from(self.due_granules) + u64::from(self.late_granules);
         GRANULE * (granules - u64::from(self.live_granules) - held)
     }
 }

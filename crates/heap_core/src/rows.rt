@@ -21,10 +21,10 @@ pub struct Rows {
     pub free: FreeRow,
     /// Granules at which a block starts.
     pub starts: Vec<u64>,
-    /// Granules that lie in held blocks: the shadow, kept up as blocks are released.
-    pub held: Vec<u64>,
+    /// Granules that lie in due blocks: the shadow, kept up as blocks are released.
+    pub due: Vec<u64>,
     /// Pages that have such a granule, and maybe some that have none.
-    pub held_pages: Vec<u64>,
+    pub due_pages: Vec<u64>,
 }
 
 impl Rows {
@@ -37,20 +37,20 @@ impl Rows {
         ensures count { IfOk result (λ rows. row_granules rows ≡ granules) }
         ensures free { IfOk result (λ rows. (k : ℕ) → is_set_for rows.free k ≡ is_within 0 granules k) }
         ensures starts { IfOk result (λ rows. (k : ℕ) → is_set_for rows.starts.items k ≡ false) }
-        ensures held { IfOk result (λ rows. (k : ℕ) → is_set_for rows.held.items k ≡ false) }
+        ensures due { IfOk result (λ rows. (k : ℕ) → is_set_for rows.due.items k ≡ false) }
     {
         let words = granules / WORD_GRANULES;
         let mut free = FreeRow::new(alloc, words)?;
-        free.give(0, granules);
+        free.vacate(0, granules);
         let starts = vec![in alloc; 0; words]?;
-        let held = vec![in alloc; 0; words]?;
+        let due = vec![in alloc; 0; words]?;
         let pages = granules / PAGE_BITS;
-        let held_pages = vec![in alloc; 0; pages.div_ceil(WORD_GRANULES)]?;
+        let due_pages = vec![in alloc; 0; pages.div_ceil(WORD_GRANULES)]?;
         Ok(Rows {
             free,
             starts,
-            held,
-            held_pages,
+            due,
+            due_pages,
         })
     }
 
@@ -63,54 +63,54 @@ impl Rows {
         ensures count { row_granules self.new ≡ row_granules self.old }
         ensures free { (k : ℕ) → is_set_for self.new.free k ≡ (is_set_for self.old.free k && not (is_within start (start + n) k)) }
         ensures starts { (k : ℕ) → is_set_for self.new.starts.items k ≡ (is_within start (start + 1) k || is_set_for self.old.starts.items k) }
-        ensures held { self.new.held.items ≡ self.old.held.items }
+        ensures due { self.new.due.items ≡ self.old.due.items }
     {
-        self.free.take(start, n);
+        self.free.occupy(start, n);
         set_run(&mut self.starts, start, start + 1);
     }
 
-    /// Makes the block of `n` granules at granule `start` held.
-    pub fn hold(&mut self, start: usize, n: usize)
+    /// Makes the block of `n` granules at granule `start` due.
+    pub fn make_due(&mut self, start: usize, n: usize)
         requires rows { AreRows self.old }
         requires end { start + n ≤ row_granules self.old }
         ensures rows { AreRows self.new }
         ensures count { row_granules self.new ≡ row_granules self.old }
         ensures free { self.new.free ≡ self.old.free }
         ensures starts { self.new.starts.items ≡ self.old.starts.items }
-        ensures held { (k : ℕ) → is_set_for self.new.held.items k ≡ (is_within start (start + n) k || is_set_for self.old.held.items k) }
+        ensures due { (k : ℕ) → is_set_for self.new.due.items k ≡ (is_within start (start + n) k || is_set_for self.old.due.items k) }
     {
         let end = start + n;
-        set_run(&mut self.held, start, end);
+        set_run(&mut self.due, start, end);
         set_run(
-            &mut self.held_pages,
+            &mut self.due_pages,
             start / PAGE_BITS,
             end.div_ceil(PAGE_BITS),
         );
     }
 
-    /// Makes the held granules free, and takes the blocks away that they lie in.
+    /// Makes the due granules free, and takes the blocks away that they lie in.
     pub fn give_back(&mut self)
         requires rows { AreRows self.old }
         ensures rows { AreRows self.new }
         ensures count { row_granules self.new ≡ row_granules self.old }
-        ensures free { (k : ℕ) → is_set_for self.new.free k ≡ (is_set_for self.old.free k || is_set_for self.old.held.items k) }
-        ensures starts { (k : ℕ) → is_set_for self.new.starts.items k ≡ (is_set_for self.old.starts.items k && not (is_set_for self.old.held.items k)) }
-        ensures held { (k : ℕ) → is_set_for self.new.held.items k ≡ false }
+        ensures free { (k : ℕ) → is_set_for self.new.free k ≡ (is_set_for self.old.free k || is_set_for self.old.due.items k) }
+        ensures starts { (k : ℕ) → is_set_for self.new.starts.items k ≡ (is_set_for self.old.starts.items k && not (is_set_for self.old.due.items k)) }
+        ensures due { (k : ℕ) → is_set_for self.new.due.items k ≡ false }
     {
-        for w in 0..self.held_pages.len() {
+        for w in 0..self.due_pages.len() {
             self.give_pages(w);
         }
     }
 
-    // Gives back the granules of the pages that have their bits in word `w` of `held_pages`.
+    // Gives back the granules of the pages that have their bits in word `w` of `due_pages`.
     fn give_pages(&mut self, w: usize)
         requires rows { AreRows self.old }
-        requires inside { w < length self.old.held_pages.items }
+        requires inside { w < length self.old.due_pages.items }
         ensures rows { AreRows self.new }
         ensures given { AreGiven self.old self.new }
-        ensures gone { (page : ℕ) → page / 64 ≡ w → is_set_for self.new.held_pages.items page ≡ false }
+        ensures gone { (page : ℕ) → page / 64 ≡ w → is_set_for self.new.due_pages.items page ≡ false }
     {
-        while self.held_pages[w] != 0 {
+        while self.due_pages[w] != 0 {
             self.give_lowest(w);
         }
     }
@@ -118,15 +118,15 @@ impl Rows {
     // Gives back the granules of the first page that is marked in word `w`, and takes the mark away.
     fn give_lowest(&mut self, w: usize)
         requires rows { AreRows self.old }
-        requires inside { w < length self.old.held_pages.items }
-        requires some { 0 < slice_index self.old.held_pages.items w }
+        requires inside { w < length self.old.due_pages.items }
+        requires some { 0 < slice_index self.old.due_pages.items w }
         ensures rows { AreRows self.new }
         ensures given { AreGiven self.old self.new }
-        ensures less { slice_index self.new.held_pages.items w < slice_index self.old.held_pages.items w }
+        ensures less { slice_index self.new.due_pages.items w < slice_index self.old.due_pages.items w }
     {
-        let word = self.held_pages[w];
+        let word = self.due_pages[w];
         self.give_page(WORD_GRANULES * w + lowest_bit(word));
-        self.held_pages[w] = without_lowest(word);
+        self.due_pages[w] = without_lowest(word);
     }
 
     // Gives back the granules of one page.
@@ -135,13 +135,13 @@ impl Rows {
         requires inside { 256 * page + 256 ≤ row_granules self.old }
         ensures rows { AreRows self.new }
         ensures given { AreGiven self.old self.new }
-        ensures gone { (k : ℕ) → k / 256 ≡ page → is_set_for self.new.held.items k ≡ false }
-        ensures pages { self.new.held_pages.items ≡ self.old.held_pages.items }
+        ensures gone { (k : ℕ) → k / 256 ≡ page → is_set_for self.new.due.items k ≡ false }
+        ensures pages { self.new.due_pages.items ≡ self.old.due_pages.items }
     {
         let first = PAGE_ROW_WORDS * page;
         let end = first + PAGE_ROW_WORDS;
-        self.free.give_words(&self.held, first, end);
-        clear_words(&mut self.starts, &self.held, first, end);
-        clear_run(&mut self.held, WORD_GRANULES * first, WORD_GRANULES * end);
+        self.free.vacate_words(&self.due, first, end);
+        clear_words(&mut self.starts, &self.due, first, end);
+        clear_run(&mut self.due, WORD_GRANULES * first, WORD_GRANULES * end);
     }
 }

@@ -4,22 +4,22 @@ ghost use Rattle.std.specs.Prelude.{◌≡◌, ◌≢◌, ◌<◌, ◌≤◌, �
 ghost use Rattle.granule_rows.specs.Runs.{is_within};
 ghost use Rattle.heap_core.specs.Painting.{IsPainted};
 ghost use Rattle.heap_core.specs.Consistent.{either_mark};
-ghost use Rattle.heap_core.specs.Shadow.{bits_of};
-ghost use Rattle.heap_core.specs.Table.{AreBlocks, IsBlockAt, IsFirstGap, IsFirstPast, IsGap, IsHeldStart, NonePast, ReachesPast, has_mark, held_count, is_held, is_live, is_taken, kept_lengths};
+ghost use Rattle.heap_model.specs.Shadow.{bits_of};
+ghost use Rattle.heap_core.specs.Table.{AreBlocks, IsBlockAt, IsFirstGap, IsFirstPast, IsGap, IsDueStart, NonePast, ReachesPast, has_mark, marked_count, is_marked, is_unmarked, is_occupied, kept_lengths};
 ghost use Rattle.mark_board.specs.Board.{IsOf};
 ghost use Rattle.tag_memory.specs.Tags.{is_set, is_set_for};
 
-use crate::block::{Block, Kind, Shape};
 use crate::painting::paint_row;
 use crate::rows::Rows;
-use crate::shadow::Shadow;
+use crate::shape::Shape;
 use granule_rows::{count_both, last_set, place_of_both, row_bit};
+use heap_model::{Block, Kind, Shadow};
 use mark_board::{Board, MarkSeat};
 use std::alloc::{AllocError, Global};
 use std::marker::Model;
 use tag_memory::{GRANULE, WORD_GRANULES, lowest_bit, without_lowest};
 
-/// The blocks over the granules of one heap, and which of them are held.
+/// The blocks over the granules of one heap, and which of them are due.
 #[derive(Drop)]
 pub struct Table {
     // The length in granules of the block that starts at a granule, where one does. Where none does
@@ -101,7 +101,13 @@ impl Table {
 
     /// The granule at which the first block starts that reaches past granule `first` and starts before `end`, of those
     /// that are held, or of those that are not. Late blocks are held too: these are their starts.
-    pub fn first_past(&self, late: &[u64], is_held: bool, first: usize, end: usize) -> Option<usize>
+    pub fn first_past(
+        &self,
+        late: &[u64],
+        wants_held: bool,
+        first: usize,
+        end: usize,
+    ) -> Option<usize>
         requires order { first < end }
         requires end { end ≤ length self.now.lengths }
         requires limit { length self.now.lengths ≤ 2 ^ 18 }
@@ -109,11 +115,11 @@ impl Table {
         requires same { length self.now.marks ≡ length self.now.lengths }
         requires apart { (j k : ℕ) → j < k → 0 < slice_index self.now.lengths k → j + slice_index self.now.lengths j ≤ k }
         ensures { MatchOption result
-            (NonePast (has_mark is_held) self.now.lengths (either_mark self.now.marks (bits_of late.now)) first end)
-            (λ p. (p < end) × IsFirstPast (has_mark is_held) self.now.lengths (either_mark self.now.marks (bits_of late.now)) first p) }
+            (NonePast (has_mark wants_held) self.now.lengths (either_mark self.now.marks (bits_of late.now)) first end)
+            (λ p. (p < end) × IsFirstPast (has_mark wants_held) self.now.lengths (either_mark self.now.marks (bits_of late.now)) first p) }
     {
         for start in self.reaching_start(first)..end {
-            if self.is_past(late, is_held, first, start) {
+            if self.is_past(late, wants_held, first, start) {
                 return Some(start);
             }
         }
@@ -121,29 +127,29 @@ impl Table {
     }
 
     // Whether a block that is held, or one that isn't, starts at a granule and reaches past granule `first`.
-    fn is_past(&self, late: &[u64], is_held: bool, first: usize, start: usize) -> bool
+    fn is_past(&self, late: &[u64], wants_held: bool, first: usize, start: usize) -> bool
         requires inside { start < length self.now.lengths }
         requires limit { length self.now.lengths ≤ 2 ^ 18 }
         requires bits { 64 * length late.now ≡ length self.now.lengths }
         requires same { length self.now.marks ≡ length self.now.lengths }
-        ensures yes { result ≡ true → ReachesPast (has_mark is_held) self.now.lengths (either_mark self.now.marks (bits_of late.now)) first start }
-        ensures no { result ≡ false → ¬ ReachesPast (has_mark is_held) self.now.lengths (either_mark self.now.marks (bits_of late.now)) first start }
+        ensures yes { result ≡ true → ReachesPast (has_mark wants_held) self.now.lengths (either_mark self.now.marks (bits_of late.now)) first start }
+        ensures no { result ≡ false → ¬ ReachesPast (has_mark wants_held) self.now.lengths (either_mark self.now.marks (bits_of late.now)) first start }
     {
         let granules = self.length_at(start) as usize;
         if granules == 0 || start + granules <= first {
             return false;
         }
-        self.is_held_or_late(late, start) == is_held
+        self.is_held(late, start) == wants_held
     }
 
-    // Whether a block starts at a granule that is held, or late.
-    fn is_held_or_late(&self, late: &[u64], granule: usize) -> bool
+    // Whether a block starts at a granule that is held: due, or late.
+    fn is_held(&self, late: &[u64], granule: usize) -> bool
         requires inside { granule < length self.now.lengths }
         requires bits { 64 * length late.now ≡ length self.now.lengths }
         requires same { length self.now.marks ≡ length self.now.lengths }
         ensures { result ≡ slice_index_or (either_mark self.now.marks (bits_of late.now)) granule false }
     {
-        self.is_held_at(granule) || row_bit(late, granule)
+        self.is_due_at(granule) || row_bit(late, granule)
     }
 
     /// What is so of the block that starts at a granule, where an epoch is open or where none is. Late blocks wait: these
@@ -155,7 +161,7 @@ impl Table {
         ensures late { slice_index_or self.now.marks granule false ≡ false → slice_index_or (bits_of late.now) granule false ≡ true → result ≡ Kind.Waiting }
         ensures live { slice_index_or self.now.marks granule false ≡ false → slice_index_or (bits_of late.now) granule false ≡ false → result ≡ Kind.Live }
     {
-        if self.is_held_at(granule) {
+        if self.is_due_at(granule) {
             if is_open {
                 return Kind::Painted;
             }
@@ -246,24 +252,24 @@ impl Table {
         }
     }
 
-    /// Whether a held block starts at a granule.
-    pub fn is_held_at(&self, granule: usize) -> bool
+    /// Whether a due block starts at a granule.
+    pub fn is_due_at(&self, granule: usize) -> bool
         requires { granule < length self.now.lengths }
         ensures { result ≡ slice_index_or self.now.marks granule false }
     {
-        row_bit(&self.rows.starts, granule) && row_bit(&self.rows.held, granule)
+        row_bit(&self.rows.starts, granule) && row_bit(&self.rows.due, granule)
     }
 
-    /// Whether a granule lies in a held block.
-    pub fn is_in_held(&self, granule: usize) -> bool
+    /// Whether a granule lies in a due block.
+    pub fn is_in_due_block(&self, granule: usize) -> bool
         requires { granule < length self.now.lengths }
-        ensures { result ≡ is_taken granule (kept_lengths is_held self.now.lengths self.now.marks) }
+        ensures { result ≡ is_occupied granule (kept_lengths is_marked self.now.lengths self.now.marks) }
     {
-        row_bit(&self.rows.held, granule)
+        row_bit(&self.rows.due, granule)
     }
 
-    /// Makes the live block that starts at a granule held.
-    pub fn hold(&mut self, granule: usize)
+    /// Makes the live block that starts at a granule due.
+    pub fn make_due(&mut self, granule: usize)
         requires inside { granule < length self.old.lengths }
         requires block { 0 < slice_index self.old.lengths granule }
         requires live { slice_index_or self.old.marks granule false ≡ false }
@@ -273,11 +279,11 @@ impl Table {
         ensures marks { self.new.marks ≡ slice_set self.old.marks granule true }
     {
         let granules = self.length_at(granule);
-        self.rows.hold(granule, granules as usize);
+        self.rows.make_due(granule, granules as usize);
     }
 
-    /// Makes those live blocks held at whose first granules these bits are 1. No block is held before.
-    pub fn hold_starts(&mut self, starts: &[u64])
+    /// Makes those live blocks due at whose first granules these bits are 1. No block is due before.
+    pub fn make_starts_due(&mut self, starts: &[u64])
         requires bits { 64 * length starts.now ≡ length self.old.lengths }
         requires limit { length self.old.lengths ≤ 2 ^ 18 }
         requires same { length self.old.marks ≡ length self.old.lengths }
@@ -290,12 +296,12 @@ impl Table {
         ensures marks { (k : ℕ) → slice_index_or self.new.marks k false ≡ is_set_for starts.now k }
     {
         for w in 0..starts.len() {
-            self.hold_word(w, starts[w]);
+            self.make_word_due(w, starts[w]);
         }
     }
 
-    // Makes those held at whose first granules the bits of one word are 1.
-    fn hold_word(&mut self, w: usize, word: u64)
+    // Makes those due at whose first granules the bits of one word are 1.
+    fn make_word_due(&mut self, w: usize, word: u64)
         requires word { 64 * w + 64 ≤ length self.old.lengths }
         requires limit { length self.old.lengths ≤ 2 ^ 18 }
         requires same { length self.old.marks ≡ length self.old.lengths }
@@ -310,54 +316,54 @@ impl Table {
     {
         let mut rest = word;
         while rest != 0 {
-            self.hold(WORD_GRANULES * w + lowest_bit(rest));
+            self.make_due(WORD_GRANULES * w + lowest_bit(rest));
             rest = without_lowest(rest);
         }
     }
 
-    /// Takes the held blocks away.
-    pub fn drop_held(&mut self)
+    /// Takes the due blocks away.
+    pub fn free_due(&mut self)
         requires apart { (j k : ℕ) → j < k → 0 < slice_index self.old.lengths k → j + slice_index self.old.lengths j ≤ k }
-        ensures lengths { self.new.lengths ≡ kept_lengths is_live self.old.lengths self.old.marks }
+        ensures lengths { self.new.lengths ≡ kept_lengths is_unmarked self.old.lengths self.old.marks }
         ensures marks { self.new.marks ≡ replicate (length self.old.lengths) false }
     {
         self.rows.give_back();
     }
 
-    /// Which granules lie in held blocks.
+    /// Which granules lie in due blocks.
     pub fn shadow(&self, alloc: Global) -> Result<Shadow, AllocError>
         ensures granules { IfOk result (λ shadow. length shadow ≡ length self.now.lengths) }
         ensures painted { IfOk result (λ shadow. (k : ℕ) → k < length self.now.lengths
-            → slice_index_or shadow k false ≡ is_taken k (kept_lengths is_held self.now.lengths self.now.marks)) }
+            → slice_index_or shadow k false ≡ is_occupied k (kept_lengths is_marked self.now.lengths self.now.marks)) }
     {
-        Shadow::of_row(alloc, &self.rows.held)
+        Shadow::of_row(alloc, &self.rows.due)
     }
 
-    /// How many held blocks there are.
-    pub fn held_blocks(&self) -> usize
-        ensures count { result ≡ held_count self.now.marks }
+    /// How many due blocks there are.
+    pub fn due_count(&self) -> usize
+        ensures count { result ≡ marked_count self.now.marks }
         ensures some { AreBlocks self.now.lengths self.now.marks }
     {
-        count_both(&self.rows.starts, &self.rows.held)
+        count_both(&self.rows.starts, &self.rows.due)
     }
 
-    /// The granule at which the held block starts that has `n` before it, or the end of the table where the last
+    /// The granule at which the due block starts that has `n` before it, or the end of the table where the last
     /// one has fewer.
-    pub fn held_start(&self, n: usize) -> usize
-        ensures start { n ≤ held_count self.now.marks → IsHeldStart self.now.lengths self.now.marks n result }
-        ensures past { held_count self.now.marks ≤ n → result ≡ length self.now.lengths }
+    pub fn due_start(&self, n: usize) -> usize
+        ensures start { n ≤ marked_count self.now.marks → IsDueStart self.now.lengths self.now.marks n result }
+        ensures past { marked_count self.now.marks ≤ n → result ≡ length self.now.lengths }
         ensures some { AreBlocks self.now.lengths self.now.marks }
     {
-        place_of_both(&self.rows.starts, &self.rows.held, n)
+        place_of_both(&self.rows.starts, &self.rows.due, n)
     }
 
-    /// Paints the granules of held blocks from `from` on and before `to`.
-    pub fn paint_held(&self, board: &Board, seat: &mut MarkSeat, from: usize, to: usize)
+    /// Paints the granules of due blocks from `from` on and before `to`.
+    pub fn paint_due(&self, board: &Board, seat: &mut MarkSeat, from: usize, to: usize)
         requires board { IsOf board.now seat.old }
         requires bits { board.now.bits ≡ length self.now.lengths }
         requires within { to ≤ length self.now.lengths }
-        ensures { IsPainted (λ k. is_within from to k && is_taken k (kept_lengths is_held self.now.lengths self.now.marks)) board.now seat.old seat.new }
+        ensures { IsPainted (λ k. is_within from to k && is_occupied k (kept_lengths is_marked self.now.lengths self.now.marks)) board.now seat.old seat.new }
     {
-        paint_row(&self.rows.held, board, seat, from, to);
+        paint_row(&self.rows.due, board, seat, from, to);
     }
 }

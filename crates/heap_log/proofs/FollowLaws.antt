@@ -8,9 +8,9 @@ use Rattle.trace_text.specs.declared.trace.Command.{Command}
 use Rattle.heap_reply.specs.declared.reply.Reply.{Reply}
 use Rattle.log_text.specs.declared.log.Event.{Event}
 use Rattle.log_text.specs.declared.log.Event.TheVariants.{Done, Seen}
-use Rattle.heap_machine.specs.Follow.{Follows}
-use Rattle.heap_machine.specs.Safety.{FitsTypes, IsSafe, IsUnused}
-use Rattle.heap_machine.specs.State.{State}
+use Rattle.machine_steps.specs.Follow.{Follows}
+use Rattle.machine_steps.specs.Safety.{FitsTypes, IsSafe, IsUnused}
+use Rattle.machine_steps.specs.State.{State}
 use Rattle.heap_log.specs.declared.verdict.Difference.{Difference}
 use Rattle.heap_log.specs.Judged.{AllFollow, DiffersAt, EventFollows, FitsEvent, FitsListed, HandOutUnused, HasBegun, IsFound, IsRefusedEvent, SaysInstead}
 

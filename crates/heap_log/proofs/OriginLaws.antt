@@ -3,9 +3,9 @@ use Rattle.std.proofs.Common.{◌≡◌, ◌<◌, ◌+◌, ◌∙◌, ℕ, suc, 
 use Rattle.std.specs.Prelude.{if◌then◌else◌}
 use Rattle.std.proofs.Math.Seq.{split_at}
 use Rattle.std.proofs.lemmas.List.{take_more}
-use Rattle.heap_core.specs.declared.block.Block.{Block}
+use Rattle.heap_model.specs.declared.block.Block.{Block}
 use Rattle.log_text.specs.declared.log.Event.{Event}
-use Rattle.heap_machine.specs.State.{State}
+use Rattle.machine_steps.specs.State.{State}
 use Rattle.heap_log.specs.declared.verdict.Difference.{Difference}
 use Rattle.heap_log.specs.Judged.{AllFollow, EventFollows, IsFound}
 use Rattle.heap_log.specs.Origin.{IsLastFree, frees, last_line, later}

@@ -5,23 +5,23 @@ use Rattle.std.proofs.lemmas.Option.{slice_get_within}
 use Rattle.cap_codec.specs.Bytes.{bits_of_bytes}
 use Rattle.tag_memory.specs.Cells.{Granule}
 use Rattle.log_text.specs.declared.log.Event.TheVariants.{Seen}
-use Rattle.heap_machine.specs.State.{State}
+use Rattle.machine_steps.specs.State.{State}
 use Rattle.heap_log.specs.declared.verdict.Difference.{Difference}
 use Rattle.heap_log.specs.Judged.{HasGranule, IsFound, IsRefusedEvent, IsSeen, SaysInstead}
 
 -- no granule lies there
 pub unseen-outside : (s : State) (address : ℕ) (tag : Bool) (bytes : List ℕ)
-    → ((i : ℕ) → address ≡ s.heap.base + 16 * i → i < length s.cells → ⊥) → IsRefusedEvent s (Seen address tag bytes)
+    → ((i : ℕ) → address ≡ s.heap.base + 16 * i → i < length s.granules → ⊥) → IsRefusedEvent s (Seen address tag bytes)
 unseen-outside s address tag bytes none =
-    λ left follows. none follows.0.i follows.0.at (slice_get_within s.cells follows.0.i (bits_of_bytes bytes, tag) follows.0.content)
+    λ left follows. none follows.0.i follows.0.at (slice_get_within s.granules follows.0.i (bits_of_bytes bytes, tag) follows.0.content)
 
-pub without-granule : (s : State) (address : ℕ) → ((i : ℕ) → address ≡ s.heap.base + 16 * i → i < length s.cells → ⊥) → ¬ HasGranule s address
+pub without-granule : (s : State) (address : ℕ) → ((i : ℕ) → address ≡ s.heap.base + 16 * i → i < length s.granules → ⊥) → ¬ HasGranule s address
 without-granule s address none = λ there. none there.0 there.1.at there.1.before_end
 
-pub outside : (s : State) (address : ℕ) (tag : Bool) (bytes : List ℕ) (base : ℕ) (cells : List Granule) → base ≡ s.heap.base → cells ≡ s.cells
-    → ((i : ℕ) → address ≡ base + 16 * i → i < length cells → ⊥) → IsRefusedEvent s (Seen address tag bytes) × (¬ HasGranule s address)
-outside s address tag bytes base cells lies holds none =
-    let here : (i : ℕ) → address ≡ s.heap.base + 16 * i → i < length s.cells → ⊥ =
+pub outside : (s : State) (address : ℕ) (tag : Bool) (bytes : List ℕ) (base : ℕ) (granules : List Granule) → base ≡ s.heap.base → granules ≡ s.granules
+    → ((i : ℕ) → address ≡ base + 16 * i → i < length granules → ⊥) → IsRefusedEvent s (Seen address tag bytes) × (¬ HasGranule s address)
+outside s address tag bytes base granules lies holds none =
+    let here : (i : ℕ) → address ≡ s.heap.base + 16 * i → i < length s.granules → ⊥ =
     λ i at before_end. none i (omega (arith, at, lies)) (subst (λ (xs : List Granule). i < length xs) (sym holds) before_end) in
     (unseen-outside s address tag bytes here, without-granule s address here)
 

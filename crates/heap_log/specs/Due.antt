@@ -1,11 +1,11 @@
 -- The words that are due: tagged, with their base in a block that the next pass of a revoker is about.
 use Rattle.std.specs.Prelude.{ℕ, ◌+◌, ◌*◌, Bool, false, suc, zero, List, [], ◌∷◌, ◌++◌, Option, None, Some, length, slice_index_or, if◌then◌else◌}
 use Rattle.cap_codec.specs.Words.{base_of}
-use Rattle.heap_core.specs.Blocks.{Span}
-use Rattle.heap_core.specs.Heap.{due}
-use Rattle.sweep_pool.specs.Sweep.{takes_tag}
+use Rattle.heap_model.specs.Blocks.{Span}
+use Rattle.heap_model.specs.Heap.{due}
+use Rattle.heap_model.specs.Sweep.{takes_tag}
 use Rattle.tag_memory.specs.Cells.{Cell, Granule, cell_of, register_at, register_count}
-use Rattle.heap_machine.specs.State.{State}
+use Rattle.machine_steps.specs.State.{State}
 use Rattle.heap_log.specs.declared.due.DueWord.{DueWord}
 use Rattle.heap_log.specs.declared.due.DueWord.TheVariants as word
 
@@ -42,4 +42,4 @@ due_granules blocks base granules (suc n) =
 abbrev pub due_words : Bool → State → List DueWord
 due_words registers_too s =
     (if registers_too then due_registers (due s.heap) s.registers register_count else [])
-    ++ due_granules (due s.heap) s.heap.base s.cells (length s.cells)
+    ++ due_granules (due s.heap) s.heap.base s.granules (length s.granules)

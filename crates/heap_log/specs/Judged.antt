@@ -7,10 +7,10 @@ use Rattle.heap_reply.specs.declared.reply.Reply.{Reply}
 use Rattle.heap_reply.specs.declared.reply.Reply.TheVariants as reply
 use Rattle.log_text.specs.declared.log.Event.{Event}
 use Rattle.log_text.specs.declared.log.Event.TheVariants.{Done, Seen}
-use Rattle.heap_machine.specs.Follow.{Follows}
+use Rattle.machine_steps.specs.Follow.{Follows}
 use Rattle.heap_machine.specs.Followed.{IsWhy}
-use Rattle.heap_machine.specs.Safety.{FitsTypes, IsSafe, IsUnused}
-use Rattle.heap_machine.specs.State.{State}
+use Rattle.machine_steps.specs.Safety.{FitsTypes, IsSafe, IsUnused}
+use Rattle.machine_steps.specs.State.{State}
 use Rattle.heap_log.specs.declared.verdict.Difference.{Difference}
 use Rattle.heap_log.specs.declared.verdict.Difference.TheVariants.{Answer, Granule, NoGranule}
 use Rattle.heap_log.specs.declared.verdict.Tally.{Tally}
@@ -22,7 +22,7 @@ use Rattle.heap_log.specs.declared.verdict.Verdict.TheVariants.{Agrees, Differs}
 -- The granule with this number lies at the address. They are counted from the heap's base, a multiple of 16.
 pub record LiesAt (s : State) (address i : ℕ) : Type 0 where
   pub at : address ≡ s.heap.base + 16 * i
-  pub before_end : i < length s.cells
+  pub before_end : i < length s.granules
 
 -- A granule of the heap lies at the address.
 abbrev pub HasGranule : State → ℕ → Type 0
@@ -32,7 +32,7 @@ HasGranule s address = (i : ℕ) × LiesAt s address i
 pub record IsSeen (s : State) (address : ℕ) (tag : Bool) (bytes : List ℕ) : Type 0 where
   pub i : ℕ
   pub at : address ≡ s.heap.base + 16 * i
-  pub content : slice_get s.cells i ≡ Some (bits_of_bytes bytes, tag)
+  pub content : slice_get s.granules i ≡ Some (bits_of_bytes bytes, tag)
 
 -- From the state old the event may happen, and then leaves the state new.
 abbrev pub EventFollows : State → Event → State → Type 0
@@ -98,26 +98,26 @@ pub record HasBegun (old : State) (events : List (ℕ × Event)) (new : State) :
 -- ---- what events come to
 
 -- How many blocks an answer hands out.
-abbrev pub blocks_told : Reply → ℕ
-blocks_told (reply.Block base top) = 1
-blocks_told (reply.BlockAfter base top cleared) = 1
-blocks_told answer = 0
+abbrev pub blocks_of_reply : Reply → ℕ
+blocks_of_reply (reply.Block base top) = 1
+blocks_of_reply (reply.BlockAfter base top cleared) = 1
+blocks_of_reply answer = 0
 
 -- Of how many passes it tells.
-abbrev pub passes_told : Reply → ℕ
-passes_told (reply.BlockAfter base top cleared) = 1
-passes_told (reply.NoSpaceAfter cleared) = 1
-passes_told (reply.Swept cleared released) = 1
-passes_told (reply.Begun cleared) = 1
-passes_told answer = 0
+abbrev pub passes_of_reply : Reply → ℕ
+passes_of_reply (reply.BlockAfter base top cleared) = 1
+passes_of_reply (reply.NoSpaceAfter cleared) = 1
+passes_of_reply (reply.Swept cleared released) = 1
+passes_of_reply (reply.Begun cleared) = 1
+passes_of_reply answer = 0
 
 -- How many tags these took.
-abbrev pub tags_told : Reply → ℕ
-tags_told (reply.BlockAfter base top cleared) = cleared
-tags_told (reply.NoSpaceAfter cleared) = cleared
-tags_told (reply.Swept cleared released) = cleared
-tags_told (reply.Begun cleared) = cleared
-tags_told answer = 0
+abbrev pub tags_of_reply : Reply → ℕ
+tags_of_reply (reply.BlockAfter base top cleared) = cleared
+tags_of_reply (reply.NoSpaceAfter cleared) = cleared
+tags_of_reply (reply.Swept cleared released) = cleared
+tags_of_reply (reply.Begun cleared) = cleared
+tags_of_reply answer = 0
 
 -- What an event adds to a sum over the commands' answers.
 abbrev pub of_event : (Reply → ℕ) → Event → ℕ
@@ -125,20 +125,20 @@ of_event told (Done command answer) = told answer
 of_event told (Seen address tag bytes) = 0
 
 -- Such a sum.
-abbrev pub sum_told : (Reply → ℕ) → List (ℕ × Event) → ℕ
-sum_told told events = sum_by (λ event. of_event told event.1) events
+abbrev pub sum_over : (Reply → ℕ) → List (ℕ × Event) → ℕ
+sum_over told events = sum_by (λ event. of_event told event.1) events
 
 -- Each command is one.
-abbrev pub one_told : Reply → ℕ
-one_told answer = 1
+abbrev pub one_of_reply : Reply → ℕ
+one_of_reply answer = 1
 
 -- Commands, blocks handed out, passes, and tags that these took.
 abbrev pub tally_of : List (ℕ × Event) → Tally
 tally_of events = record {
-  tags = sum_told tags_told events;
-  commands = sum_told one_told events;
-  blocks = sum_told blocks_told events;
-  passes = sum_told passes_told events;
+  tags = sum_over tags_of_reply events;
+  commands = sum_over one_of_reply events;
+  blocks = sum_over blocks_of_reply events;
+  passes = sum_over passes_of_reply events;
 }
 
 -- ---- verdicts

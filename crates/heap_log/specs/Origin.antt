@@ -1,7 +1,7 @@
 -- Where a block came from: the line of a log that hands it out, frees it, or gives it.
 use Rattle.std.specs.Prelude.{◌==◌, ◌&&◌, ℕ, Bool, false, List, [], ◌∷◌, ◌++◌, Option, None, Some, if◌then◌else◌}
 use Rattle.cap_codec.specs.Words.{bounds_in}
-use Rattle.heap_core.specs.declared.block.Block.{Block as BlockBounds}
+use Rattle.heap_model.specs.declared.block.Block.{Block as BlockBounds}
 use Rattle.tag_memory.specs.Cells.{register_at}
 use Rattle.trace_text.specs.declared.trace.Command.TheVariants.{Free}
 use Rattle.heap_reply.specs.declared.reply.Reply.TheVariants.{Block, BlockAfter, Held}
@@ -9,7 +9,7 @@ use Rattle.log_text.specs.declared.log.Event.{Event}
 use Rattle.log_text.specs.declared.log.Event.TheVariants.{Done}
 use Rattle.log_text.specs.declared.log.Given.{Given}
 use Rattle.log_text.specs.declared.log.Given.TheVariants.{Live, Painted, Waiting}
-use Rattle.heap_machine.specs.State.{State}
+use Rattle.machine_steps.specs.State.{State}
 use Rattle.heap_log.specs.Judged.{EventFollows}
 
 -- These are the bounds of the block.

@@ -1,7 +1,7 @@
 //! The words whose tags a pass has to take.
 
 ghost use Rattle.std.specs.Prelude.{◌≡◌, ◌<◌, ◌+◌, ◌*◌, ◌++◌, IfOk, false, length, slice_index_or};
-ghost use Rattle.heap_core.specs.Heap.{due};
+ghost use Rattle.heap_model.specs.Heap.{due};
 ghost use Rattle.tag_memory.specs.Cells.{cell_of, register_at, register_count};
 ghost use Rattle.heap_log.specs.Due.{as_list, due_base, due_granules, due_registers, due_words, in_granule, in_register};
 
@@ -40,12 +40,12 @@ fn in_register(machine: &Machine, register: u8) -> Option<DueWord>
 }
 
 fn in_granule(machine: &Machine, i: usize) -> Option<DueWord>
-    requires { i < length machine.now.state.cells }
+    requires { i < length machine.now.state.granules }
     ensures { result ≡ in_granule (machine.now.state.heap.base + 16 * i)
-        (due_base (due machine.now.state.heap) (cell_of (slice_index_or machine.now.state.cells i (0, false)))) }
+        (due_base (due machine.now.state.heap) (cell_of (slice_index_or machine.now.state.granules i (0, false)))) }
 {
     let memory = machine.memory();
-    memory.whole();
+    memory.invariant();
     let (bits, tag) = memory.cell(i);
     let base = due_base(machine.heap(), Word { bits }, tag)?;
     let address = memory.base() + GRANULE * i as u64;
@@ -74,7 +74,7 @@ fn push_registers(words: &mut Vec<DueWord>, machine: &Machine) -> Result<(), All
 
 fn push_granules(words: &mut Vec<DueWord>, machine: &Machine) -> Result<(), AllocError>
     ensures { IfOk result (λ done. words.new.items
-        ≡ words.old.items ++ due_granules (due machine.now.state.heap) machine.now.state.heap.base machine.now.state.cells (length machine.now.state.cells)) }
+        ≡ words.old.items ++ due_granules (due machine.now.state.heap) machine.now.state.heap.base machine.now.state.granules (length machine.now.state.granules)) }
 {
     for i in 0..machine.memory().granules() {
         push(words, in_granule(machine, i))?;

@@ -3,10 +3,10 @@
 ghost use Rattle.std.specs.Prelude.{◌≡◌, ◌<◌, ◌^◌, IfErr, IfOk, OnErr, length};
 ghost use Rattle.std.specs.List.{All};
 ghost use Rattle.log_text.specs.Log.{IsListedEvent, IsValidEvent};
-ghost use Rattle.heap_machine.specs.Safety.{FitsTypes, IsSafe};
+ghost use Rattle.machine_steps.specs.Safety.{FitsTypes, IsSafe};
 ghost use Rattle.heap_log.specs.Judged.{AgreesUnused, FitsEvent, HasBegun, IsFound, IsVerdict};
 
-use crate::laws::logs;
+use crate::laws::safe_log_law;
 use crate::seeing::see;
 use crate::tallying::tally;
 use crate::verdict::{Difference, Verdict};
@@ -77,7 +77,7 @@ pub fn judge<R: Threads + Sync>(
     ensures safe { IsSafe machine.old.state → IsSafe machine.new.state }
     ensures unused { IfOk result (λ verdict. IsSafe machine.old.state → AgreesUnused machine.old.state events.now verdict) }
 {
-    logs();
+    safe_log_law();
     for (count, (line, event)) in events.iter().enumerate() {
         fit(*event);
         if let Some(difference) = follow_event(rt, alloc, machine, *event)? {

@@ -3,12 +3,12 @@
 ghost use Rattle.std.specs.Prelude.{◌≡◌, IfErr, IfOk, Some, if◌then◌else◌};
 ghost use Rattle.std.specs.List.{All};
 ghost use Rattle.log_text.specs.Log.{IsListedEvent, IsValidEvent, first_line};
-ghost use Rattle.heap_machine.specs.State.{State};
+ghost use Rattle.machine_steps.specs.State.{State};
 ghost use Rattle.heap_log.specs.Judged.{AllFollow};
 ghost use Rattle.heap_log.specs.Origin.{IsLastFree, are_bounds, frees, gives, hands_out, last_line};
 
 use crate::judging::follow_event;
-use crate::laws::logs;
+use crate::laws::safe_log_law;
 use cap_codec::{Word, bounds};
 use heap_core::Block;
 use heap_machine::{Machine, MachineFault};
@@ -111,7 +111,7 @@ pub fn freed_line<R: Threads + Sync>(
     ensures last { IfOk result (λ found. IsLastFree machine.old.state block events.now found machine.new.state) }
     ensures memory { IfErr result (λ fault. fault ≡ MachineFault.Memory) }
 {
-    logs();
+    safe_log_law();
     let mut found = None;
     for (line, event) in events {
         found = noted(frees(block, machine, *event), *line, found);

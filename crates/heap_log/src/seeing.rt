@@ -12,8 +12,8 @@ use tag_memory::{GRANULE, Memory};
 // Which granule lies at this address, counted from the base.
 fn granule_index(memory: &Memory, address: u64) -> Option<usize>
     ensures { MatchOption result
-        ((i : ℕ) → address ≡ memory.now.base + 16 * i → i < length memory.now.cells → ⊥)
-        (λ i. (address ≡ memory.now.base + 16 * i) × (i < length memory.now.cells)) }
+        ((i : ℕ) → address ≡ memory.now.base + 16 * i → i < length memory.now.granules → ⊥)
+        (λ i. (address ≡ memory.now.base + 16 * i) × (i < length memory.now.granules)) }
 {
     let base = memory.base();
     if address < base {

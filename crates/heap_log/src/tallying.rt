@@ -1,14 +1,14 @@
 //! What the events of a log come to.
 
 ghost use Rattle.std.specs.Prelude.{◌≡◌, ◌<◌, ◌≤◌, ◌^◌, length};
-ghost use Rattle.heap_log.specs.Judged.{blocks_told, of_event, one_told, passes_told, tags_told, tally_of};
+ghost use Rattle.heap_log.specs.Judged.{blocks_of_reply, of_event, one_of_reply, passes_of_reply, tags_of_reply, tally_of};
 
 use crate::verdict::Tally;
 use heap_reply::Reply;
 use log_text::Event;
 
 fn commands_in(event: Event) -> u32
-    ensures value { result ≡ of_event one_told event }
+    ensures value { result ≡ of_event one_of_reply event }
     ensures few { result ≤ 1 }
 {
     match event {
@@ -18,7 +18,7 @@ fn commands_in(event: Event) -> u32
 }
 
 fn blocks_in(event: Event) -> u32
-    ensures value { result ≡ of_event blocks_told event }
+    ensures value { result ≡ of_event blocks_of_reply event }
     ensures few { result ≤ 1 }
 {
     match event {
@@ -31,7 +31,7 @@ fn blocks_in(event: Event) -> u32
 }
 
 fn passes_in(event: Event) -> u32
-    ensures value { result ≡ of_event passes_told event }
+    ensures value { result ≡ of_event passes_of_reply event }
     ensures few { result ≤ 1 }
 {
     match event {
@@ -48,7 +48,7 @@ fn passes_in(event: Event) -> u32
 
 // The tags that the event's pass took.
 fn tags_in(event: Event) -> u32
-    ensures value { result ≡ of_event tags_told event }
+    ensures value { result ≡ of_event tags_of_reply event }
 {
     match event {
         Event::Done { answer, .. } => match answer {

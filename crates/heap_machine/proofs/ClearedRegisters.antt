@@ -2,11 +2,11 @@
 use Rattle.std.proofs.Common.{◌≡◌, ◌∙◌, ◌<◌, ◌&&◌, ℕ, cond, not, inl, inr, List, length, get_or, sym, ap, subst, arith}
 use Rattle.std.proofs.lemmas.Bool.{cases_eq, ne_eqb}
 use Rattle.std.proofs.lemmas.List.{ext_get_or, get_or-map, length-map}
-use Rattle.sweep_pool.specs.Sweep.{is_revoked, swept_cell, swept_cells, takes_tag}
+use Rattle.heap_model.specs.Sweep.{is_revoked, swept_cell, swept_cells, takes_tag}
 use Rattle.tag_memory.specs.Cells.{Cell, null_cell, register_at, without_tag_if}
 use Rattle.tag_memory.specs.Tags.{is_set}
-use Rattle.heap_core.specs.Blocks.{Span}
-use Rattle.heap_machine.proofs.SweptState.{and_not}
+use Rattle.heap_model.specs.Blocks.{Span}
+use Rattle.heap_machine.proofs.SweptMemory.{and_not}
 
 -- Registers cleared by the mask of a sweep are the registers swept, where register 0 is null.
 pub registers-swept : (held : List Span) (old new : List Cell) (mask : ℕ)

@@ -6,8 +6,8 @@ use Rattle.std.specs.Prelude.{count_by, count_ones, sum_by}
 use Rattle.std.proofs.lemmas.Bool.{ne_eqb}
 use Rattle.std.proofs.lemmas.List.{get_or-drop, get_or-take, length-drop, length-take}
 use Rattle.std.proofs.lemmas.List.Sums.{sum_by-cons, sum_by-drop_more, sum_by-take-drop}
-use Rattle.heap_core.specs.Blocks.{Span}
-use Rattle.sweep_pool.specs.Sweep.{takes_tag}
+use Rattle.heap_model.specs.Blocks.{Span}
+use Rattle.heap_model.specs.Sweep.{takes_tag}
 use Rattle.tag_memory.specs.Cells.{Cell, null_cell, register_at}
 use Rattle.tag_memory.specs.Laws.{is_set_for-at, ones-row}
 use Rattle.tag_memory.specs.Tags.{is_set, is_set_for}

@@ -1,22 +1,12 @@
-mod BlockLists
-mod ClearedRegisters
-mod CountLaws
-mod DirtyLaws
-mod FollowLaws
-mod FreedBlock
-mod GuardLaws
-mod KeptSizes
-mod MakingLaws
-mod NewBlock
-mod PassLaws
-mod PassedChecks
-mod OnePlace
-pub mod OneStep
-mod RevokedLaws
-mod SafeSteps
-mod SoundLaws
-mod SweepStep
-mod SweptMalloc
-mod SweptState
-mod TaggedLaws
-mod UnusedLaws
+pub mod ClearedRegisters
+pub mod CountLaws
+pub mod DueSweep
+pub mod KeptSizes
+pub mod MakingLaws
+pub mod PassLaws
+pub mod PassedChecks
+pub mod SweepStep
+pub mod SweptMalloc
+pub mod SweptMemory
+pub mod TaggedLaws
+pub mod WhyLaws

@@ -7,14 +7,14 @@ use Rattle.std.proofs.lemmas.Bool.Decides.{nat_tests}
 use Rattle.std.proofs.lemmas.List.Elements.{All-contains}
 use Rattle.cap_codec.specs.Words.{bounds_in}
 use Rattle.cap_codec.specs.declared.word.Bounds.{Bounds}
-use Rattle.heap_core.specs.Blocks.{Span, end_of, has_address}
-use Rattle.heap_core.specs.Found.{IsFound, IsInNoBlock, blocks_in}
-use Rattle.heap_core.specs.Heap.{HeapState}
-use Rattle.heap_core.specs.Laws.{Contains-block, has_address-within}
-use Rattle.heap_core.specs.declared.block.Kind.{Kind}
-use Rattle.heap_core.specs.declared.block.Kind.TheVariants.{Live, Painted, Waiting}
+use Rattle.heap_model.specs.Blocks.{Span, end_of, has_address}
+use Rattle.heap_model.specs.Found.{IsFound, IsInNoBlock, blocks_in}
+use Rattle.heap_model.specs.Heap.{HeapState}
+use Rattle.heap_model.specs.Laws.{Contains-block, has_address-within}
+use Rattle.heap_model.specs.declared.block.Kind.{Kind}
+use Rattle.heap_model.specs.declared.block.Kind.TheVariants.{Live, Painted, Waiting}
 use Rattle.tag_memory.specs.Cells.{Cell, IsMemory, MemoryState}
-use Rattle.heap_machine.specs.Safety.{IsGuarded, IsLiveOrHeld}
+use Rattle.machine_steps.specs.Safety.{IsGuarded, IsLiveOrHeld}
 
 IsLiveOrHeld-kind : (heap : HeapState) (kind : Kind) (block : Span) → Contains (blocks_in heap kind) block → IsLiveOrHeld heap block
 IsLiveOrHeld-kind heap Live block has = inl has
@@ -70,7 +70,7 @@ pub not_guarded-nowhere : (heap : HeapState) (c : Cell) (range : Bounds) → ran
 not_guarded-nowhere heap c range is none tagged = not_guarded-none heap c (rw is at none) tagged
 
 -- A memory has few granules.
-pub few_granules : (m : MemoryState) → IsMemory m → length m.cells ≤ 2 ^ 18
+pub few_granules : (m : MemoryState) → IsMemory m → length m.granules ≤ 2 ^ 18
 few_granules m is =
     let both = and_parts (nat_le 1 is.pages) (nat_le is.pages 1024) is.size in
     let most : is.pages ≤ 1024 = grind (arith, nat_tests, both.1) in

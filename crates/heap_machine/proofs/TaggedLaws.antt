@@ -6,14 +6,14 @@ use Rattle.std.proofs.lemmas.Nat.{shr-shr}
 use Rattle.std.proofs.lemmas.Nat.Bits.{bit_at_above}
 use Rattle.std.proofs.lemmas.Option.{get_or_from_slice_get}
 use Rattle.cap_codec.specs.Words.{base_of}
-use Rattle.heap_core.specs.Blocks.{lies_in}
-use Rattle.heap_core.specs.Heap.{HeapState}
-use Rattle.sweep_pool.specs.Sweep.{takes_tag}
+use Rattle.heap_model.specs.Blocks.{lies_in}
+use Rattle.heap_model.specs.Heap.{HeapState}
+use Rattle.heap_model.specs.Sweep.{takes_tag}
 use Rattle.tag_memory.specs.Cells.{Granule, MemoryState, cell_of, is_dirty_at}
 use Rattle.tag_memory.specs.Laws.{same_test}
 use Rattle.tag_memory.specs.Tags.{is_set, is_tagged}
 use Rattle.heap_machine.specs.Making.{HasGuardedAt, StandsDirty}
-use Rattle.heap_machine.specs.Safety.{HoldsGuarded}
+use Rattle.machine_steps.specs.Safety.{HoldsGuarded}
 
 -- ---- the bits of a word from one on
 
@@ -62,38 +62,38 @@ module _ (P : ℕ → Type 0) (tagged : ℕ → Bool) (holds : (k : ℕ) → tag
 
 -- ---- untagged granules
 
-pub HasGuardedAt-untagged : (heap : HeapState) (memory : MemoryState) (k : ℕ) → is_tagged memory.cells k ≡ false → HasGuardedAt heap memory k
-HasGuardedAt-untagged heap memory k none = record { within = λ e. absurd (both_ways (is_tagged memory.cells k) none e) }
+pub HasGuardedAt-untagged : (heap : HeapState) (memory : MemoryState) (k : ℕ) → is_tagged memory.granules k ≡ false → HasGuardedAt heap memory k
+HasGuardedAt-untagged heap memory k none = record { within = λ e. absurd (both_ways (is_tagged memory.granules k) none e) }
 
-pub StandsDirty-untagged : (heap : HeapState) (memory : MemoryState) (k : ℕ) → is_tagged memory.cells k ≡ false → StandsDirty heap memory k
+pub StandsDirty-untagged : (heap : HeapState) (memory : MemoryState) (k : ℕ) → is_tagged memory.granules k ≡ false → StandsDirty heap memory k
 StandsDirty-untagged heap memory k none takes =
-    let cell = cell_of (get_or memory.cells k (0, false)) in
-    absurd (both_ways (is_tagged memory.cells k) none (and_parts cell.1 (lies_in heap.painted (base_of cell.0)) takes).0)
+    let cell = cell_of (get_or memory.granules k (0, false)) in
+    absurd (both_ways (is_tagged memory.granules k) none (and_parts cell.1 (lies_in heap.painted (base_of cell.0)) takes).0)
 
 -- ---- granules that are read
 
-pub HasGuardedAt-read : (heap : HeapState) (memory : MemoryState) (i : ℕ) (granule : Granule) → slice_get memory.cells i ≡ Some granule
+pub HasGuardedAt-read : (heap : HeapState) (memory : MemoryState) (i : ℕ) (granule : Granule) → slice_get memory.granules i ≡ Some granule
     → HoldsGuarded heap granule → HasGuardedAt heap memory i
-HasGuardedAt-read heap memory i granule at = subst (HoldsGuarded heap) (sym (get_or_from_slice_get memory.cells i granule (0, false) at))
+HasGuardedAt-read heap memory i granule at = subst (HoldsGuarded heap) (sym (get_or_from_slice_get memory.granules i granule (0, false) at))
 
-pub not_HasGuardedAt-read : (heap : HeapState) (memory : MemoryState) (i : ℕ) (granule : Granule) → slice_get memory.cells i ≡ Some granule
+pub not_HasGuardedAt-read : (heap : HeapState) (memory : MemoryState) (i : ℕ) (granule : Granule) → slice_get memory.granules i ≡ Some granule
     → (HoldsGuarded heap granule → ⊥) → HasGuardedAt heap memory i → ⊥
 not_HasGuardedAt-read heap memory i granule at not_guarded guarded =
-    not_guarded (subst (HoldsGuarded heap) (get_or_from_slice_get memory.cells i granule (0, false) at) guarded)
+    not_guarded (subst (HoldsGuarded heap) (get_or_from_slice_get memory.granules i granule (0, false) at) guarded)
 
 -- ---- tagged ones, with a base in a painted block or elsewhere
 
-pub StandsDirty-elsewhere : (heap : HeapState) (memory : MemoryState) (i : ℕ) (granule : Granule) → slice_get memory.cells i ≡ Some granule
+pub StandsDirty-elsewhere : (heap : HeapState) (memory : MemoryState) (i : ℕ) (granule : Granule) → slice_get memory.granules i ≡ Some granule
     → lies_in heap.painted (base_of (cell_of granule).0) ≡ false → StandsDirty heap memory i
 StandsDirty-elsewhere heap memory i granule at out takes =
-    let is : get_or memory.cells i (0, false) ≡ granule = get_or_from_slice_get memory.cells i granule (0, false) at in
+    let is : get_or memory.granules i (0, false) ≡ granule = get_or_from_slice_get memory.granules i granule (0, false) at in
     let cell = cell_of granule in
     absurd (both_ways (lies_in heap.painted (base_of cell.0)) out (and_parts cell.1 (lies_in heap.painted (base_of cell.0)) (rw is at takes)).1)
 
-pub not_StandsDirty-painted : (heap : HeapState) (memory : MemoryState) (i page : ℕ) (granule : Granule) → slice_get memory.cells i ≡ Some granule
-    → is_tagged memory.cells i ≡ true → lies_in heap.painted (base_of (cell_of granule).0) ≡ true → i / 256 ≡ page → is_dirty_at memory.dirty page ≡ false
+pub not_StandsDirty-painted : (heap : HeapState) (memory : MemoryState) (i page : ℕ) (granule : Granule) → slice_get memory.granules i ≡ Some granule
+    → is_tagged memory.granules i ≡ true → lies_in heap.painted (base_of (cell_of granule).0) ≡ true → i / 256 ≡ page → is_dirty_at memory.dirty page ≡ false
     → StandsDirty heap memory i → ⊥
 not_StandsDirty-painted heap memory i page granule at tagged painted there clean stands =
-    let is : granule ≡ get_or memory.cells i (0, false) = sym (get_or_from_slice_get memory.cells i granule (0, false) at) in
-    let takes : takes_tag heap.painted (cell_of (get_or memory.cells i (0, false))) ≡ true = rw (tagged, rw is at painted) refl in
+    let is : granule ≡ get_or memory.granules i (0, false) = sym (get_or_from_slice_get memory.granules i granule (0, false) at) in
+    let takes : takes_tag heap.painted (cell_of (get_or memory.granules i (0, false))) ≡ true = rw (tagged, rw is at painted) refl in
     both_ways (is_dirty_at memory.dirty page) clean (rw there at stands takes)

@@ -1,7 +1,7 @@
 -- What becomes of an answer to a command.
 use Rattle.std.specs.Prelude.{◌≡◌, ◌≢◌, ◌<◌, ◌+◌, ℕ, max, Option, Some, None}
-use Rattle.heap_core.specs.Claim.{IsReason}
-use Rattle.heap_core.specs.Quarantine.{without_waiting}
+use Rattle.heap_model.specs.Claim.{IsReason}
+use Rattle.heap_model.specs.Quarantine.{without_waiting}
 use Rattle.trace_text.specs.declared.trace.Command.{Command}
 use Rattle.trace_text.specs.declared.trace.Command.TheVariants.{Malloc, Free, Copy, SetAddr, Narrow, AndPerm, StoreCap, LoadCap, Write, Show, Sweep, Begin, End}
 use Rattle.heap_reply.specs.declared.reply.Reply.{Reply}
@@ -10,40 +10,40 @@ use Rattle.heap_machine.specs.declared.followed.Followed.{Followed}
 use Rattle.heap_machine.specs.declared.followed.Followed.TheVariants.{Agrees, Differs}
 use Rattle.heap_machine.specs.declared.followed.Why.{Why}
 use Rattle.heap_machine.specs.declared.followed.Why.TheVariants.{MayNotSweep, MustBe, NotOfMalloc, Refused, Takes, TooShort}
-use Rattle.heap_machine.specs.Follow.{Follows}
-use Rattle.heap_machine.specs.State.{State}
-use Rattle.heap_machine.specs.Step.{MaySweep, Step, TakesNoMemory, taken}
+use Rattle.machine_steps.specs.Follow.{Follows}
+use Rattle.machine_steps.specs.State.{State}
+use Rattle.machine_steps.specs.Step.{MaySweep, Step, NeedsNoMemory, sweep_takes}
 
 -- No state follows from this answer.
 abbrev pub IsRefused : State → Command → Reply → Type 0
 IsRefused old command answer = (left : State) → Follows old command answer left → ⊥
 
 -- Such commands have one answer: all but a malloc.
-abbrev pub HasOneAnswer : Command → Type 0
-HasOneAnswer (Malloc rd size) = ⊥
-HasOneAnswer (Free rs) = Unit {0}
-HasOneAnswer (Copy rd rs) = Unit {0}
-HasOneAnswer (SetAddr rd rs address) = Unit {0}
-HasOneAnswer (Narrow rd rs length) = Unit {0}
-HasOneAnswer (AndPerm rd rs mask) = Unit {0}
-HasOneAnswer (StoreCap ra rs) = Unit {0}
-HasOneAnswer (LoadCap rd ra) = Unit {0}
-HasOneAnswer (Write ra bytes) = Unit {0}
-HasOneAnswer (Show rs) = Unit {0}
-HasOneAnswer Sweep = Unit {0}
-HasOneAnswer Begin = Unit {0}
-HasOneAnswer End = Unit {0}
+abbrev pub HasOneReply : Command → Type 0
+HasOneReply (Malloc rd size) = ⊥
+HasOneReply (Free rs) = Unit {0}
+HasOneReply (Copy rd rs) = Unit {0}
+HasOneReply (SetAddr rd rs address) = Unit {0}
+HasOneReply (Narrow rd rs length) = Unit {0}
+HasOneReply (AndPerm rd rs mask) = Unit {0}
+HasOneReply (StoreCap ra rs) = Unit {0}
+HasOneReply (LoadCap rd ra) = Unit {0}
+HasOneReply (Write ra bytes) = Unit {0}
+HasOneReply (Show rs) = Unit {0}
+HasOneReply Sweep = Unit {0}
+HasOneReply Begin = Unit {0}
+HasOneReply End = Unit {0}
 
 -- Such commands make no pass either: they look at one register, or two.
 abbrev pub MakesNoPass : Command → Type 0
 MakesNoPass Sweep = ⊥
 MakesNoPass Begin = ⊥
 MakesNoPass End = ⊥
-MakesNoPass command = HasOneAnswer command
+MakesNoPass command = HasOneReply command
 
 -- A command is answered so, whatever state that leaves.
-abbrev pub CanAnswer : State → Command → Reply → Type 0
-CanAnswer old command reply = (new : State) × Step old command reply new
+abbrev pub CanReply : State → Command → Reply → Type 0
+CanReply old command reply = (new : State) × Step old command reply new
 
 -- Why a malloc of this size may not be answered so.
 abbrev pub IsWhyOfMalloc : State → ℕ → Reply → Why → Type 0
@@ -51,10 +51,10 @@ IsWhyOfMalloc old size (Block base top) TooShort = top < base + max 1 size
 IsWhyOfMalloc old size (Block base top) (Refused reason) = IsReason old.heap base top reason
 IsWhyOfMalloc old size (BlockAfter base top cleared) MayNotSweep = ¬ MaySweep old
 IsWhyOfMalloc old size (BlockAfter base top cleared) TooShort = top < base + max 1 size
-IsWhyOfMalloc old size (BlockAfter base top cleared) (Takes count) = MaySweep old × (count ≡ taken old) × (cleared ≢ count)
+IsWhyOfMalloc old size (BlockAfter base top cleared) (Takes count) = MaySweep old × (count ≡ sweep_takes old) × (cleared ≢ count)
 IsWhyOfMalloc old size (BlockAfter base top cleared) (Refused reason) = MaySweep old × IsReason (without_waiting old.heap) base top reason
 IsWhyOfMalloc old size (NoSpaceAfter cleared) MayNotSweep = ¬ MaySweep old
-IsWhyOfMalloc old size (NoSpaceAfter cleared) (Takes count) = MaySweep old × (count ≡ taken old) × (cleared ≢ count)
+IsWhyOfMalloc old size (NoSpaceAfter cleared) (Takes count) = MaySweep old × (count ≡ sweep_takes old) × (cleared ≢ count)
 IsWhyOfMalloc old size (Held bytes) NotOfMalloc = Unit {0}
 IsWhyOfMalloc old size Done NotOfMalloc = Unit {0}
 IsWhyOfMalloc old size Cleared NotOfMalloc = Unit {0}
@@ -67,7 +67,7 @@ IsWhyOfMalloc old size answer why = ⊥
 -- Why a command may not be answered so.
 abbrev pub IsWhy : State → Command → Reply → Why → Type 0
 IsWhy old (Malloc rd size) answer why = IsWhyOfMalloc old size answer why
-IsWhy old command answer (MustBe reply) = CanAnswer old command reply × (answer ≢ reply)
+IsWhy old command answer (MustBe reply) = CanReply old command reply × (answer ≢ reply)
 IsWhy old command answer why = ⊥
 
 -- A command that was answered so comes to this, and leaves the state new.
@@ -97,15 +97,15 @@ IsJudgedFreely s (Trap trap) = Unit {0}
 -- To follow the answer to a command needs no memory.
 abbrev pub FollowsFreely : State → Command → Reply → Type 0
 FollowsFreely s (Malloc rd size) answer = IsJudgedFreely s answer
-FollowsFreely s (Free rs) answer = TakesNoMemory s (Free rs)
-FollowsFreely s (Copy rd rs) answer = TakesNoMemory s (Copy rd rs)
-FollowsFreely s (SetAddr rd rs address) answer = TakesNoMemory s (SetAddr rd rs address)
-FollowsFreely s (Narrow rd rs length) answer = TakesNoMemory s (Narrow rd rs length)
-FollowsFreely s (AndPerm rd rs mask) answer = TakesNoMemory s (AndPerm rd rs mask)
-FollowsFreely s (StoreCap ra rs) answer = TakesNoMemory s (StoreCap ra rs)
-FollowsFreely s (LoadCap rd ra) answer = TakesNoMemory s (LoadCap rd ra)
-FollowsFreely s (Write ra bytes) answer = TakesNoMemory s (Write ra bytes)
-FollowsFreely s (Show rs) answer = TakesNoMemory s (Show rs)
-FollowsFreely s Sweep answer = TakesNoMemory s Sweep
-FollowsFreely s Begin answer = TakesNoMemory s Begin
-FollowsFreely s End answer = TakesNoMemory s End
+FollowsFreely s (Free rs) answer = NeedsNoMemory s (Free rs)
+FollowsFreely s (Copy rd rs) answer = NeedsNoMemory s (Copy rd rs)
+FollowsFreely s (SetAddr rd rs address) answer = NeedsNoMemory s (SetAddr rd rs address)
+FollowsFreely s (Narrow rd rs length) answer = NeedsNoMemory s (Narrow rd rs length)
+FollowsFreely s (AndPerm rd rs mask) answer = NeedsNoMemory s (AndPerm rd rs mask)
+FollowsFreely s (StoreCap ra rs) answer = NeedsNoMemory s (StoreCap ra rs)
+FollowsFreely s (LoadCap rd ra) answer = NeedsNoMemory s (LoadCap rd ra)
+FollowsFreely s (Write ra bytes) answer = NeedsNoMemory s (Write ra bytes)
+FollowsFreely s (Show rs) answer = NeedsNoMemory s (Show rs)
+FollowsFreely s Sweep answer = NeedsNoMemory s Sweep
+FollowsFreely s Begin answer = NeedsNoMemory s Begin
+FollowsFreely s End answer = NeedsNoMemory s End

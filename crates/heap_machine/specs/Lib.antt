@@ -1,11 +1,5 @@
-pub mod Dirty
-pub mod Follow
 pub mod Followed
 pub mod Making
-pub mod Parts
 pub mod Passes
 pub mod Revoked
-pub mod Safety
-pub mod Sound
-pub mod State
-pub mod Step
+pub mod Storage

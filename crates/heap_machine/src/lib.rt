@@ -3,15 +3,14 @@
 
 mod fault;
 mod followed;
-mod laws;
 mod machine;
-mod parts;
 mod stepper;
+mod storage;
 
 pub use crate::fault::MachineFault;
 pub use crate::followed::{Followed, Why};
-pub use crate::laws::{answers, steps};
 pub use crate::machine::{Flaw, Machine};
 pub use crate::stepper::{Alone, Stepper, Workers};
 pub use heap_core::{Block, Claim, Kind};
-pub use heap_reply::{Hexadecimal, Place, Reply, Shown, Trap, flag_number};
+pub use heap_reply::{BoundedAddress, Hexadecimal, Reply, Shown, Trap, flag_number};
+pub use machine_steps::{any_placement_law, safe_reuse_law};

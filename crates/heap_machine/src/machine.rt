@@ -1,13 +1,13 @@
 //! The machine that runs the commands of a trace.
 
 ghost use Rattle.std.specs.Prelude.{◌≡◌, ◌↔◌, ◌+◌, IfOk, false, replicate, true};
-ghost use Rattle.heap_core.specs.Blocks.{bytes_in};
-ghost use Rattle.heap_core.specs.Heap as heap;
+ghost use Rattle.heap_model.specs.Blocks.{bytes_in};
+ghost use Rattle.heap_model.specs.Heap as heap;
 ghost use Rattle.tag_memory.specs.Extent as span;
-ghost use Rattle.heap_machine.specs.Dirty.{IsDirtied};
-ghost use Rattle.heap_machine.specs.Safety.{IsSafe};
-ghost use Rattle.heap_machine.specs.Sound.{IsMachine};
-ghost use Rattle.heap_machine.specs.State.{first_state};
+ghost use Rattle.machine_steps.specs.Dirty.{IsDirtied};
+ghost use Rattle.machine_steps.specs.Safety.{IsSafe};
+ghost use Rattle.machine_steps.specs.Sound.{IsMachine};
+ghost use Rattle.machine_steps.specs.State.{first_state};
 
 mod following;
 mod making;
@@ -15,7 +15,7 @@ mod stepping;
 
 use crate::fault::MachineFault;
 pub use crate::machine::making::Flaw;
-use crate::parts::Parts;
+use crate::storage::Storage;
 use heap_core::Heap;
 use std::alloc::Global;
 use std::marker::Model;
@@ -26,23 +26,35 @@ use tag_memory::{Memory, MemoryFault, Registers};
 /// painted blocks have in memory stands in dirty pages.
 #[derive(Drop)]
 pub struct Machine {
-    parts: Parts,
+    storage: Storage,
     cutting: Cutting,
 }
 
 impl Model for Machine {
-    ghost use Rattle.heap_machine.specs.Parts.{AreParts, MachineState, machine_of};
+    ghost use Rattle.heap_machine.specs.Storage.{IsStorage, MachineState, machine_of};
 
     ghost Value = { MachineState };
 
-    ghost view = { λ m. machine_of m.parts m.cutting };
+    ghost view = { λ m. machine_of m.storage m.cutting };
 
-    ghost invariant = { λ m. AreParts m.parts };
+    ghost invariant = { λ m. IsStorage m.storage };
 }
 
 impl Machine {
     /// A machine whose heap has so many pages of 4,096 bytes from `base` on. Its sweeps are cut into tasks
     /// of `cutting`'s pages, and made by no more than its workers. The size is judged before the base.
+    ///
+    /// ```rust
+    /// use heap_machine::{Machine, Reply};
+    /// use sweep_pool::{Cutting, Open};
+    /// use trace_text::Command;
+    ///
+    /// let mut machine = Machine::new(alloc, 0x4000_0000, 1, Cutting::new(1, 16)?)?;
+    /// let malloc = Command::Malloc { rd: 1, size: 20 };
+    /// let reply = machine.step_alone(alloc, malloc, &Open)?;
+    /// assert_eq!(rt; reply, Reply::Block { base: 0x4000_0000, top: 0x4000_0020 });
+    /// assert_eq!(rt; machine.live_bytes(), 32);
+    /// ```
     pub fn new(
         alloc: Global,
         base: u64,
@@ -66,57 +78,57 @@ impl Machine {
         let Ok(heap) = Heap::new(alloc, base, pages) else {
             return Err(MachineFault::Memory);
         };
-        let parts = Parts {
+        let storage = Storage {
             heap,
             memory,
             registers: Registers::new(),
         };
-        Ok(Machine { parts, cutting })
+        Ok(Machine { storage, cutting })
     }
 
     /// The registers now.
     pub fn registers(&self) -> &Registers
         ensures { result.now ≡ self.now.state.registers }
     {
-        &self.parts.registers
+        &self.storage.registers
     }
 
     /// The heap now.
     pub fn heap(&self) -> &Heap
         ensures { result.now ≡ self.now.state.heap }
     {
-        &self.parts.heap
+        &self.storage.heap
     }
 
     /// Tells what holds of every machine. Nothing is done.
-    pub fn whole(&self)
+    pub fn invariant(&self)
         ensures sound { IsMachine self.now.state }
         ensures dirtied { IsDirtied self.now.state self.now.dirty }
     {
-        let _ = &self.parts.heap;
+        let _ = &self.storage.heap;
     }
 
     /// The memory now.
     pub fn memory(&self) -> &Memory
         ensures base { result.now.base ≡ self.now.state.heap.base }
-        ensures cells { result.now.cells ≡ self.now.state.cells }
+        ensures granules { result.now.granules ≡ self.now.state.granules }
         ensures dirty { result.now.dirty ≡ self.now.dirty }
     {
-        &self.parts.memory
+        &self.storage.memory
     }
 
     /// The bytes in live blocks.
     pub fn live_bytes(&self) -> u64
         ensures { result ≡ bytes_in self.now.state.heap.live }
     {
-        self.parts.heap.live_bytes()
+        self.storage.heap.live_bytes()
     }
 
     /// The bytes in held blocks, in those that wait and the painted ones.
     pub fn held_bytes(&self) -> u64
         ensures { result ≡ heap.held_bytes self.now.state.heap }
     {
-        self.parts.heap.held_bytes()
+        self.storage.heap.held_bytes()
     }
 
     /// The bytes in no block.
@@ -124,21 +136,21 @@ impl Machine {
         ensures { bytes_in self.now.state.heap.live + heap.held_bytes self.now.state.heap + result
             ≡ self.now.state.heap.size }
     {
-        self.parts.heap.free_bytes()
+        self.storage.heap.free_bytes()
     }
 
     /// The memory and the registers, which are left when a run is over.
     pub fn finish(self) -> (Memory, Registers)
         ensures base { result.0.base ≡ self.state.heap.base }
-        ensures cells { result.0.cells ≡ self.state.cells }
+        ensures granules { result.0.granules ≡ self.state.granules }
         ensures dirty { result.0.dirty ≡ self.dirty }
         ensures registers { result.1 ≡ self.state.registers }
     {
-        let Parts {
+        let Storage {
             memory,
             registers,
             ..
-        } = self.parts;
+        } = self.storage;
         (memory, registers)
     }
 }

@@ -3,9 +3,9 @@
 ghost use Rattle.std.specs.Prelude.{◌≡◌, IfErr, IfOk, IsOk, OnErr, OnOk};
 ghost use denote.Param.Send.{IsSync};
 ghost use Rattle.trace_text.specs.Command.{IsValid};
-ghost use Rattle.heap_machine.specs.Dirty.{IsDirtied, dirty_after};
-ghost use Rattle.heap_machine.specs.Safety.{IsSafe, IsUnused, LeavesInUse};
-ghost use Rattle.heap_machine.specs.Step.{Step, TakesNoMemory};
+ghost use Rattle.machine_steps.specs.Dirty.{IsDirtied, dirty_after};
+ghost use Rattle.machine_steps.specs.Safety.{IsSafe, IsUnused, LeavesInUse};
+ghost use Rattle.machine_steps.specs.Step.{Step, NeedsNoMemory};
 
 use crate::fault::MachineFault;
 use crate::machine::Machine;
@@ -32,7 +32,7 @@ pub trait Stepper {
         ensures step { IfOk result (λ reply. Step machine.old.state command reply machine.new.state) }
         ensures err { OnErr result (machine.new ≡ machine.old) }
         ensures memory { IfErr result (λ fault. fault ≡ MachineFault.Memory) }
-        ensures ok { TakesNoMemory machine.old.state command → IsOk result }
+        ensures ok { NeedsNoMemory machine.old.state command → IsOk result }
         ensures cutting { machine.new.cutting ≡ machine.old.cutting }
         ensures safe { IsSafe machine.new.state }
         ensures unused { IfOk result (λ reply. IsUnused machine.old.state command reply) }

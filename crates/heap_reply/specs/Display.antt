@@ -4,10 +4,10 @@ use Rattle.std.specs.Fmt.{decimal, digits}
 use Rattle.cap_codec.specs.Fields.{bit_of}
 
 -- The pieces, one after the other.
-abbrev pub joined : List (List ℕ) → List ℕ
-joined [] = []
-joined (x ∷ []) = x
-joined (x ∷ y ∷ xs) = x ++ joined (y ∷ xs)
+abbrev pub join_pieces : List (List ℕ) → List ℕ
+join_pieces [] = []
+join_pieces (x ∷ []) = x
+join_pieces (x ∷ y ∷ xs) = x ++ join_pieces (y ∷ xs)
 
 -- `0x` and the lower-case hexadecimal digits, without leading zeros (`0x0` for zero).
 abbrev pub hexadecimal_text : ℕ → List ℕ
@@ -18,6 +18,6 @@ abbrev pub bit_text : Bool → List ℕ
 bit_text b = decimal (bit_of b)
 
 -- An address, and bounds.
-abbrev pub place_text : ℕ → ℕ → ℕ → List ℕ
-place_text address base top =
-    joined (codes "address " ∷ hexadecimal_text address ∷ codes " base " ∷ hexadecimal_text base ∷ codes " top " ∷ hexadecimal_text top ∷ [])
+abbrev pub bounded_address_text : ℕ → ℕ → ℕ → List ℕ
+bounded_address_text address base top =
+    join_pieces (codes "address " ∷ hexadecimal_text address ∷ codes " base " ∷ hexadecimal_text base ∷ codes " top " ∷ hexadecimal_text top ∷ [])

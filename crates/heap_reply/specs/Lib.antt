@@ -1,4 +1,4 @@
-pub mod Answer
+pub mod ReplyText
 pub mod Display
 pub mod HexadecimalLaws
 pub mod Shown

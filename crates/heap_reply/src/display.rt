@@ -2,7 +2,7 @@
 
 ghost use Rattle.std.specs.Prelude.{◌≡◌, Some};
 ghost use Rattle.cap_codec.specs.Fields.{bit_of};
-ghost use Rattle.heap_reply.specs.Display.{hexadecimal_text, place_text};
+ghost use Rattle.heap_reply.specs.Display.{hexadecimal_text, bounded_address_text};
 
 use std::fmt;
 
@@ -26,14 +26,14 @@ impl fmt::Display for Hexadecimal {
 
 /// An address with bounds, shown as `address 0x.. base 0x.. top 0x..`.
 #[derive(Debug, Clone, Copy, PartialEq, Eq)]
-pub struct Place {
+pub struct BoundedAddress {
     pub address: u64,
     pub base: u64,
     pub top: u128,
 }
 
-impl fmt::Display for Place {
-    ghost output = { λ p. Some (place_text p.address p.base p.top) };
+impl fmt::Display for BoundedAddress {
+    ghost output = { λ p. Some (bounded_address_text p.address p.base p.top) };
 
     fn fmt<W: fmt::Write>(&self, f: &mut fmt::Formatter<W>) -> fmt::Result {
         let address = self.address;

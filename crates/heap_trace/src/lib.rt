@@ -1,15 +1,16 @@
-//! Traces of a heap: the runs of their commands, the report, and the image.
+//! Traces of a heap: the runs of their commands.
 #![tactic(auto)]
 
 mod image;
-mod laws;
-mod report;
 mod running;
 
 pub use crate::image::image_text;
-pub use crate::laws::runs;
-pub use crate::running::{Outcome, RunFault, run, run_alone};
+pub use crate::running::{run, run_alone};
 pub use heap_machine::{
-    Hexadecimal, Machine, MachineFault, Place, Reply, Shown, Trap, flag_number, steps,
+    BoundedAddress, Hexadecimal, Machine, MachineFault, Reply, Shown, Trap, flag_number,
+    safe_reuse_law,
 };
-pub use trace_text::{Command, LONGEST_TEXT, Trace, TraceFault, command_lines, parse, texts};
+pub use trace_report::{Outcome, RunFault, one_run_law};
+pub use trace_text::{
+    Command, LONGEST_TEXT, Trace, TraceFault, command_grammar_law, parse, trace_grammar_law,
+};

@@ -7,38 +7,17 @@ ghost use Rattle.trace_text.specs.Command.{IsListed};
 ghost use Rattle.trace_text.specs.Grammar.{IsFaulty, IsTrace};
 ghost use Rattle.trace_text.specs.Heap.{IsHeap};
 ghost use Rattle.trace_text.specs.Reading.{Script, script_of};
-ghost use Rattle.heap_trace.specs.Outcome.{Answers, IsOutcome};
-ghost use Rattle.heap_trace.specs.Report.{end_text};
-ghost use Rattle.heap_trace.specs.Run.{Told};
-ghost use Rattle.heap_machine.specs.Safety.{IsSafe};
+ghost use Rattle.trace_report.specs.Outcome.{HasOutcome, IsOutcome};
+ghost use Rattle.trace_report.specs.Run.{Reported};
+ghost use Rattle.trace_report.specs.Report as report;
+ghost use Rattle.machine_steps.specs.Safety.{IsSafe};
 
-use crate::report::Report;
 use heap_machine::{Alone, Machine, Stepper, Workers};
 use std::alloc::{AllocError, Global};
 use std::thread::Threads;
 use sweep_pool::Cutting;
-use tag_memory::{Memory, Registers};
-use thiserror::Error;
-use trace_text::{Command, Trace, TraceFault, parse, texts};
-
-/// What a run leaves.
-#[derive(Drop)]
-pub struct Outcome {
-    pub report: Vec<u8>,
-    pub memory: Memory,
-    pub registers: Registers,
-}
-
-/// Why a text did not run.
-#[derive(Debug, PartialEq, Drop, Error)]
-pub enum RunFault {
-    /// Memory of the simulator itself ran out.
-    #[error("Memory")]
-    Memory,
-    /// The text is no trace.
-    #[error("Trace")]
-    Trace(TraceFault),
-}
+use trace_report::{Outcome, Report, RunFault, Sums};
+use trace_text::{Command, Trace, TraceFault, parse, trace_grammar_law};
 
 /// Runs a trace from its text to its report. Nothing runs where the text is faulty. Want of memory is
 /// `RunFault::Memory`, also while the text is read.
@@ -48,7 +27,7 @@ pub fn run<R: Threads + Sync>(
     text: &[u8],
     cutting: Cutting,
 ) -> Result<Outcome, RunFault>
-    ensures answer { Answers text.now result }
+    ensures answer { HasOutcome text.now result }
     // The same by the grammar.
     ensures trace { IfOk result (λ outcome. (script : Script) × IsTrace text.now script × IsOutcome script outcome) }
     ensures fault { (fault : TheTraceFault) → result ≡ Err (RunFault.Trace fault) → IsFaulty text.now fault }
@@ -58,8 +37,18 @@ pub fn run<R: Threads + Sync>(
 }
 
 /// Runs a trace as `run` does, by the calling thread alone, so without a runtime.
+///
+/// ```rust
+/// use heap_trace::run_alone;
+/// use sweep_pool::Cutting;
+///
+/// let text = b"heap 0x40000000 1\nmalloc c1 20\n";
+/// let outcome = run_alone(alloc, text, Cutting::new(1, 16)?)?;
+/// let report = b"2 malloc block 0x40000000 0x40000020\nend live 32 held 0 free 4064 tags 1\n";
+/// assert_eq!(rt; outcome.report.as_slice(), report.as_slice());
+/// ```
 pub fn run_alone(alloc: Global, text: &[u8], cutting: Cutting) -> Result<Outcome, RunFault>
-    ensures answer { Answers text.now result }
+    ensures answer { HasOutcome text.now result }
     // The same by the grammar.
     ensures trace { IfOk result (λ outcome. (script : Script) × IsTrace text.now script × IsOutcome script outcome) }
     ensures fault { (fault : TheTraceFault) → result ≡ Err (RunFault.Trace fault) → IsFaulty text.now fault }
@@ -76,12 +65,12 @@ fn run_by<S: Stepper>(
     cutting: Cutting,
 ) -> Result<Outcome, RunFault>
     requires ready { S.ready }
-    ensures answer { Answers text.now result }
+    ensures answer { HasOutcome text.now result }
     ensures trace { IfOk result (λ outcome. (script : Script) × IsTrace text.now script × IsOutcome script outcome) }
     ensures fault { (fault : TheTraceFault) → result ≡ Err (RunFault.Trace fault) → IsFaulty text.now fault }
     ensures memory { result ≢ Err (RunFault.Trace TraceFault.Memory) }
 {
-    texts();
+    trace_grammar_law();
     match parse(alloc, text) {
         Err(TraceFault::Memory) => Err(RunFault::Memory),
         Err(fault) => Err(RunFault::Trace(fault)),
@@ -108,7 +97,7 @@ fn run_trace<S: Stepper>(
         return None;
     };
     let lines = run_commands(stepper, alloc, &mut machine, &trace.commands)?;
-    let Ok(report) = lines.end(alloc, &machine) else {
+    let Ok(report) = lines.end(alloc, sums_of(&machine)) else {
         return None;
     };
     let (memory, registers) = machine.finish();
@@ -129,7 +118,7 @@ fn run_commands<S: Stepper>(
     requires ready { S.ready }
     requires valid { All IsListed commands.now }
     requires safe { IsSafe machine.old.state }
-    ensures { IfSome result (λ report. Told machine.old.state commands.now machine.new.state report) }
+    ensures { IfSome result (λ report. Reported machine.old.state commands.now machine.new.state report) }
 {
     let mut report = Report::new(alloc);
     for (line, command) in commands {
@@ -141,4 +130,16 @@ fn run_commands<S: Stepper>(
         };
     }
     Some(report)
+}
+
+// The numbers of a report's last line.
+fn sums_of(machine: &Machine) -> Sums
+    ensures { result ≡ report.sums_of machine.now.state }
+{
+    Sums {
+        live: machine.live_bytes(),
+        held: machine.held_bytes(),
+        free: machine.free_bytes(),
+        tags: machine.memory().tagged() as u128 + machine.registers().tagged() as u128,
+    }
 }

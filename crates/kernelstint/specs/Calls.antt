@@ -2,14 +2,14 @@
 use Rattle.std.specs.Prelude.{◌≡◌, ◌<◌, ◌++◌, ℕ, List, Some, Ok, Err, drop, length}
 use Rattle.byte_machine.specs.Calls.{IsStep, Leads, Refuses}
 use Rattle.byte_machine.specs.LineCalls.{IsCommandOf, IsNoCommand}
-use Rattle.byte_machine.specs.Records.{IsRead, fault_told, reply_read, reply_told, why_told}
+use Rattle.byte_machine.specs.Records.{IsRead, record_of_fault, reply_of_record, record_of_reply, record_of_why}
 use Rattle.byte_machine.specs.declared.commands.CommandRecord.{CommandRecord}
 use Rattle.byte_machine.specs.declared.fault.CallFault.{CallFault}
 use Rattle.byte_machine.specs.declared.fault.CallFault.TheVariants as fault
 use Rattle.byte_machine.specs.declared.faults.FaultRecord.{FaultRecord}
 use Rattle.byte_machine.specs.declared.reasons.WhyRecord.{WhyRecord}
 use Rattle.byte_machine.specs.declared.replies.ReplyRecord.{ReplyRecord}
-use Rattle.heap_machine.specs.Follow.{Follows}
+use Rattle.machine_steps.specs.Follow.{Follows}
 use Rattle.heap_machine.specs.declared.followed.Why.{Why}
 use Rattle.heap_reply.specs.declared.reply.Reply.{Reply}
 use Rattle.trace_text.specs.Reading.{Script, fault_at, trace_of}
@@ -42,13 +42,13 @@ pub record IsHostStep (old : List ℕ) (given : CommandRecord) (told : ReplyReco
   pub command : Command
   pub reply : Reply
   pub command_is : IsRead given (Some command)
-  pub reply_is : told ≡ reply_told reply
+  pub reply_is : told ≡ record_of_reply reply
   pub step : IsStep old command reply new
 
 -- The command and the answer of two records.
 pub record AreRead (given : CommandRecord) (answered : ReplyRecord) (command : Command) (answer : Reply) : Type 0 where
   pub command_is : IsRead given (Some command)
-  pub answer_is : reply_read answered ≡ Some answer
+  pub answer_is : reply_of_record answered ≡ Some answer
 
 -- The command of a record may be answered by that of another, and then leads from the old bytes to the new ones.
 pub record IsHostFollow (old : List ℕ) (given : CommandRecord) (answered : ReplyRecord) (new : List ℕ) : Type 0 where
@@ -64,7 +64,7 @@ pub record IsHostRefusal (old : List ℕ) (given : CommandRecord) (answered : Re
   pub reason : Why
   pub read : AreRead given answered command answer
   pub refused : Refuses old command answer reason
-  pub told_is : told ≡ why_told reason
+  pub told_is : told ≡ record_of_why reason
 
 -- All of a text was written where a room begins, in so many bytes.
 pub record IsWritten (IsText : List ℕ → Type 0) (before after : List ℕ) (count : ℕ) : Type 0 where
@@ -89,7 +89,7 @@ pub record IsFaulty (text : List ℕ) : Type 0 where
 pub record HasFaultOfText (text : List ℕ) (told : FaultRecord) : Type 0 where
   pub fault : TraceFault
   pub fault_is : trace_of text ≡ Err fault
-  pub told_is : told ≡ fault_told fault
+  pub told_is : told ≡ record_of_fault fault
 
 -- A text is a trace.
 pub record IsTraceText (text : List ℕ) : Type 0 where
@@ -100,7 +100,7 @@ pub record IsTraceText (text : List ℕ) : Type 0 where
 pub record HasFaultOfLine (line : List ℕ) (told : FaultRecord) : Type 0 where
   pub wrong : LineFault
   pub is_none : IsNoCommand line (fault.Line wrong)
-  pub told_is : told ≡ fault_told (fault_at 1 wrong)
+  pub told_is : told ≡ record_of_fault (fault_at 1 wrong)
 
 -- A line is a command.
 pub record IsCommandLine (line : List ℕ) : Type 0 where

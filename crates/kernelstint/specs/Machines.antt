@@ -1,13 +1,13 @@
 -- What calls on a machine answer that C holds: by the machine behind its handle.
 use Rattle.std.specs.Prelude.{◌≡◌, ℕ, List, Option, Some}
 use Rattle.byte_machine.specs.Calls.{IsTextOf}
-use Rattle.byte_machine.specs.Records.{IsRead, reply_told}
+use Rattle.byte_machine.specs.Records.{IsRead, record_of_reply}
 use Rattle.byte_machine.specs.declared.commands.CommandRecord.{CommandRecord}
 use Rattle.byte_machine.specs.declared.replies.ReplyRecord.{ReplyRecord}
-use Rattle.heap_machine.specs.Dirty.{dirty_after}
-use Rattle.heap_machine.specs.Parts.{MachineState}
-use Rattle.heap_machine.specs.Safety.{IsUnused, LeavesInUse}
-use Rattle.heap_machine.specs.Step.{Step}
+use Rattle.machine_steps.specs.Dirty.{dirty_after}
+use Rattle.heap_machine.specs.Storage.{MachineState}
+use Rattle.machine_steps.specs.Safety.{IsUnused, LeavesInUse}
+use Rattle.machine_steps.specs.Step.{Step}
 use Rattle.heap_reply.specs.declared.reply.Reply.{Reply}
 use Rattle.state_bytes.specs.State.{AreExact, IsSameState}
 use Rattle.state_bytes.specs.Text.{text_of}
@@ -36,7 +36,7 @@ pub record IsMachineStep (old : Option MachineState) (given : CommandRecord) (to
   pub old_is : old ≡ Some from
   pub new_is : new ≡ Some to
   pub command_is : IsRead given (Some command)
-  pub reply_is : told ≡ reply_told reply
+  pub reply_is : told ≡ record_of_reply reply
   pub step : Step from.state command reply to.state
   pub dirty : to.dirty ≡ dirty_after from.state command from.dirty
   pub unused : IsUnused from.state command reply

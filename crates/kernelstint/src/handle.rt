@@ -1,7 +1,7 @@
 //! The handle by which C holds a machine: the pointer of its box, or null.
 
 ghost use Rattle.std.specs.Prelude.{◌≡◌, ◌≢◌, Option, Some, None};
-ghost use Rattle.heap_machine.specs.Parts.{MachineState};
+ghost use Rattle.heap_machine.specs.Storage.{MachineState};
 
 use heap_machine::Machine;
 use loose_box::LooseBox;

@@ -3,7 +3,7 @@
 ghost use Rattle.std.specs.Prelude.{◌≡◌, ◌≢◌, ◌↔◌, None, false, length, true};
 ghost use Rattle.byte_machine.specs.Calls.{IsFirst, IsNotFirst, IsUnreadable};
 ghost use Rattle.byte_machine.specs.LineCalls.{IsLineStep, IsNoLineStep};
-ghost use Rattle.byte_machine.specs.Records.{IsRead, reply_read};
+ghost use Rattle.byte_machine.specs.Records.{IsRead, reply_of_record};
 ghost use Rattle.state_bytes.specs.Text.{text_length};
 ghost use Rattle.tag_memory.specs.Extent.{is_size};
 ghost use Rattle.kernelstint.specs.Calls.{HasFault, IsHostFollow, IsHostRefusal, IsHostStep};
@@ -94,7 +94,7 @@ pub extern "C" fn kernelstint_proved_follow(
     ensures still { result ≢ done → out.new ≡ out.old }
     ensures untold { result ≢ differs → why.new ≡ why.old }
     ensures command { (result ≡ bad_command) ↔ IsRead command None }
-    ensures reply { result ≢ bad_command → (result ≡ bad_reply) ↔ (reply_read answer ≡ None) }
+    ensures reply { result ≢ bad_command → (result ≡ bad_reply) ↔ (reply_of_record answer ≡ None) }
     ensures room { result ≡ bad_room → length out.old ≢ length state.now }
     ensures measured { length out.old ≢ length state.now → result ≢ bad_command → result ≢ bad_reply → result ≡ bad_room }
     ensures fault { result ≢ done → result ≢ differs → result ≢ bad_command → result ≢ bad_reply

@@ -12,7 +12,7 @@ use crate::handle::MachineHandle;
 use byte_machine::{
     CommandRecord, ReplyRecord, command_of, copy_of, machine_in, put_state, reply_record,
 };
-use state_bytes::exactness;
+use state_bytes::exact_blocks_law;
 use std::alloc::Global;
 use sweep_pool::Open;
 
@@ -54,12 +54,12 @@ pub extern "C" fn kernelstint_proved_machine_step(
     ensures command { (result ≡ bad_command) ↔ IsRead command None }
     ensures memory { result ≢ done → result ≢ bad_command → result ≡ no_memory }
 {
-    exactness();
+    exact_blocks_law();
     let Some(command) = command_of(command) else {
         return BAD_COMMAND;
     };
     let mut held = machine.take(alloc);
-    held.whole();
+    held.invariant();
     let answered = held.step_alone(alloc, command, &Open);
     machine.put(held);
     match answered {

@@ -3,8 +3,8 @@
 ghost use Rattle.std.specs.Prelude.{◌≡◌, ◌<◌, ◌≤◌, ◌+◌, ◌-◌, ◌%◌, ◌/◌, ◌^◌, ◌↔◌, IsTrue, ℕ, bit_and, false};
 ghost use Rattle.cap_codec.specs.Fields.{fields_of};
 ghost use Rattle.cap_codec.specs.Mantissas.{exponent_of};
-ghost use Rattle.cap_codec.specs.Rounding.{IsExact, IsExponent, IsNearExponent, length_for, outward, round_up, unit_for, with_bounds_of};
-ghost use Rattle.cap_codec.specs.Words.{bounds_in, capability_of, is_exact, keeps_bounds, narrowed, with_address, with_perms};
+ghost use Rattle.cap_codec.specs.Rounding.{IsExact, IsExponent, IsNearExponent, length_for, outward_bounds, round_up, unit_for, with_bounds_of};
+ghost use Rattle.cap_codec.specs.Words.{bounds_in, capability_of, is_exact, keeps_bounds, narrowed_word, with_address, with_perms};
 ghost use Rattle.kernelstint.specs.Codes.{bad_bounds, code_of, done};
 ghost use Rattle.kernelstint.specs.Crossing.{are_bounds, bounds_from, length_of, top_of, word_from};
 
@@ -38,9 +38,9 @@ pub extern "C" fn kernelstint_with_bounds(word: HostWord, bounds: HostBounds) ->
     ensures fields { result.code ≡ done → fields_of (word_from result.word)
         ≡ with_bounds_of (fields_of (word_from word)) bounds.base (top_of bounds) }
     ensures word { result.code ≡ done → word_from result.word
-        ≡ narrowed (word_from word) bounds.base (top_of bounds) }
+        ≡ narrowed_word (word_from word) bounds.base (top_of bounds) }
     ensures bounds { result.code ≡ done → bounds_in (word_from result.word)
-        ≡ outward bounds.base (top_of bounds) }
+        ≡ outward_bounds bounds.base (top_of bounds) }
     ensures limit { result.code ≡ done → (bounds_in (word_from result.word)).top ≤ 2 ^ 64 }
     ensures exact { result.code ≡ done → IsTrue result.exact ↔ IsExact bounds.base (top_of bounds) }
     ensures flag { result.code ≡ done → result.exact ≡ is_exact bounds.base (top_of bounds) }

@@ -2,12 +2,12 @@
 
 ghost use Rattle.std.specs.Prelude.{◌≡◌, ◌≢◌, length};
 ghost use Rattle.byte_machine.specs.Runs.{IsReportOf};
-ghost use Rattle.state_text.specs.States.{IsDataOf};
+ghost use Rattle.state_data.specs.States.{IsDataOf};
 ghost use Rattle.kernelstint.specs.Calls.{IsFaulty, IsTooLong, IsWritten};
 ghost use Rattle.kernelstint.specs.Codes.{bad_trace, done, no_memory, short_text};
 
 use crate::codes::{BAD_TRACE, DONE, NO_MEMORY, SHORT_TEXT};
-use byte_machine::{put_whole, run_report, run_states};
+use byte_machine::{put_all, run_report, run_states};
 use heap_trace::RunFault;
 use std::alloc::Global;
 
@@ -28,7 +28,7 @@ pub extern "C" fn kernelstint_proved_run(
     ensures memory { result ≢ done → result ≢ short_text → result ≢ bad_trace → result ≡ no_memory }
 {
     match run_report(alloc, trace) {
-        Ok(report) => match put_whole(&report, out) {
+        Ok(report) => match put_all(&report, out) {
             Ok(length) => {
                 *count = length;
                 DONE
@@ -59,7 +59,7 @@ pub extern "C" fn kernelstint_proved_states(
     ensures memory { result ≢ done → result ≢ short_text → result ≢ bad_trace → result ≡ no_memory }
 {
     match run_states(alloc, trace) {
-        Ok(states) => match put_whole(&states, out) {
+        Ok(states) => match put_all(&states, out) {
             Ok(length) => {
                 *count = length;
                 DONE

@@ -1,3 +1,3 @@
-pub mod AnswerWords
+pub mod ReplyWords
 pub mod Numerals
 pub mod Texts

@@ -14,7 +14,7 @@ use Rattle.std.proofs.lemmas.Slice.Eq.{bytes_eq-Decides}
 use Rattle.std.proofs.lemmas.Str.Parse.{IsNumeralModel, numerals_by_value, tells_digits}
 use Rattle.heap_reply.specs.HexadecimalLaws.{digits_length, digits_step}
 use Rattle.trace_text.specs.Reading.{all_digits_in, are_digits, has_leading_zero, number_of, numeral_of}
-use Rattle.log_text.specs.Answer.{written}
+use Rattle.log_text.specs.ReplyText.{number_in_radix}
 
 pub and_true : (a b : Bool) → (a && b) ≡ true → (a ≡ true) × (b ≡ true)
 and_true true b h = (refl, h)
@@ -107,14 +107,14 @@ module _ (base : ℕ) (low : 2 ≤ base) (high : base ≤ 16) where
 
   -- ---- a word as what is written
 
-  pub written-is : (limit n : ℕ) (word : List ℕ) → n < limit → limit ≤ base ^ 64 → word ≡ digits base false n → written base limit word ≡ Some n
+  pub written-is : (limit n : ℕ) (word : List ℕ) → n < limit → limit ≤ base ^ 64 → word ≡ digits base false n → number_in_radix base limit word ≡ Some n
   written-is limit n word lt room is =
       let value : digits_value base (digits base false n) ≡ n = (digits_are n (omega (arith, lt, room))).2 in
       let fits : nat_lt n limit ≡ true = grind (arith, nat_tests, lt) in
       let same : bytes_eq (digits base false n) (digits base false n) ≡ true = (bytes_eq-Decides (digits base false n) (digits base false n)).1 refl in
-      ap (written base limit) is ∙ rw (value, fits, same) refl
+      ap (number_in_radix base limit) is ∙ rw (value, fits, same) refl
 
-  pub written-read : (limit n : ℕ) (word : List ℕ) → written base limit word ≡ Some n → (n < limit) × (word ≡ digits base false n)
+  pub written-read : (limit n : ℕ) (word : List ℕ) → number_in_radix base limit word ≡ Some n → (n < limit) × (word ≡ digits base false n)
   written-read limit n word e =
       let value = digits_value base word in
       let tests = when (nat_lt value limit && bytes_eq (digits base false value) word) value n e in
@@ -122,9 +122,9 @@ module _ (base : ℕ) (low : 2 ≤ base) (high : base ≤ 16) where
       (grind (arith, nat_tests, both.0, tests.1), sym (same_bytes (digits base false value) word both.1) ∙ ap (digits base false) tests.1)
 
   -- a word that is written of no number
-  pub written-none : (limit : ℕ) (word : List ℕ) → ((n : ℕ) → n < limit → word ≡ digits base false n → ⊥) → written base limit word ≡ None
-  written-none limit word never = go (written base limit word) refl where
-    go : (found : Option ℕ) → written base limit word ≡ found → found ≡ None
+  pub written-none : (limit : ℕ) (word : List ℕ) → ((n : ℕ) → n < limit → word ≡ digits base false n → ⊥) → number_in_radix base limit word ≡ None
+  written-none limit word never = go (number_in_radix base limit word) refl where
+    go : (found : Option ℕ) → number_in_radix base limit word ≡ found → found ≡ None
     go None e = refl
     go (Some n) e = let is = written-read limit n word e in absurd (never n is.0 is.1)
 
@@ -172,28 +172,28 @@ limit_within most few = pow16_le most 64 (omega arith)
 
 -- all digits are read
 pub digits_read : (most value : ℕ) (ds : List ℕ) (i : ℕ) → 0 < length ds → length ds ≤ most → most ≤ 32 → i ≡ length ds → value < 16 ^ i → (0 < i → digits 16 false value ≡ take i ds)
-    → (value < 16 ^ most) × (written 16 (16 ^ most) ds ≡ Some value)
+    → (value < 16 ^ most) × (number_in_radix 16 (16 ^ most) ds ≡ Some value)
 digits_read most value ds i some within few all below is =
     let small : value < 16 ^ most = omega (arith, pow16_le i most (omega arith)) in
     (small, written-is 16 (omega arith) (omega arith) (16 ^ most) value ds small (limit_within most few) (sym (take_all i ds (omega arith)) ∙ sym (is (omega arith))))
 
 -- words that aren't written of a number of so many digits: none, too many, zeros at the front, and another byte
-pub none_written : (most : ℕ) → most ≤ 32 → written 16 (16 ^ most) [] ≡ None
+pub none_written : (most : ℕ) → most ≤ 32 → number_in_radix 16 (16 ^ most) [] ≡ None
 none_written most few = written-none 16 (omega arith) (omega arith) (16 ^ most) [] (λ n lt is.
     let some = (digits_are 16 (omega arith) (omega arith) n (omega (arith, lt, limit_within most few))).0 in
     omega (arith, some, ap length is))
 
-pub long_written : (most : ℕ) (ds : List ℕ) → 0 < most → most ≤ 32 → most < length ds → written 16 (16 ^ most) ds ≡ None
+pub long_written : (most : ℕ) (ds : List ℕ) → 0 < most → most ≤ 32 → most < length ds → number_in_radix 16 (16 ^ most) ds ≡ None
 long_written most ds some few long = written-none 16 (omega arith) (omega arith) (16 ^ most) ds (λ n lt is.
     omega (arith, digits_length 16 false (omega arith) most n some lt (omega (arith, lt, limit_within most few)), ap length is))
 
-pub zero_written : (base : ℕ) (low : 2 ≤ base) (high : base ≤ 16) (limit : ℕ) (ds : List ℕ) → limit ≤ base ^ 64 → has_leading_zero ds ≡ true → written base limit ds ≡ None
+pub zero_written : (base : ℕ) (low : 2 ≤ base) (high : base ≤ 16) (limit : ℕ) (ds : List ℕ) → limit ≤ base ^ 64 → has_leading_zero ds ≡ true → number_in_radix base limit ds ≡ None
 zero_written base low high limit ds room zeros = written-none base low high limit ds (λ n lt is.
     let plain = digits-plain base low high n (omega (arith, lt, room)) in
     let clash : has_leading_zero ds ≡ false = ap has_leading_zero is ∙ plain in
     absurd cc)
 
-pub other_written : (most : ℕ) (ds : List ℕ) (i : ℕ) → most ≤ 32 → i < length ds → ((digit : ℕ) → digit < 16 → digit_glyph false digit ≢ get_or ds i 0) → written 16 (16 ^ most) ds ≡ None
+pub other_written : (most : ℕ) (ds : List ℕ) (i : ℕ) → most ≤ 32 → i < length ds → ((digit : ℕ) → digit < 16 → digit_glyph false digit ≢ get_or ds i 0) → number_in_radix 16 (16 ^ most) ds ≡ None
 other_written most ds i few lt other = written-none 16 (omega arith) (omega arith) (16 ^ most) ds (λ n small is.
     let glyph = digits-glyph 16 (omega arith) (omega arith) n i (omega (arith, lt, ap length is)) in
     other glyph.0 glyph.1 (glyph.2 ∙ ap (λ bytes. get_or bytes i 0) (sym is)))
@@ -258,11 +258,11 @@ digits-number_of n word plain e =
     let text : digits 10 false value ≡ word = decimal-digits_value own word (all_digits_are word rest.1) some (only_zero word plain some) fits in
     (omega (arith, fits, tests.1), sym text ∙ ap (digits 10 false) tests.1)
 
-pub decimal_none : (most : ℕ) (word : List ℕ) → most < 2 ^ 64 → has_leading_zero word ≡ false → number_of word ≡ None → written 10 (most + 1) word ≡ None
+pub decimal_none : (most : ℕ) (word : List ℕ) → most < 2 ^ 64 → has_leading_zero word ≡ false → number_of word ≡ None → number_in_radix 10 (most + 1) word ≡ None
 decimal_none most word fits plain none = written-none 10 (omega arith) (omega arith) (most + 1) word (λ n lt is.
     let some : number_of word ≡ Some n = ap number_of is ∙ number_of-digits n (omega (arith, lt, fits)) in
     absurd cc)
 
-pub decimal_some : (most n : ℕ) (word : List ℕ) → most < 2 ^ 64 → has_leading_zero word ≡ false → number_of word ≡ Some n → n ≤ most → written 10 (most + 1) word ≡ Some n
+pub decimal_some : (most n : ℕ) (word : List ℕ) → most < 2 ^ 64 → has_leading_zero word ≡ false → number_of word ≡ Some n → n ≤ most → number_in_radix 10 (most + 1) word ≡ Some n
 decimal_some most n word fits plain some le =
     written-is 10 (omega arith) (omega arith) (most + 1) n word (omega arith) (omega (arith, fits)) (digits-number_of n word plain some).1

@@ -10,7 +10,7 @@ use Rattle.log_text.specs.declared.log.Event.{Event}
 use Rattle.log_text.specs.declared.log.Given.{Given}
 use Rattle.log_text.specs.declared.fault.LogFault.{LogFault}
 use Rattle.log_text.specs.declared.fault.LogFault.TheVariants.{Trace}
-use Rattle.log_text.specs.Log.{Fails, Start, early_at, event_at, events_from, givens_from, listed, started}
+use Rattle.log_text.specs.Log.{Fails, Start, early_at, event_at, events_from, givens_from, listed_event, start_with}
 
 -- a call that answers the fault that was read
 pub fails_with : {Y : Type 0} (fault : LogFault) (read : Result Y LogFault) → read ≡ Err fault → Fails fault read
@@ -23,7 +23,7 @@ abbrev pub with_givens : List (ℕ × Given) → Result Start LogFault → Resul
 with_givens front read = read >>= λ start. Ok (record { givens = front ++ start.givens; next = start.next; rest = start.rest })
 
 abbrev starts : List (ℕ × Given) → ℕ → List ℕ → List ℕ → Result Early LogFault → Result Start LogFault
-starts front number line rest read = with_givens front (read >>= started number (line ∷ lines_of rest) (givens_from (number + 1) (lines_of rest)))
+starts front number line rest read = with_givens front (read >>= start_with number (line ∷ lines_of rest) (givens_from (number + 1) (lines_of rest)))
 
 givens_step : (front : List (ℕ × Given)) (number : ℕ) (text line rest : List ℕ) (read : Result Early LogFault) → lines_of text ≡ line ∷ lines_of rest
     → read ≡ early_at number (words_of line) → with_givens front (givens_from number (lines_of text)) ≡ starts front number line rest read
@@ -78,7 +78,7 @@ abbrev pub with_front : List (ℕ × Event) → Result (List (ℕ × Event)) Log
 with_front front read = read >>= λ list. Ok (front ++ list)
 
 abbrev lists : List (ℕ × Event) → ℕ → List (List ℕ) → Result (Option Event) LogFault → Result (List (ℕ × Event)) LogFault
-lists front number lines read = with_front front (read >>= λ event. events_from (number + 1) lines >>= λ list. Ok (listed number event ++ list))
+lists front number lines read = with_front front (read >>= λ event. events_from (number + 1) lines >>= λ list. Ok (listed_event number event ++ list))
 
 events_step : (front : List (ℕ × Event)) (number : ℕ) (text line rest : List ℕ) (read : Result (Option Event) LogFault) → lines_of text ≡ line ∷ lines_of rest
     → read ≡ event_at number (words_of line) → with_front front (events_from number (lines_of text)) ≡ lists front number (lines_of rest) read
@@ -87,13 +87,13 @@ events_step front number text line rest read cut is =
     ap (λ lines. with_front front (events_from number lines)) cut ∙ ap (lists front number (lines_of rest)) (sym is)
 
 regroup : (front : List (ℕ × Event)) (number : ℕ) (event : Option Event) (read : Result (List (ℕ × Event)) LogFault)
-    → with_front (front ++ listed number event) read ≡ with_front front (read >>= λ list. Ok (listed number event ++ list))
-regroup front number event (Ok list) = ap Ok (append_assoc front (listed number event) list)
+    → with_front (front ++ listed_event number event) read ≡ with_front front (read >>= λ list. Ok (listed_event number event ++ list))
+regroup front number event (Ok list) = ap Ok (append_assoc front (listed_event number event) list)
 regroup front number event (Err fault) = refl
 
 pub events_go_on : (front : List (ℕ × Event)) (number : ℕ) (text line rest : List ℕ) (event : Option Event) (total : Result (List (ℕ × Event)) LogFault)
     → lines_of text ≡ line ∷ lines_of rest → Ok event ≡ event_at number (words_of line) → with_front front (events_from number (lines_of text)) ≡ total
-    → with_front (front ++ listed number event) (events_from (number + 1) (lines_of rest)) ≡ total
+    → with_front (front ++ listed_event number event) (events_from (number + 1) (lines_of rest)) ≡ total
 events_go_on front number text line rest event total cut is told =
     regroup front number event (events_from (number + 1) (lines_of rest)) ∙ sym (events_step front number text line rest (Ok event) cut is) ∙ told
 

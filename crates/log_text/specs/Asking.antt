@@ -7,12 +7,12 @@ use Rattle.log_text.specs.declared.event.Asked.{Asked}
 use Rattle.log_text.specs.declared.fault.LogFault.{LogFault}
 use Rattle.log_text.specs.declared.log.Event.{Event}
 use Rattle.log_text.specs.declared.text.Start.{Start}
-use Rattle.log_text.specs.Log.{IsListedGiven, IsValidAsked, beginning_of, event_at, told_of}
+use Rattle.log_text.specs.Log.{IsListedGiven, IsValidAsked, beginning_of, event_at, event_of_answer}
 
 -- Whatever its answer tells, the line with these words is an event of just that.
 pub record Asks (words : List (List ℕ)) (asked : Asked) (told : List ℕ) : Type 0 where
   pub valid : IsValidAsked asked
-  pub reads : (number : ℕ) (event : Event) → told_of asked (words_of told) ≡ Some event → event_at number words ≡ Ok (Some event)
+  pub reads : (number : ℕ) (event : Event) → event_of_answer asked (words_of told) ≡ Some event → event_at number words ≡ Ok (Some event)
 
 -- A line with these words is passed over, or asks this, and then comes its answer.
 abbrev pub IsAskedLine : List (List ℕ) → Option (Asked × List ℕ) → Type 0

@@ -1,4 +1,4 @@
-pub mod Answer
+pub mod ReplyText
 pub mod Asking
 pub mod Fault
 pub mod Log

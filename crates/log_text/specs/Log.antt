@@ -22,16 +22,16 @@ use Rattle.log_text.specs.declared.log.Given.TheVariants.{Epoch, Granule, Live, 
 use Rattle.log_text.specs.declared.log.Log.{Log}
 use Rattle.log_text.specs.declared.fault.LogFault.{LogFault}
 use Rattle.log_text.specs.declared.fault.LogFault.TheVariants.{BadAnswer, Trace}
-use Rattle.log_text.specs.Answer.{answer_of, bit_in}
+use Rattle.log_text.specs.ReplyText.{reply_in, bit_in}
 
 -- The most bytes that the text of a log has.
 abbrev pub longest_log : ℕ
 longest_log = 16777216
 
 -- what a fault of a trace is in a log
-abbrev pub traced : {A : Type 0} → Result A TraceFault → Result A LogFault
-traced (Ok x) = Ok x
-traced (Err fault) = Err (Trace fault)
+abbrev pub as_log_fault : {A : Type 0} → Result A TraceFault → Result A LogFault
+as_log_fault (Ok x) = Ok x
+as_log_fault (Err fault) = Err (Trace fault)
 
 -- what was read of the words of the line with this number
 abbrev pub on_line : {A : Type 0} → ℕ → Result A LineFault → Result A LogFault
@@ -75,16 +75,16 @@ pub record Start : Type 0 where
   pub rest : List (List ℕ)
 
 -- what a line says, and what later lines give
-abbrev pub started : ℕ → List (List ℕ) → Result Start LogFault → Early → Result Start LogFault
-started number lines later early.Passed = later
-started number lines later (early.Given given) = later >>= λ start. Ok (record { givens = (number, given) ∷ start.givens; next = start.next; rest = start.rest })
-started number lines later early.Event = Ok (record { givens = []; next = number; rest = lines })
+abbrev pub start_with : ℕ → List (List ℕ) → Result Start LogFault → Early → Result Start LogFault
+start_with number lines later early.Passed = later
+start_with number lines later (early.Given given) = later >>= λ start. Ok (record { givens = (number, given) ∷ start.givens; next = start.next; rest = start.rest })
+start_with number lines later early.Event = Ok (record { givens = []; next = number; rest = lines })
 
 -- lines after the heap line up to the first event, numbered from here on
 unfoldable pub givens_from : ℕ → List (List ℕ) → Result Start LogFault
 givens_from number [] = Ok (record { givens = []; next = number; rest = [] })
 givens_from number (line ∷ lines) =
-    early_at number (words_of line) >>= started number (line ∷ lines) (givens_from (number + 1) lines)
+    early_at number (words_of line) >>= start_with number (line ∷ lines) (givens_from (number + 1) lines)
 
 -- ---- events
 
@@ -108,15 +108,15 @@ unfoldable pub content_in : List (List ℕ) → Option (Bool × List ℕ)
 content_in words = result_ok (two_of tag_in data_in words)
 
 -- the words of an answer to this
-unfoldable pub told_of : Asked → List (List ℕ) → Option Event
-told_of (asked.Granule address) words = option_map (λ content. Seen address content.0 content.1) (content_in words)
-told_of (asked.Command command) words = option_map (Done command) (answer_of words)
+unfoldable pub event_of_answer : Asked → List (List ℕ) → Option Event
+event_of_answer (asked.Granule address) words = option_map (λ content. Seen address content.0 content.1) (content_in words)
+event_of_answer (asked.Command command) words = option_map (Done command) (reply_in words)
 
 -- the words of the line with this number, and its parts: what is wrong with the operands comes before an answer that lacks
 unfoldable pub event_of : ℕ → List ℕ → List (List ℕ) → Option (List (List ℕ) × List (List ℕ)) → Result Event LogFault
 event_of number name words parts = do
   asked ← on_line number (asked_of name (operands_in words parts))
-  ok_or (option_and_then (λ both. told_of asked both.1) parts) (BadAnswer number)
+  ok_or (option_and_then (λ both. event_of_answer asked both.1) parts) (BadAnswer number)
 
 -- what a line after the given lines is: nothing, an event, or a fault
 unfoldable pub event_at : ℕ → List (List ℕ) → Result (Option Event) LogFault
@@ -126,14 +126,14 @@ event_at number (name ∷ words) =
     else (event_of number name words (split_at_first arrow words) >>= λ event. Ok (Some event))
 
 -- the event that a line gives, with the line's number
-abbrev pub listed : ℕ → Option Event → List (ℕ × Event)
-listed number None = []
-listed number (Some event) = (number, event) ∷ []
+abbrev pub listed_event : ℕ → Option Event → List (ℕ × Event)
+listed_event number None = []
+listed_event number (Some event) = (number, event) ∷ []
 
 -- the line of the first of them that passes the test
 abbrev pub first_line : {A : Type 0} → (A → Bool) → List (ℕ × A) → Option ℕ
 first_line test [] = None
-first_line test (listed ∷ rest) = if test listed.1 then Some listed.0 else first_line test rest
+first_line test (listed_event ∷ rest) = if test listed_event.1 then Some listed_event.0 else first_line test rest
 
 -- lines after the given lines, numbered from here on
 unfoldable pub events_from : ℕ → List (List ℕ) → Result (List (ℕ × Event)) LogFault
@@ -141,7 +141,7 @@ events_from number [] = Ok []
 events_from number (line ∷ lines) = do
   event ← event_at number (words_of line)
   events ← events_from (number + 1) lines
-  Ok (listed number event ++ events)
+  Ok (listed_event number event ++ events)
 
 -- ---- texts
 
@@ -168,7 +168,7 @@ pub record Beginning : Type 0 where
 unfoldable pub beginning_of : List ℕ → Result Beginning LogFault
 beginning_of text =
     if nat_lt longest_log (length text) then Err (Trace TooLong)
-    else (traced (opening_from 1 (lines_of text)) >>= λ o. givens_from o.next o.rest >>= λ s.
+    else (as_log_fault (opening_from 1 (lines_of text)) >>= λ o. givens_from o.next o.rest >>= λ s.
     Ok (record { base = o.base; pages = o.pages; givens = s.givens; next = s.next; rest = s.rest }))
 
 -- the log that a text is, or its fault
@@ -189,7 +189,7 @@ IsValidEarly (early.Given given) = IsValidGiven given
 IsValidEarly line = Unit {0}
 
 abbrev pub IsListedGiven : ℕ × Given → Type 0
-IsListedGiven listed = (listed.0 < 2 ^ 32) × IsValidGiven listed.1
+IsListedGiven listed_event = (listed_event.0 < 2 ^ 32) × IsValidGiven listed_event.1
 
 -- the registers of a command are registers
 abbrev pub IsValidAsked : Asked → Type 0
@@ -201,7 +201,7 @@ IsValidEvent (Done command answer) = IsValid command
 IsValidEvent event = Unit {0}
 
 abbrev pub IsListedEvent : ℕ × Event → Type 0
-IsListedEvent listed = (listed.0 < 2 ^ 32) × IsValidEvent listed.1
+IsListedEvent listed_event = (listed_event.0 < 2 ^ 32) × IsValidEvent listed_event.1
 
 -- ---- calls
 

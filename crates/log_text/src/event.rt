@@ -3,12 +3,12 @@
 ghost use Rattle.std.specs.Prelude.{◌≡◌, ℕ, List, IfOk, IfSome};
 ghost use Rattle.trace_text.specs.Lines.{words_of};
 ghost use Rattle.trace_text.specs.Reading.{number_in, one_of};
-ghost use Rattle.log_text.specs.Log.{IsValidAsked, IsValidEvent, asked_of, content_in, event_at, event_of, told_of};
+ghost use Rattle.log_text.specs.Log.{IsValidAsked, IsValidEvent, asked_of, content_in, event_at, event_of, event_of_answer};
 
 use crate::fault::LogFault;
 use crate::given::tag;
 use crate::log::Event;
-use crate::told::answer;
+use crate::replies::reply;
 use trace_text::{
     Command, Line, LineFault, command, data, one_word, operand_number, split_name, two_words,
 };
@@ -57,9 +57,9 @@ fn content(line: &Line<'_>) -> Option<(bool, [u8; 16])>
 }
 
 /// What was asked, with what these words answer. None where they are no answer to it.
-#[tactic(auto, unfolding(crate::specs::Log::told_of))]
-pub fn event_told(asked: Asked, line: &Line<'_>) -> Option<Event>
-    ensures value { result ≡ told_of asked (words_of line.now) }
+#[tactic(auto, unfolding(crate::specs::Log::event_of_answer))]
+pub fn event_of_answer(asked: Asked, line: &Line<'_>) -> Option<Event>
+    ensures value { result ≡ event_of_answer asked (words_of line.now) }
     ensures valid { IsValidAsked asked → IfSome result IsValidEvent }
 {
     match asked {
@@ -72,7 +72,7 @@ pub fn event_told(asked: Asked, line: &Line<'_>) -> Option<Event>
             })
         }
         Asked::Command(command) => {
-            let answer = answer(line)?;
+            let answer = reply(line)?;
             Some(Event::Done { command, answer })
         }
     }
@@ -93,7 +93,7 @@ fn answered(
         Ok(asked) => asked,
         Err(fault) => return Err(LogFault::Trace(fault.at_line(number))),
     };
-    event_told(asked, line).ok_or(LogFault::BadAnswer(number))
+    event_of_answer(asked, line).ok_or(LogFault::BadAnswer(number))
 }
 
 // What is wrong with a line without an arrow: its words, or that the answer lacks.

@@ -8,7 +8,7 @@ ghost use Rattle.log_text.specs.Log.{IsValidEarly, IsValidGiven, early_at, given
 
 use crate::fault::LogFault;
 use crate::log::Given;
-use crate::parts::bit;
+use crate::numbers::bit;
 use trace_text::{
     Line, LineFault, data, no_word, operand_number, register, split_name, three_words, two_words,
 };

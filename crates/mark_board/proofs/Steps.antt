@@ -15,11 +15,11 @@ use mathlib.Core.Option.{none, some, some-ne-none}
 use lib.ListN.{get_elem?}
 use Rattle.mark_board.specs.declared.rule.Shape.{Shape}
 use Rattle.mark_board.specs.declared.rule.View.{View}
-use Rattle.mark_board.specs.Bits.{Apart, LiesOnBoard, Within, bit, gains, without}
+use Rattle.mark_board.specs.Bits.{Apart, LiesOnBoard, Within, bit, with_bits, bits_without}
 use Rattle.mark_board.specs.Board.{IsSeat, words_for}
 use Rattle.mark_board.specs.Identity.{BoardId}
 use Rattle.mark_board.specs.Laws.{bit-gains_other, bit-gains_same, bit-none, bit-united, bit-without, gains-keep, length-gains, same_bits}
-use Rattle.mark_board.specs.Rule.{IsHonest, IsLawful, IsLawfulState, Marks, Settles, both_parts, cut_part, first_view, kept_part, marked, seat_of, settled, spent, view}
+use Rattle.mark_board.specs.Rule.{IsHonest, IsLawful, IsLawfulState, Marks, Settles, both_parts, cut_part, first_view, kept_part, marked_view, seat_of, settled_view, spent_view, view}
 use Rattle.mark_board.proofs.Totals.{all_here, total-at, total-set}
 use Rattle.mark_board.proofs.Views.{inside-gains, none-within, own-marked, own-united, without-below, words-gains, words-none, words-united}
 
@@ -86,10 +86,10 @@ module _ (ws : List ℕ) (i k : ℕ) (inside : i < length ws) (v : View) (mine_w
   x = get_or ws i 0
 
   abbrev ws' : List ℕ
-  ws' = gains ws i k
+  ws' = with_bits ws i k
 
   abbrev w : View
-  w = marked v i k x
+  w = marked_view v i k x
 
   -- The total of the bits of `mine` at one place.
   one_place : (a j t t' : ℕ) → Within v.mine v.seen → Within v.seen ws → t' + bit v.mine a j ≡ t + bit w.mine a j → t ≡ bit ws a j → t' ≡ bit ws' a j
@@ -99,7 +99,7 @@ module _ (ws : List ℕ) (i k : ℕ) (inside : i < length ws) (v : View) (mine_w
       let r : t ≡ bit ws i j = subst (λ (z : ℕ). t ≡ bit ws z j) here is in
       subst (λ (z : ℕ). t' ≡ bit ws' z j) (sym here)
       (let g = bit-gains_same ws i k j inside in
-      let m = bit-gains_same v.mine i (without k x) j (omega arith) in
+      let m = bit-gains_same v.mine i (bits_without k x) j (omega arith) in
       let n = bit-without k x j fits word in
       let a1 = own i j in
       let a2 = set i j in
@@ -108,7 +108,7 @@ module _ (ws : List ℕ) (i k : ℕ) (inside : i < length ws) (v : View) (mine_w
       omega arith))
       (λ other.
       let g = bit-gains_other ws i k a j other in
-      let m = bit-gains_other v.mine i (without k x) a j other in
+      let m = bit-gains_other v.mine i (bits_without k x) a j other in
       omega arith)
 
   seen_set : Within v.seen ws → Within w.seen ws'
@@ -136,7 +136,7 @@ module _ (ws : List ℕ) (i k : ℕ) (inside : i < length ws) (v : View) (mine_w
         first = λ a j. one_place a j (sum_by (λ u. bit u.mine a j) views) (sum_by (λ u. bit u.mine a j) (set views id w)) h.own h.set (total-set (λ u. bit u.mine a j) views id v w at) (r.first a j);
         honest = each-set (IsHonest shape ws') views id w
             (record {
-              mine_words = words-gains v.mine i (without k x) (omega arith) (without-below k x fits) h.mine_words;
+              mine_words = words-gains v.mine i (bits_without k x) (omega arith) (without-below k x fits) h.mine_words;
               seen_words = words-gains v.seen i (bit_or x k) (omega arith) (or_lt 64 x k word fits) h.seen_words;
               own = own-marked v.mine v.seen i k x (omega arith) (omega arith) fits word h.own;
               set = seen_set h.set;
@@ -163,7 +163,7 @@ marks shape slots id z me i k there fits mask sound s r _ at small =
     let is = h.known sound.some in
     let wide : length s.words ≡ words_for v.shape.bits = r.width ∙ ap (λ (t : Shape). words_for t.bits) (sym is) in
     let bits : v.shape.bits ≡ shape.bits = ap (λ (t : Shape). t.bits) is in (
-      marked v i k (get_or s.words i 0),
+      marked_view v i k (get_or s.words i 0),
       keeps,
       tt,
       lawful-marked s.words i k (let e = r.width in omega arith) v (sound.mine_width ∙ sym wide) (sound.seen_width ∙ sym wide) fits small shape s.views id sound.some mask r at,
@@ -200,7 +200,7 @@ cuts shape id v more s r at =
           (each-set (IsHonest shape s.words) s.views id l (honest-view shape s.words v (v.parts - 1) (omega arith) (omega arith) h) r.honest);
     }
 
-pub unites : (shape : Shape) (id : ℕ) (v : View) (other : ℕ) (w : View) → 0 < v.parts → Joins (IsLawfulState shape) id v other w (both_parts v w) spent
+pub unites : (shape : Shape) (id : ℕ) (v : View) (other : ℕ) (w : View) → 0 < v.parts → Joins (IsLawfulState shape) id v other w (both_parts v w) spent_view
 unites shape id v other w some_part s r at two at' =
     let both : View = both_parts v w in
     let mid : List View = set s.views id both in
@@ -212,9 +212,9 @@ unites shape id v other w some_part s r at two at' =
     let k = r.honest other w was in
     let apart : Apart v.mine w.mine = λ i j.
     let f : View → ℕ = λ u. bit u.mine i j in
-    let a = total-set f s.views id v spent at in
+    let a = total-set f s.views id v spent_view at in
     let z : bit [] i j ≡ 0 = bit_at-zero j in
-    let b = total-at f (set s.views id spent) other w (kept_else s.views id spent other w two was) in
+    let b = total-at f (set s.views id spent_view) other w (kept_else s.views id spent_view other w two was) in
     let p = r.first i j in
     let c = bit_at-lt (get_or s.words i 0) j in
     omega arith in
@@ -222,17 +222,17 @@ unites shape id v other w some_part s r at two at' =
       width = r.width;
       are_words = r.are_words;
       inside = r.inside;
-      parts = (let a = total-set (λ u. u.parts) s.views id v both at in let b = total-set (λ u. u.parts) mid other w spent at' in let p = r.parts in omega arith);
+      parts = (let a = total-set (λ u. u.parts) s.views id v both at in let b = total-set (λ u. u.parts) mid other w spent_view at' in let p = r.parts in omega arith);
       first = λ i j.
           let f : View → ℕ = λ u. bit u.mine i j in
           let a = total-set f s.views id v both at in
-          let b = total-set f mid other w spent at' in
+          let b = total-set f mid other w spent_view at' in
           let p = r.first i j in
           let z : bit [] i j ≡ 0 = bit_at-zero j in
           let m = bit-united v.mine w.mine i j in
           let d = apart i j in
           omega arith;
-      honest = each-set (IsHonest shape s.words) mid other spent
+      honest = each-set (IsHonest shape s.words) mid other spent_view
           (record {
             mine_words = words-none 0;
             seen_words = words-none 0;
@@ -259,7 +259,7 @@ pub settles : (shape : Shape) (slots id : ℕ) (me : Me (Unit {0}) View) → 0 <
 settles shape slots id me some_part s r _ at _ =
     let v : View = me.0 in
     let h = r.honest id v at in
-    let w : View = settled v in
+    let w : View = settled_view v in
     let known : v.shape.parts ≡ shape.parts = ap (λ (t : Shape). t.parts) (h.known some_part) in (
       w,
       keeps,

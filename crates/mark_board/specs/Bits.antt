@@ -28,15 +28,15 @@ abbrev pub LiesOnBoard : ℕ → List ℕ → Type 0
 LiesOnBoard bits words = (w j : ℕ) → bits ≤ 64 * w + j → bit words w j ≡ 0
 
 -- The set with these bits of word w, too.
-abbrev pub gains : List ℕ → ℕ → ℕ → List ℕ
-gains words w more = slice_set words w (bit_or (slice_index words w) more)
+abbrev pub with_bits : List ℕ → ℕ → ℕ → List ℕ
+with_bits words w more = slice_set words w (bit_or (slice_index words w) more)
 
 -- Both sets together.
-abbrev pub united : List ℕ → List ℕ → List ℕ
-united [] second = second
-united (x ∷ xs) [] = x ∷ xs
-united (x ∷ xs) (y ∷ ys) = bit_or x y ∷ united xs ys
+abbrev pub union : List ℕ → List ℕ → List ℕ
+union [] second = second
+union (x ∷ xs) [] = x ∷ xs
+union (x ∷ xs) (y ∷ ys) = bit_or x y ∷ union xs ys
 
 -- The bits of a mask that a word hasn't.
-abbrev pub without : ℕ → ℕ → ℕ
-without mask word = bit_and mask (bit_not w64 word)
+abbrev pub bits_without : ℕ → ℕ → ℕ
+bits_without mask word = bit_and mask (bit_not w64 word)

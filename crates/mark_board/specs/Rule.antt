@@ -5,7 +5,7 @@ use Rattle.std.specs.Int.{bit_at}
 use Rattle.atomic_table.specs.Table.{Me, State, Step}
 use mathlib.Core.Option.{some}
 use lib.ListN.{get_elem?}
-use Rattle.mark_board.specs.Bits.{Apart, AreWords, LiesOnBoard, Within, bit, gains, united, without}
+use Rattle.mark_board.specs.Bits.{Apart, AreWords, LiesOnBoard, Within, bit, with_bits, union, bits_without}
 use Rattle.mark_board.specs.Board.{IsSeat, SeatState, words_for}
 use Rattle.mark_board.specs.Identity.{BoardId}
 use Rattle.mark_board.specs.declared.rule.Shape.{Shape}
@@ -20,8 +20,8 @@ abbrev pub first_view : Shape → View
 first_view shape = view shape shape.parts (replicate (words_for shape.bits) 0) (replicate (words_for shape.bits) 0)
 
 -- The view of a seat that was joined to another.
-abbrev pub spent : View
-spent = view (record { bits = 0; parts = 0 }) 0 [] []
+abbrev pub spent_view : View
+spent_view = view (record { bits = 0; parts = 0 }) 0 [] []
 
 -- The seat with this view.
 abbrev pub seat_of : BoardId → View → SeatState
@@ -57,24 +57,24 @@ abbrev pub IsLawfulState : Shape → State (Unit {0}) View → Type 0
 IsLawfulState shape s = IsLawful shape s.words s.views
 
 -- The view after a mark of these bits of a word that was found so.
-abbrev pub marked : View → ℕ → ℕ → ℕ → View
-marked v word mask found = view v.shape v.parts (gains v.mine word (without mask found)) (gains v.seen word (bit_or found mask))
+abbrev pub marked_view : View → ℕ → ℕ → ℕ → View
+marked_view v word mask found = view v.shape v.parts (with_bits v.mine word (bits_without mask found)) (with_bits v.seen word (bit_or found mask))
 
 -- What a mark tells: the word found has all that the seat had seen there, and no bit past the board's end.
 abbrev pub Marks : Step (Unit {0}) → Me (Unit {0}) View → ℕ → Me (Unit {0}) View → Type 0
 Marks step me found after = ((j : ℕ) → bit me.0.seen step.word j ≤ bit_at found j)
     × ((j : ℕ) → me.0.shape.bits ≤ 64 * step.word + j → bit_at found j ≡ 0)
-    × (after ≡ (marked me.0 step.word step.first found, me.1))
+    × (after ≡ (marked_view me.0 step.word step.first found, me.1))
 
 -- The view without what it was joined from.
-abbrev pub settled : View → View
-settled v = view v.shape v.parts v.mine v.seen
+abbrev pub settled_view : View → View
+settled_view v = view v.shape v.parts v.mine v.seen
 
 -- What the load after a join tells: the two had no bit in common, and have no more parts than there are.
 abbrev pub Settles : Step (Unit {0}) → Me (Unit {0}) View → ℕ → Me (Unit {0}) View → Type 0
 Settles step me found after = Apart me.0.left me.0.right
     × (me.0.parts ≤ me.0.shape.parts)
-    × (after ≡ (settled me.0, me.1))
+    × (after ≡ (settled_view me.0, me.1))
 
 -- What a split leaves with the seat, and what it gives to the new one.
 abbrev pub kept_part : View → View
@@ -85,4 +85,4 @@ cut_part v = view v.shape 1 (replicate (length v.mine) 0) v.seen
 
 -- Two views made one.
 abbrev pub both_parts : View → View → View
-both_parts v w = record { shape = v.shape; parts = v.parts + w.parts; mine = united v.mine w.mine; seen = united v.seen w.seen; left = v.mine; right = w.mine }
+both_parts v w = record { shape = v.shape; parts = v.parts + w.parts; mine = union v.mine w.mine; seen = union v.seen w.seen; left = v.mine; right = w.mine }

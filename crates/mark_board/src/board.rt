@@ -3,7 +3,7 @@
 ghost use Rattle.std.specs.Prelude.{◌≡◌, ◌↔◌, ◌+◌, ◌<◌, ◌≤◌, ◌^◌, ℕ, IfOk, IsOkUnless, bit_or, false, length, true};
 ghost use Rattle.std.specs.Int.{bit_at};
 ghost use Rattle.std.specs.Slots.{IsFull, slots_items, slots_len};
-ghost use Rattle.mark_board.specs.Bits.{Apart, LiesOnBoard, bit, gains, united, without};
+ghost use Rattle.mark_board.specs.Bits.{Apart, LiesOnBoard, bit, with_bits, union, bits_without};
 ghost use Rattle.mark_board.specs.Board as spec;
 ghost use Rattle.mark_board.specs.Board.{HasAllSeen, IsBoard, IsMaskOf, IsOf, IsSeat, are_parts, first_seat, is_board_size, no_bits, word_count};
 
@@ -46,6 +46,19 @@ impl Model for Board {
 impl Board {
     /// A board of `bits` bits, none of them set, and the seat that has all `parts` parts. It errs with
     /// `BadSize` first, then `BadParts`, and `Memory` last.
+    ///
+    /// ```rust
+    /// use mark_board::Board;
+    ///
+    /// let (board, seat) = Board::new(alloc, 8, 2)?;
+    /// let (mut first, mut second) = board.split(seat);
+    /// assert_eq!(rt; board.mark(&mut first, 0, 0b011), 0b011);
+    /// // Bit 1 was set before.
+    /// assert_eq!(rt; board.mark(&mut second, 0, 0b110), 0b100);
+    /// let seat = board.join(first, second);
+    /// let words = board.finish(alloc, seat)?;
+    /// assert_eq!(rt; words[0], 0b111);
+    /// ```
     pub fn new(alloc: Global, bits: u32, parts: u32) -> Result<(Board, MarkSeat), BoardFault>
         ensures bad_size { (result ≡ Err BoardFault.BadSize) ↔ (is_board_size bits ≡ false) }
         ensures bad_parts { (result ≡ Err BoardFault.BadParts)
@@ -68,7 +81,7 @@ impl Board {
     }
 
     /// Tells what holds of every board. Nothing is done.
-    pub fn whole(&self)
+    pub fn invariant(&self)
         ensures { IsBoard self.now }
     {
         let _ = &self.table;
@@ -99,9 +112,9 @@ impl Board {
         ensures fresh { (j : ℕ) → (bit_at result j + bit seat.old.mine word j ≤ 1)
             × (bit_at result j + bit seat.old.seen word j ≤ 1) }
         ensures found { (found : ℕ) × (found < 2 ^ 64) × HasAllSeen seat.old word found
-            × (result ≡ without mask found)
-            × (seat.new.seen ≡ gains seat.old.seen word (bit_or found mask)) }
-        ensures mine { seat.new.mine ≡ gains seat.old.mine word result }
+            × (result ≡ bits_without mask found)
+            × (seat.new.seen ≡ with_bits seat.old.seen word (bit_or found mask)) }
+        ensures mine { seat.new.mine ≡ with_bits seat.old.mine word result }
         ensures sound { IsSeat seat.new }
     {
         let found = self
@@ -119,7 +132,7 @@ impl Board {
         ensures parts { seat.new.parts ≡ seat.old.parts }
         ensures all_seen { HasAllSeen seat.old word result }
         ensures mine { seat.new.mine ≡ seat.old.mine }
-        ensures seen { seat.new.seen ≡ gains seat.old.seen word result }
+        ensures seen { seat.new.seen ≡ with_bits seat.old.seen word result }
         ensures sound { IsSeat seat.new }
     {
         self.table.shared.fetch_or::<Marks>(&mut seat.seat, word, 0)
@@ -155,8 +168,8 @@ impl Board {
         ensures board { IsOf self.now result }
         ensures parts { result.parts ≡ a.parts + b.parts }
         ensures apart { Apart a.mine b.mine }
-        ensures mine { result.mine ≡ united a.mine b.mine }
-        ensures seen { result.seen ≡ united a.seen b.seen }
+        ensures mine { result.mine ≡ union a.mine b.mine }
+        ensures seen { result.seen ≡ union a.seen b.seen }
         ensures sound { IsSeat result }
     {
         let MarkSeat { mut seat, parts } = a;

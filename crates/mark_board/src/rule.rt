@@ -58,7 +58,7 @@ pub struct Both;
 impl Join<View> for Both {
     ghost both = { spec.both_parts };
 
-    ghost spent = { spec.spent };
+    ghost spent = { spec.spent_view };
 }
 
 /// The load that settles what a join has made.

@@ -1,7 +1,7 @@
 //! The texts of replies.
 
 ghost use Rattle.std.specs.Prelude.{◌≡◌, ◌≤◌, ◌+◌, ◌++◌, length};
-ghost use Rattle.heap_reply.specs.Answer.{answer_text, block_text, shown_text};
+ghost use Rattle.heap_reply.specs.ReplyText.{text_of_reply, block_text, shown_text};
 
 use crate::short_text::ShortText;
 use heap_reply::{Reply, Shown, flag_number};
@@ -19,7 +19,7 @@ fn put_shown(text: &mut ShortText, shown: &Shown)
     text.put(" type ");
     text.put_hexadecimal(u64::from(shown.perms));
     text.put(" perms ");
-    text.put_place(shown.address, shown.base, shown.top);
+    text.put_bounded_address(shown.address, shown.base, shown.top);
     text.put(" ");
     text.put_decimal(u64::from(flag_number(shown.tag)));
     text.put("tag ");
@@ -42,7 +42,7 @@ fn put_bounds(text: &mut ShortText, base: u64, top: u128)
 #[inline(always)]
 pub fn put_reply(text: &mut ShortText, reply: Reply)
     requires room { 200 + length text.old ≤ 256 }
-    ensures text { text.new ≡ answer_text reply ++ text.old }
+    ensures text { text.new ≡ text_of_reply reply ++ text.old }
     ensures length { length text.new ≤ 200 + length text.old }
 {
     put_reply_of(text, &reply);
@@ -52,7 +52,7 @@ pub fn put_reply(text: &mut ShortText, reply: Reply)
 #[inline(always)]
 pub fn put_reply_of(text: &mut ShortText, reply: &Reply)
     requires room { 200 + length text.old ≤ 256 }
-    ensures text { text.new ≡ answer_text reply.now ++ text.old }
+    ensures text { text.new ≡ text_of_reply reply.now ++ text.old }
     ensures length { length text.new ≤ 200 + length text.old }
 {
     match *reply {

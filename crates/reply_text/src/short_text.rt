@@ -3,7 +3,7 @@
 ghost use Rattle.std.specs.Prelude.{◌≡◌, ◌≤◌, ◌+◌, ◌++◌, [], length};
 ghost use Rattle.std.specs.Fmt.{decimal};
 ghost use Rattle.hex.specs.Hex.{encode_lower};
-ghost use Rattle.heap_reply.specs.Display.{hexadecimal_text, place_text};
+ghost use Rattle.heap_reply.specs.Display.{hexadecimal_text, bounded_address_text};
 
 use crate::digits::{write_hexadecimal, write_text, write_wide_hexadecimal};
 use std::marker::Model;
@@ -147,9 +147,9 @@ impl ShortText {
 
     /// Puts an address with bounds.
     #[inline(always)]
-    pub fn put_place(&mut self, address: u64, base: u64, top: u128)
+    pub fn put_bounded_address(&mut self, address: u64, base: u64, top: u128)
         requires room { 89 + length self.old ≤ 256 }
-        ensures text { self.new ≡ place_text address base top ++ self.old }
+        ensures text { self.new ≡ bounded_address_text address base top ++ self.old }
         ensures length { length self.new ≤ 89 + length self.old }
     {
         self.put_wide_hexadecimal(top);

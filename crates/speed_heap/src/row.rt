@@ -55,24 +55,24 @@ fn cut_row(alloc: Global, words: usize) -> Result<FreeRow, AllocError>
 {
     let mut row = FreeRow::new(alloc, words)?;
     let granules = row.granules();
-    row.give(0, granules);
+    row.vacate(0, granules);
     for k in 0..granules / 8 - granules / 256 {
-        take_run(&mut row, k);
+        occupy_run(&mut row, k);
     }
     Ok(row)
 }
 
 // Takes the first 3 to 7 of some 8 granules.
-fn take_run(row: &mut FreeRow, k: usize) {
+fn occupy_run(row: &mut FreeRow, k: usize) {
     if k < row.granules() / 8 {
-        row.take(8 * k, 3 + k % 5);
+        row.occupy(8 * k, 3 + k % 5);
     }
 }
 
 // Gives the first 3 to 7 of some 8 granules back.
-fn give_run(row: &mut FreeRow, k: usize) {
+fn vacate_run(row: &mut FreeRow, k: usize) {
     if k < row.granules() / 8 {
-        row.give(8 * k, 3 + k % 5);
+        row.vacate(8 * k, 3 + k % 5);
     }
 }
 
@@ -83,8 +83,8 @@ fn turn_runs(row: &mut FreeRow) {
     for _ in 0..STEPS {
         seed = stepped(seed);
         let k = (seed >> 33) as usize % runs;
-        give_run(row, k);
-        take_run(row, k);
+        vacate_run(row, k);
+        occupy_run(row, k);
     }
 }
 

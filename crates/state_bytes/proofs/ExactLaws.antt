@@ -5,22 +5,22 @@ use Rattle.std.proofs.lemmas.Bool.{cond_both}
 use Rattle.std.proofs.lemmas.List.Elements.{All-cons, All-contains, All-filter, All-head, All-nil, All-tail}
 use Rattle.cap_codec.specs.Rounding.{IsExact}
 use Rattle.cap_codec.specs.Words.{bounds_in}
-use Rattle.heap_core.specs.Blocks.{Span, blocks_with, end_of, has_bounds, is_block, start_of}
-use Rattle.heap_core.specs.Claim.{IsClaim, IsClaimable}
-use Rattle.heap_core.specs.Found.{blocks_in}
-use Rattle.heap_core.specs.Heap.{HeapState}
-use Rattle.heap_core.specs.Laws.{Contains-block, no_reason}
-use Rattle.heap_core.specs.Place.{with_block}
-use Rattle.heap_core.specs.Quarantine.{freed_of, is_held_block, with_epoch, with_waiting, without_epoch, without_waiting}
-use Rattle.heap_core.specs.declared.block.Claim.{Claim}
-use Rattle.heap_core.specs.declared.block.Claim.TheVariants.{Claimed, Empty, Inexact, Outside, OverHeld, OverLive, Uneven}
-use Rattle.heap_core.specs.declared.block.Freed.{Freed}
-use Rattle.heap_core.specs.declared.block.Freed.TheVariants as freed
+use Rattle.heap_model.specs.Blocks.{Span, blocks_with, end_of, has_bounds, is_block, start_of}
+use Rattle.heap_model.specs.Claim.{IsClaim, IsClaimable}
+use Rattle.heap_model.specs.Found.{blocks_in}
+use Rattle.heap_model.specs.Heap.{HeapState}
+use Rattle.heap_model.specs.Laws.{Contains-block, no_reason}
+use Rattle.heap_model.specs.Place.{with_block}
+use Rattle.heap_model.specs.Quarantine.{freed_of, is_held_block, with_epoch, with_waiting, without_epoch, without_waiting}
+use Rattle.heap_model.specs.declared.block.Claim.{Claim}
+use Rattle.heap_model.specs.declared.block.Claim.TheVariants.{Claimed, Empty, Inexact, Outside, OverHeld, OverLive, Uneven}
+use Rattle.heap_model.specs.declared.block.Freed.{Freed}
+use Rattle.heap_model.specs.declared.block.Freed.TheVariants as after_free
 use Rattle.heap_core.specs.declared.fault.HeapFault.{HeapFault}
-use Rattle.heap_core.specs.declared.block.Kind.TheVariants.{Live, Painted, Waiting}
-use Rattle.heap_machine.specs.Follow.{Allows, Follows, FollowsAfter, MallocAllows, Places}
-use Rattle.heap_machine.specs.State.{State, register}
-use Rattle.heap_machine.specs.Step.{checks, first_failed, freed, swept}
+use Rattle.heap_model.specs.declared.block.Kind.TheVariants.{Live, Painted, Waiting}
+use Rattle.machine_steps.specs.Follow.{Allows, Follows, FollowsAfter, MallocAllows, Places}
+use Rattle.machine_steps.specs.State.{State, register}
+use Rattle.machine_steps.specs.Step.{checks, first_failed, after_free, after_sweep}
 use Rattle.heap_reply.specs.declared.reply.Reply.{Reply}
 use Rattle.heap_reply.specs.declared.reply.Reply.TheVariants.{Block, BlockAfter, NoSpace, NoSpaceAfter, Held, Done, Cleared, Swept, Begun, Shown, Trap}
 use Rattle.heap_reply.specs.declared.reply.Trap.{Trap as TheTrap}
@@ -122,12 +122,12 @@ claim_stays s base top (OverHeld block) new is = stays s new s is.1 refl refl
 
 -- ---- what is released
 
-is_live : (b c : Bool) (result : Result Freed HeapFault) → result ≡ Ok (if b then freed.Held else (if c then freed.AlreadyHeld else freed.NotBlock)) → result ≡ Ok freed.Held → b ≡ true
+is_live : (b c : Bool) (result : Result Freed HeapFault) → result ≡ Ok (if b then after_free.Held else (if c then after_free.AlreadyHeld else after_free.NotBlock)) → result ≡ Ok after_free.Held → b ≡ true
 is_live true c result is held = refl
 is_live false true result is held = absurd cc
 is_live false false result is held = absurd cc
 
-pub release_exact : (s : HeapState) (base top : ℕ) (new : HeapState) (result : Result Freed HeapFault) → result ≡ Ok (freed_of s base top) → result ≡ Ok freed.Held
+pub release_exact : (s : HeapState) (base top : ℕ) (new : HeapState) (result : Result Freed HeapFault) → result ≡ Ok (freed_of s base top) → result ≡ Ok after_free.Held
     → new ≡ with_waiting s base top → AreExact s → AreExact new
 release_exact s base top new result answer held is exact =
     subst AreExact (sym is) (exact_waiting s base top (is_live (is_block s.live base top) (is_held_block s base top) result answer held) exact)
@@ -139,7 +139,7 @@ places_exact old rd size base top new places exact = subst (λ (s : State). AreE
 
 malloc_exact : (old : State) (rd size : ℕ) (r : Reply) (new : State) → MallocAllows old rd size r new → AreExact old.heap → AreExact new.heap
 malloc_exact old rd size (Block base top) new allowed exact = places_exact old rd size base top new allowed exact
-malloc_exact old rd size (BlockAfter base top cleared) new allowed exact = places_exact (swept old) rd size base top new allowed.1 (exact_swept old.heap exact)
+malloc_exact old rd size (BlockAfter base top cleared) new allowed exact = places_exact (after_sweep old) rd size base top new allowed.1 (exact_swept old.heap exact)
 malloc_exact old rd size NoSpace new allowed exact = subst (λ (s : State). AreExact s.heap) (sym allowed.state) exact
 malloc_exact old rd size (NoSpaceAfter cleared) new allowed exact = subst (λ (s : State). AreExact s.heap) (sym allowed.1.state) (exact_swept old.heap exact)
 malloc_exact old rd size (Held bytes) new allowed exact = absurd allowed
@@ -156,7 +156,7 @@ third_passed true true false x y z passed = absurd cc
 third_passed true false c x y z passed = absurd cc
 third_passed false b c x y z passed = absurd cc
 
-free_exact : (old : State) (rs : ℕ) (new : State) → first_failed (checks old (Free rs)) ≡ None → new ≡ freed old (register old rs).0 → AreExact old.heap → AreExact new.heap
+free_exact : (old : State) (rs : ℕ) (new : State) → first_failed (checks old (Free rs)) ≡ None → new ≡ after_free old (register old rs).0 → AreExact old.heap → AreExact new.heap
 free_exact old rs new passed is exact =
     let c = register old rs in
     let b = bounds_in c.0 in

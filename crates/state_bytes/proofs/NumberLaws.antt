@@ -2,12 +2,12 @@
 use Rattle.std.proofs.Common.{◌≡◌, ◌∙◌, ◌<◌, ◌≤◌, ◌+◌, ◌-◌, ◌*◌, ◌%◌, ◌==◌, ℕ, zero, suc, false, get_or, refl, sym, eq-eqb, arith}
 use Rattle.std.specs.Prelude.{All}
 use Rattle.std.proofs.lemmas.Bool.{ne_eqb, true≢false}
-use Rattle.heap_core.specs.Blocks.{start_of}
-use Rattle.heap_core.specs.Found.{IsFound, blocks_in}
-use Rattle.heap_core.specs.Heap.{HeapState, IsSound}
-use Rattle.heap_core.specs.declared.block.Kind.{Kind}
-use Rattle.heap_core.specs.declared.block.Kind.TheVariants.{Live, Painted, Waiting}
-use Rattle.state_bytes.specs.Text.{block_number, kind_number, length_told, numbered, starts_in}
+use Rattle.heap_model.specs.Blocks.{start_of}
+use Rattle.heap_model.specs.Found.{IsFound, blocks_in}
+use Rattle.heap_model.specs.Heap.{HeapState, IsSound}
+use Rattle.heap_model.specs.declared.block.Kind.{Kind}
+use Rattle.heap_model.specs.declared.block.Kind.TheVariants.{Live, Painted, Waiting}
+use Rattle.state_bytes.specs.Text.{block_number, kind_number, length_told, block_code, starts_in}
 use Rattle.state_bytes.proofs.StartsLaws.{length_in-found, length_in-other, starts_apart, starts_even, starts_in-zero}
 
 -- ---- three lengths in one number
@@ -28,7 +28,7 @@ record AreTold (number l w p : ℕ) : Type 0 where
   painted : length_told 3 number ≡ p
 
 abbrev in_one : ℕ → ℕ → ℕ → ℕ
-in_one l w p = numbered 1 l + (numbered 2 w + numbered 3 p)
+in_one l w p = block_code 1 l + (block_code 2 w + block_code 3 p)
 
 told_is : (kind number n : ℕ) → number % 16 ≡ kind → number - kind ≡ n → length_told kind number ≡ n
 told_is kind number n is rest = rw (eq-eqb (number % 16) kind is) rest
@@ -91,11 +91,11 @@ length_of_number s a Live sound = (told (starts_in s.live a) (starts_in s.waitin
 length_of_number s a Waiting sound = (told (starts_in s.live a) (starts_in s.waiting a) (starts_in s.painted a) (is_one s a sound)).waiting
 length_of_number s a Painted sound = (told (starts_in s.live a) (starts_in s.waiting a) (starts_in s.painted a) (is_one s a sound)).painted
 
-numbered_limit : (kind n : ℕ) → numbered kind n ≤ n + kind
+numbered_limit : (kind n : ℕ) → block_code kind n ≤ n + kind
 numbered_limit kind zero = omega arith
 numbered_limit kind (suc n) = omega arith
 
-numbered_some : (kind n : ℕ) → 0 < n → numbered kind n ≡ n + kind
+numbered_some : (kind n : ℕ) → 0 < n → block_code kind n ≡ n + kind
 numbered_some kind zero some = absurd (omega (arith, some))
 numbered_some kind (suc n) some = refl
 

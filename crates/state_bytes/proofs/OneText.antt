@@ -5,14 +5,14 @@ use Rattle.std.proofs.lemmas.Bool.{and_parts, cases_eq, ne_eqb}
 use Rattle.std.proofs.lemmas.Bool.Decides.{nat_tests}
 use Rattle.std.proofs.lemmas.List.{ext_get_or}
 use Rattle.std.proofs.lemmas.List.Elements.{All-head, All-tail}
-use Rattle.heap_core.specs.Blocks.{Span, start_of}
-use Rattle.heap_core.specs.Heap.{HeapState, IsInside}
-use Rattle.heap_machine.specs.Parts.{MachineState}
+use Rattle.heap_model.specs.Blocks.{Span, start_of}
+use Rattle.heap_model.specs.Heap.{HeapState, IsInside}
+use Rattle.heap_machine.specs.Storage.{MachineState}
 use Rattle.tag_memory.specs.Cells.{Cell, null_cell, register_at}
-use Rattle.heap_core.specs.Found.{blocks_in}
-use Rattle.heap_core.specs.declared.block.Kind.{Kind}
-use Rattle.heap_core.specs.declared.block.Kind.TheVariants.{Live, Painted, Waiting}
-use Rattle.state_bytes.specs.State.{IsSameState, IsWhole}
+use Rattle.heap_model.specs.Found.{blocks_in}
+use Rattle.heap_model.specs.declared.block.Kind.{Kind}
+use Rattle.heap_model.specs.declared.block.Kind.TheVariants.{Live, Painted, Waiting}
+use Rattle.state_bytes.specs.State.{IsSameState, HasInvariant}
 use Rattle.state_bytes.specs.Text.{dirty_text, granule_text, head_text, kind_number, length_told, memory_text, register_text, starts_in, text_of, texts_below}
 use Rattle.state_bytes.proofs.NumberLaws.{length_of_number, number_limit}
 use Rattle.state_bytes.proofs.SameBlocks.{blocks_by_granules}
@@ -33,10 +33,10 @@ pub record AreSizes (m : MachineState) : Type 0 where
   pub even : m.state.heap.base % 16 ≡ 0
   pub size : m.state.heap.size ≤ 2 ^ 22
   pub pages : length m.dirty < 256 ^ 4
-  pub granules : 16 * length m.state.cells ≡ m.state.heap.size
-  pub count : length m.state.cells ≡ 256 * length m.dirty
+  pub granules : 16 * length m.state.granules ≡ m.state.heap.size
+  pub count : length m.state.granules ≡ 256 * length m.dirty
 
-pub sizes_of : (m : MachineState) → IsWhole m → AreSizes m
+pub sizes_of : (m : MachineState) → HasInvariant m → AreSizes m
 sizes_of m e =
     let sound = e.sound.safe.heap in
     let size = and_parts (nat_le 1 sound.pages) (nat_le sound.pages 1024) sound.size in
@@ -54,7 +54,7 @@ sizes_of m e =
       count = e.pages;
     }
 
-pub short_of : (m : MachineState) → IsWhole m → AreShort m.state.heap
+pub short_of : (m : MachineState) → HasInvariant m → AreShort m.state.heap
 short_of m e =
     let sound = e.sound.safe.heap in
     let size = (sizes_of m e).size in
@@ -77,25 +77,25 @@ register_fits xs r lt fits =
 
 -- ---- the parts
 
-length_memory : (m n : MachineState) → length m.state.cells ≡ length n.state.cells → length (memory_text m.state.heap m.state.cells) ≡ length (memory_text n.state.heap n.state.cells)
+length_memory : (m n : MachineState) → length m.state.granules ≡ length n.state.granules → length (memory_text m.state.heap m.state.granules) ≡ length (memory_text n.state.heap n.state.granules)
 unfolding memory_text
 length_memory m n count =
-    texts_length (λ i. granule_text m.state.heap i (get_or m.state.cells i (0, false))) (λ i. granule_text n.state.heap i (get_or n.state.cells i (0, false))) (length m.state.cells)
+    texts_length (λ i. granule_text m.state.heap i (get_or m.state.granules i (0, false))) (λ i. granule_text n.state.heap i (get_or n.state.granules i (0, false))) (length m.state.granules)
     (λ i. length_granule m.state.heap i _ ∙ sym (length_granule n.state.heap i _))
-    ∙ ap (λ (k : ℕ). length (texts_below (λ i. granule_text n.state.heap i (get_or n.state.cells i (0, false))) k)) count
+    ∙ ap (λ (k : ℕ). length (texts_below (λ i. granule_text n.state.heap i (get_or n.state.granules i (0, false))) k)) count
 
-memory_same : (m n : MachineState) → IsWhole m → IsWhole n → length m.state.cells ≡ length n.state.cells
-    → memory_text m.state.heap m.state.cells ≡ memory_text n.state.heap n.state.cells
-    → (i : ℕ) → i < length m.state.cells → AreSameAt m.state.heap n.state.heap i (get_or m.state.cells i (0, false)) (get_or n.state.cells i (0, false))
+memory_same : (m n : MachineState) → HasInvariant m → HasInvariant n → length m.state.granules ≡ length n.state.granules
+    → memory_text m.state.heap m.state.granules ≡ memory_text n.state.heap n.state.granules
+    → (i : ℕ) → i < length m.state.granules → AreSameAt m.state.heap n.state.heap i (get_or m.state.granules i (0, false)) (get_or n.state.granules i (0, false))
 unfolding memory_text
 memory_same m n em en count e i lt =
-    let f = λ (i : ℕ). granule_text m.state.heap i (get_or m.state.cells i (0, false)) in
-    let g = λ (i : ℕ). granule_text n.state.heap i (get_or n.state.cells i (0, false)) in
-    granule_same m.state.heap n.state.heap i (get_or m.state.cells i (0, false)) (get_or n.state.cells i (0, false)) (short_of m em) (short_of n en)
-    (em.cells i (0, false) lt) (en.cells i (0, false) (omega (arith, lt, count)))
-    (texts_same f g (length m.state.cells) (λ i. length_granule m.state.heap i _ ∙ sym (length_granule n.state.heap i _)) (e ∙ ap (texts_below g) (sym count)) i lt)
+    let f = λ (i : ℕ). granule_text m.state.heap i (get_or m.state.granules i (0, false)) in
+    let g = λ (i : ℕ). granule_text n.state.heap i (get_or n.state.granules i (0, false)) in
+    granule_same m.state.heap n.state.heap i (get_or m.state.granules i (0, false)) (get_or n.state.granules i (0, false)) (short_of m em) (short_of n en)
+    (em.granules i (0, false) lt) (en.granules i (0, false) (omega (arith, lt, count)))
+    (texts_same f g (length m.state.granules) (λ i. length_granule m.state.heap i _ ∙ sym (length_granule n.state.heap i _)) (e ∙ ap (texts_below g) (sym count)) i lt)
 
-registers_same : (m n : MachineState) → IsWhole m → IsWhole n → texts_below (register_text m.state.registers) 32 ≡ texts_below (register_text n.state.registers) 32
+registers_same : (m n : MachineState) → HasInvariant m → HasInvariant n → texts_below (register_text m.state.registers) 32 ≡ texts_below (register_text n.state.registers) 32
     → m.state.registers ≡ n.state.registers
 registers_same m n em en e =
     let xs = m.state.registers in
@@ -108,8 +108,8 @@ registers_same m n em en e =
       | inl is ↦ ap (λ (i : ℕ). get_or m.state.registers i null_cell) is ∙ (em.sound.zero ∙ (sym en.sound.zero ∙ ap (λ (i : ℕ). get_or n.state.registers i null_cell) (sym is)))
       | inr other ↦
           let texts = texts_same (register_text m.state.registers) (register_text n.state.registers) 32 (λ r. length_register m.state.registers r ∙ sym (length_register n.state.registers r)) e k in_x in
-          let cells = register_same m.state.registers n.state.registers k (register_fits m.state.registers k lt em.registers) (register_fits n.state.registers k in_y en.registers) texts in
-          sym (register_other m.state.registers k other) ∙ (cells ∙ register_other n.state.registers k other)
+          let granules = register_same m.state.registers n.state.registers k (register_fits m.state.registers k lt em.registers) (register_fits n.state.registers k in_y en.registers) texts in
+          sym (register_other m.state.registers k other) ∙ (granules ∙ register_other n.state.registers k other)
     ])
 
 dirty_all : (xs ys : List Bool) → length xs ≡ length ys → texts_below (dirty_text xs) (length xs) ≡ texts_below (dirty_text ys) (length ys) → xs ≡ ys
@@ -118,14 +118,14 @@ dirty_all xs ys count e =
     (λ k lt. dirty_same xs ys k (texts_same (dirty_text xs) (dirty_text ys) (length xs) (λ p. length_dirty xs p ∙ sym (length_dirty ys p)) (e ∙ ap (texts_below (dirty_text ys)) (sym count)) k lt))
 
 -- Blocks of one kind, where the granules have the same numbers.
-kind_same : (m n : MachineState) (kind : Kind) (i : ℕ) → IsWhole m → IsWhole n
-    → AreSameAt m.state.heap n.state.heap i (get_or m.state.cells i (0, false)) (get_or n.state.cells i (0, false))
+kind_same : (m n : MachineState) (kind : Kind) (i : ℕ) → HasInvariant m → HasInvariant n
+    → AreSameAt m.state.heap n.state.heap i (get_or m.state.granules i (0, false)) (get_or n.state.granules i (0, false))
     → starts_in (blocks_in m.state.heap kind) (m.state.heap.base + 16 * i) ≡ starts_in (blocks_in n.state.heap kind) (n.state.heap.base + 16 * i)
 kind_same m n kind i em en same =
     sym (length_of_number m.state.heap (m.state.heap.base + 16 * i) kind em.sound.safe.heap)
     ∙ (ap (length_told (kind_number kind)) same.number ∙ length_of_number n.state.heap (n.state.heap.base + 16 * i) kind en.sound.safe.heap)
 
-pub one_text : (m n : MachineState) → IsWhole m → IsWhole n → text_of m ≡ text_of n → IsSameState m n
+pub one_text : (m n : MachineState) → HasInvariant m → HasInvariant n → text_of m ≡ text_of n → IsSameState m n
 one_text m n em en e =
     let sm = sizes_of m em in
     let sn = sizes_of n en in
@@ -136,23 +136,23 @@ one_text m n em en e =
     let one = append_both (head_text m.state.heap.base (length m.dirty) m.state.heap.is_open) (head_text n.state.heap.base (length n.dirty) n.state.heap.is_open) _ _
     (length_head m.state.heap.base (length m.dirty) m.state.heap.is_open ∙ sym (length_head n.state.heap.base (length n.dirty) n.state.heap.is_open)) e in
     let head = head_same m.state.heap.base (length m.dirty) n.state.heap.base (length n.dirty) m.state.heap.is_open n.state.heap.is_open sm.base sn.base sm.pages sn.pages one.0 in
-    let count : length m.state.cells ≡ length n.state.cells = omega (arith, sm.count, sn.count, head.1) in
-    let two = append_both (memory_text m.state.heap m.state.cells) (memory_text n.state.heap n.state.cells) _ _ (length_memory m n count) one.1 in
+    let count : length m.state.granules ≡ length n.state.granules = omega (arith, sm.count, sn.count, head.1) in
+    let two = append_both (memory_text m.state.heap m.state.granules) (memory_text n.state.heap n.state.granules) _ _ (length_memory m n count) one.1 in
     let three = append_both (texts_below (register_text m.state.registers) 32) (texts_below (register_text n.state.registers) 32) _ _
     (texts_length (register_text m.state.registers) (register_text n.state.registers) 32 (λ r. length_register m.state.registers r ∙ sym (length_register n.state.registers r))) two.1 in
     let same = memory_same m n em en count two.0 in
-    let k = length m.state.cells in
-    let whole : 16 * length m.state.cells ≡ n.state.heap.size = omega (arith, count, sn.granules) in
+    let k = length m.state.granules in
+    let whole : 16 * length m.state.granules ≡ n.state.heap.size = omega (arith, count, sn.granules) in
     let size : m.state.heap.size ≡ n.state.heap.size = omega (arith, sm.granules, whole) in
-    let live : m.state.heap.live ≡ n.state.heap.live = blocks_by_granules m.state.heap n.state.heap (length m.state.cells) _ _ sm.even head.0 sm.granules whole om.live_inside on.live_inside om.live_order on.live_order (λ i lt. kind_same m n Live i em en (same i lt)) in
-    let waiting : m.state.heap.waiting ≡ n.state.heap.waiting = blocks_by_granules m.state.heap n.state.heap (length m.state.cells) _ _ sm.even head.0 sm.granules whole om.waiting_inside on.waiting_inside om.waiting_order on.waiting_order (λ i lt. kind_same m n Waiting i em en (same i lt)) in
-    let painted : m.state.heap.painted ≡ n.state.heap.painted = blocks_by_granules m.state.heap n.state.heap (length m.state.cells) _ _ sm.even head.0 sm.granules whole om.painted_inside on.painted_inside om.painted_order on.painted_order (λ i lt. kind_same m n Painted i em en (same i lt)) in
-    let cells : m.state.cells ≡ n.state.cells = ext_get_or (0, false) m.state.cells n.state.cells count (λ i lt. (same i lt).granule) in
+    let live : m.state.heap.live ≡ n.state.heap.live = blocks_by_granules m.state.heap n.state.heap (length m.state.granules) _ _ sm.even head.0 sm.granules whole om.live_inside on.live_inside om.live_order on.live_order (λ i lt. kind_same m n Live i em en (same i lt)) in
+    let waiting : m.state.heap.waiting ≡ n.state.heap.waiting = blocks_by_granules m.state.heap n.state.heap (length m.state.granules) _ _ sm.even head.0 sm.granules whole om.waiting_inside on.waiting_inside om.waiting_order on.waiting_order (λ i lt. kind_same m n Waiting i em en (same i lt)) in
+    let painted : m.state.heap.painted ≡ n.state.heap.painted = blocks_by_granules m.state.heap n.state.heap (length m.state.granules) _ _ sm.even head.0 sm.granules whole om.painted_inside on.painted_inside om.painted_order on.painted_order (λ i lt. kind_same m n Painted i em en (same i lt)) in
+    let granules : m.state.granules ≡ n.state.granules = ext_get_or (0, false) m.state.granules n.state.granules count (λ i lt. (same i lt).granule) in
     let registers = registers_same m n em en three.0 in
     let dirty = dirty_all m.dirty n.dirty head.1 three.1 in (
       λ i. record {
         heap = record { base = head.0 i; size = size i; live = live i; waiting = waiting i; painted = painted i; is_open = head.2 i };
-        cells = cells i;
+        granules = granules i;
         registers = registers i;
       },
       dirty,

@@ -2,7 +2,7 @@
 use Rattle.std.proofs.Common.{◌≡◌, ◌∙◌, ◌+◌, ◌*◌, ℕ, zero, suc, Bool, false, Some, List, [], ◌∷◌, ◌++◌, get_or, length, sym, ap, arith}
 use Rattle.std.specs.Prelude.{slice_get}
 use Rattle.byteorder.specs.Endian.{little_bytes}
-use Rattle.heap_core.specs.Heap.{HeapState}
+use Rattle.heap_model.specs.Heap.{HeapState}
 use Rattle.tag_memory.specs.Cells.{Cell, Granule, is_dirty_at, register_at}
 use Rattle.state_bytes.specs.Text.{block_number, dirty_text, flag_byte, granule_text, head_text, memory_text, register_text, texts_below}
 use Rattle.state_bytes.specs.Writing.{StandsAt}
@@ -13,10 +13,10 @@ use Rattle.state_bytes.proofs.StandingLaws.{stands_first, stands_second, stands_
 -- ---- how long many are
 
 abbrev pub granule_at : HeapState → List Granule → ℕ → List ℕ
-granule_at heap cells = λ i. granule_text heap i (get_or cells i (0, false))
+granule_at heap granules = λ i. granule_text heap i (get_or granules i (0, false))
 
-pub granules_long : (heap : HeapState) (cells : List Granule) (n : ℕ) → length (texts_below (granule_at heap cells) n) ≡ 21 * n
-granules_long heap cells n = texts_long (granule_at heap cells) 21 n (λ k. length_granule heap k _) ∙ offset_is_21 n
+pub granules_long : (heap : HeapState) (granules : List Granule) (n : ℕ) → length (texts_below (granule_at heap granules) n) ≡ 21 * n
+granules_long heap granules n = texts_long (granule_at heap granules) 21 n (λ k. length_granule heap k _) ∙ offset_is_21 n
 
 pub registers_long : (registers : List Cell) (n : ℕ) → length (texts_below (register_text registers) n) ≡ 17 * n
 registers_long registers n = texts_long (register_text registers) 17 n (λ k. length_register registers k) ∙ offset_is_17 n
@@ -94,9 +94,9 @@ pieces_of_register registers r cell bytes at is stands =
 
 -- ---- all granules
 
-pub memory_as_texts : (heap : HeapState) (cells : List Granule) (n : ℕ) → n ≡ length cells → memory_text heap cells ≡ texts_below (granule_at heap cells) n
+pub memory_as_texts : (heap : HeapState) (granules : List Granule) (n : ℕ) → n ≡ length granules → memory_text heap granules ≡ texts_below (granule_at heap granules) n
 unfolding memory_text
-memory_as_texts heap cells n is = ap (texts_below (granule_at heap cells)) (sym is)
+memory_as_texts heap granules n is = ap (texts_below (granule_at heap granules)) (sym is)
 
 -- ---- one of many
 
@@ -104,7 +104,7 @@ pub dirty_is : (dirty : List Bool) (page : ℕ) (flag : Bool) → flag ≡ is_di
 unfolding dirty_text
 dirty_is dirty page flag is = ap (λ (b : Bool). flag_byte b ∷ []) is
 
-pub cell_is : (cells : List Granule) (i : ℕ) (cell d : Granule) → slice_get cells i ≡ Some cell → cell ≡ get_or cells i d
+pub cell_is : (granules : List Granule) (i : ℕ) (cell d : Granule) → slice_get granules i ≡ Some cell → cell ≡ get_or granules i d
 cell_is [] i cell d is = absurd cc
-cell_is (x ∷ cells) zero cell d is = cc
-cell_is (x ∷ cells) (suc i) cell d is = cell_is cells i cell d is
+cell_is (x ∷ granules) zero cell d is = cc
+cell_is (x ∷ granules) (suc i) cell d is = cell_is granules i cell d is

@@ -5,14 +5,14 @@ use Rattle.std.proofs.lemmas.List.{drop-drop, append-nil, drop_at, ext_get_or, g
 use Rattle.std.proofs.lemmas.Grind.{get_or-set_at}
 use Rattle.byteorder.specs.Endian.{little_bytes, little_number}
 use Rattle.byteorder.specs.Numbers.{little_number-reads_back}
-use Rattle.heap_machine.specs.Parts.{MachineState}
-use Rattle.tag_memory.specs.Cells.{Cell, Granule, AreRegisters, is_dirty_at, null_cell, register_at, with_register}
-use Rattle.state_bytes.specs.State.{IsWhole}
+use Rattle.heap_machine.specs.Storage.{MachineState}
+use Rattle.tag_memory.specs.Cells.{Cell, Granule, AreRegisters, is_dirty_at, null_cell, register_at, registers_with}
+use Rattle.state_bytes.specs.State.{HasInvariant}
 use Rattle.state_bytes.specs.Writing.{StandsAt}
 use Rattle.state_bytes.specs.Text.{block_number, dirty_text, flag_byte, granule_text, head_text, kind_number, length_told, memory_text, register_text, starts_in, text_length, text_of, texts_below}
 use Rattle.state_bytes.proofs.NumberLaws.{length_of_number}
-use Rattle.heap_core.specs.Found.{blocks_in}
-use Rattle.heap_core.specs.declared.block.Kind.{Kind}
+use Rattle.heap_model.specs.Found.{blocks_in}
+use Rattle.heap_model.specs.declared.block.Kind.{Kind}
 use Rattle.state_bytes.proofs.OneText.{register_fits, register_other, short_of, sizes_of}
 use Rattle.state_bytes.proofs.SameTexts.{length_dirty, length_granule, length_head, length_little, length_register}
 
@@ -63,11 +63,11 @@ behind part rest piece n at long stands = record {
 }
 
 -- A granule stands in the text.
-pub granule_at : (m : MachineState) (i : ℕ) → i < length m.state.cells → StandsAt (text_of m) (13 + 21 * i) (granule_text m.state.heap i (get_or m.state.cells i (0, false)))
+pub granule_at : (m : MachineState) (i : ℕ) → i < length m.state.granules → StandsAt (text_of m) (13 + 21 * i) (granule_text m.state.heap i (get_or m.state.granules i (0, false)))
 unfolding memory_text
 granule_at m i lt =
-    let f = λ (k : ℕ). granule_text m.state.heap k (get_or m.state.cells k (0, false)) in
-    let inner = texts_at f 21 (length m.state.cells) i (texts_below (register_text m.state.registers) 32 ++ texts_below (dirty_text m.dirty) (length m.dirty)) (λ k. length_granule m.state.heap k _) lt in
+    let f = λ (k : ℕ). granule_text m.state.heap k (get_or m.state.granules k (0, false)) in
+    let inner = texts_at f 21 (length m.state.granules) i (texts_below (register_text m.state.registers) 32 ++ texts_below (dirty_text m.dirty) (length m.dirty)) (λ k. length_granule m.state.heap k _) lt in
     let here = behind (head_text m.state.heap.base (length m.dirty) m.state.heap.is_open) _ _ 13 (offset 21 i) (length_head m.state.heap.base (length m.dirty) m.state.heap.is_open) inner in
     record { rest = here.rest; is = ap (λ (k : ℕ). drop (13 + k) (text_of m)) (sym (offset_is_21 i)) ∙ here.is }
 
@@ -93,31 +93,31 @@ pub record IsReadAt (bytes : List ℕ) (i : ℕ) (granule : Granule) : Type 0 wh
   pub bits : little_number 16 (drop (13 + 21 * i) bytes) ≡ granule.0
   pub tag : (get_or bytes (13 + 21 * i + 16) 0 == 1) ≡ granule.1
 
-pub granule_read : (m : MachineState) (bytes : List ℕ) (i : ℕ) → IsWhole m → text_of m ≡ bytes → i < length m.state.cells → IsReadAt bytes i (get_or m.state.cells i (0, false))
+pub granule_read : (m : MachineState) (bytes : List ℕ) (i : ℕ) → HasInvariant m → text_of m ≡ bytes → i < length m.state.granules → IsReadAt bytes i (get_or m.state.granules i (0, false))
 unfolding granule_text
 granule_read m bytes i e text lt =
-    let g = get_or m.state.cells i (0, false) in
+    let g = get_or m.state.granules i (0, false) in
     let stands = granule_at m i lt in
     let here = λ (b : ℕ). stands in
     record {
-      bits = ap (λ (l : List ℕ). little_number 16 (drop (13 + 21 * i) l)) (sym text) ∙ number_at (text_of m) _ (13 + 21 * i) 16 (get_or m.state.cells i (0, false)).0 (e.cells i (0, false) lt) stands;
+      bits = ap (λ (l : List ℕ). little_number 16 (drop (13 + 21 * i) l)) (sym text) ∙ number_at (text_of m) _ (13 + 21 * i) 16 (get_or m.state.granules i (0, false)).0 (e.granules i (0, false) lt) stands;
       tag = ap (λ (l : List ℕ). get_or l (13 + 21 * i + 16) 0 == 1) (sym text)
-          ∙ flag_at (text_of m) (little_bytes 16 (get_or m.state.cells i (0, false)).0) _ (13 + 21 * i) 16 (get_or m.state.cells i (0, false)).1 (length_little 16 (get_or m.state.cells i (0, false)).0) stands;
+          ∙ flag_at (text_of m) (little_bytes 16 (get_or m.state.granules i (0, false)).0) _ (13 + 21 * i) 16 (get_or m.state.granules i (0, false)).1 (length_little 16 (get_or m.state.granules i (0, false)).0) stands;
     }
 
 -- One granule more is the machine's.
-pub cells_more : (m : MachineState) (bytes : List ℕ) (cells : List Granule) (i bits : ℕ) (tag : Bool) → IsWhole m → text_of m ≡ bytes → length m.state.cells ≡ length cells → i < length cells
+pub granules_more : (m : MachineState) (bytes : List ℕ) (granules : List Granule) (i bits : ℕ) (tag : Bool) → HasInvariant m → text_of m ≡ bytes → length m.state.granules ≡ length granules → i < length granules
     → bits ≡ little_number 16 (drop (13 + 21 * i) bytes) → tag ≡ (get_or bytes (13 + 21 * i + 16) 0 == 1)
-    → ((k : ℕ) → k < i → get_or cells k (0, false) ≡ get_or m.state.cells k (0, false))
-    → (k : ℕ) → k < i + 1 → get_or (set cells i (bits, tag)) k (0, false) ≡ get_or m.state.cells k (0, false)
-cells_more m bytes cells i bits tag e text count lt bits_is tag_is before k less =
+    → ((k : ℕ) → k < i → get_or granules k (0, false) ≡ get_or m.state.granules k (0, false))
+    → (k : ℕ) → k < i + 1 → get_or (set granules i (bits, tag)) k (0, false) ≡ get_or m.state.granules k (0, false)
+granules_more m bytes granules i bits tag e text count lt bits_is tag_is before k less =
     elim (cases_eq k i) [
       | inl same ↦
           let read = granule_read m bytes i e text (omega (arith, lt, count)) in
           let first = bits_is ∙ read.bits in
           let second = tag_is ∙ read.tag in
-          get_or-set_at cells i k (bits, tag) (0, false) same lt ∙ ((λ j. (first j, second j)) ∙ ap (λ (x : ℕ). get_or m.state.cells x (0, false)) (sym same))
-      | inr other ↦ get_or-set_other cells i k (bits, tag) (0, false) other ∙ before k (omega (arith, less, other))
+          get_or-set_at granules i k (bits, tag) (0, false) same lt ∙ ((λ j. (first j, second j)) ∙ ap (λ (x : ℕ). get_or m.state.granules x (0, false)) (sym same))
+      | inr other ↦ get_or-set_other granules i k (bits, tag) (0, false) other ∙ before k (omega (arith, less, other))
     ]
 
 later : (bytes part piece : List ℕ) (at n : ℕ) → length part ≡ n → StandsAt bytes at (part ++ piece) → StandsAt bytes (at + n) piece
@@ -127,19 +127,19 @@ later bytes part piece at n long stands = record {
 }
 
 -- The number of a block is read.
-number_read : (m : MachineState) (i : ℕ) → IsWhole m → i < length m.state.cells
+number_read : (m : MachineState) (i : ℕ) → HasInvariant m → i < length m.state.granules
     → little_number 4 (drop (13 + 21 * i + 17) (text_of m)) ≡ block_number m.state.heap (m.state.heap.base + 16 * i)
 unfolding granule_text
 number_read m i e lt =
     let stands = granule_at m i lt in
-    let one = later (text_of m) (little_bytes 16 (get_or m.state.cells i (0, false)).0) _ (13 + 21 * i) 16 (length_little 16 (get_or m.state.cells i (0, false)).0) stands in
-    let two = later (text_of m) (flag_byte (get_or m.state.cells i (0, false)).1 ∷ []) _ (13 + 21 * i + 16) 1 refl one in
+    let one = later (text_of m) (little_bytes 16 (get_or m.state.granules i (0, false)).0) _ (13 + 21 * i) 16 (length_little 16 (get_or m.state.granules i (0, false)).0) stands in
+    let two = later (text_of m) (flag_byte (get_or m.state.granules i (0, false)).1 ∷ []) _ (13 + 21 * i + 16) 1 refl one in
     ap (λ (p : ℕ). little_number 4 (drop p (text_of m))) (omega arith)
     ∙ (ap (λ (l : List ℕ). little_number 4 l) two.is
     ∙ little_number-reads_back 4 (block_number m.state.heap (m.state.heap.base + 16 * i)) two.rest (short_of m e (m.state.heap.base + 16 * i)))
 
 -- So the length of a block is.
-pub length_read : (m : MachineState) (bytes : List ℕ) (i : ℕ) (kind : Kind) → IsWhole m → text_of m ≡ bytes → i < length m.state.cells
+pub length_read : (m : MachineState) (bytes : List ℕ) (i : ℕ) (kind : Kind) → HasInvariant m → text_of m ≡ bytes → i < length m.state.granules
     → length_told (kind_number kind) (little_number 4 (drop (13 + 21 * i + 17) bytes)) ≡ starts_in (blocks_in m.state.heap kind) (m.state.heap.base + 16 * i)
 length_read m bytes i kind e text lt =
     ap (λ (l : List ℕ). length_told (kind_number kind) (little_number 4 (drop (13 + 21 * i + 17) l))) (sym text)
@@ -147,40 +147,40 @@ length_read m bytes i kind e text lt =
 
 -- ---- registers
 
-memory_long : (m : MachineState) → length (memory_text m.state.heap m.state.cells) ≡ 21 * length m.state.cells
+memory_long : (m : MachineState) → length (memory_text m.state.heap m.state.granules) ≡ 21 * length m.state.granules
 unfolding memory_text
 memory_long m =
-    texts_long (λ k. granule_text m.state.heap k (get_or m.state.cells k (0, false))) 21 (length m.state.cells) (λ k. length_granule m.state.heap k _) ∙ offset_is_21 (length m.state.cells)
+    texts_long (λ k. granule_text m.state.heap k (get_or m.state.granules k (0, false))) 21 (length m.state.granules) (λ k. length_granule m.state.heap k _) ∙ offset_is_21 (length m.state.granules)
 
-pub register_stands : (m : MachineState) (r : ℕ) → r < 32 → StandsAt (text_of m) (13 + (21 * length m.state.cells + 17 * r)) (register_text m.state.registers r)
+pub register_stands : (m : MachineState) (r : ℕ) → r < 32 → StandsAt (text_of m) (13 + (21 * length m.state.granules + 17 * r)) (register_text m.state.registers r)
 register_stands m r lt =
     let inner = texts_at (register_text m.state.registers) 17 32 r (texts_below (dirty_text m.dirty) (length m.dirty)) (λ k. length_register m.state.registers k) lt in
-    let memory = behind (memory_text m.state.heap m.state.cells) _ _ (21 * length m.state.cells) (offset 17 r) (memory_long m) inner in
-    let here = behind (head_text m.state.heap.base (length m.dirty) m.state.heap.is_open) _ _ 13 (21 * length m.state.cells + offset 17 r) (length_head m.state.heap.base (length m.dirty) m.state.heap.is_open) memory in
-    record { rest = here.rest; is = ap (λ (k : ℕ). drop (13 + (21 * length m.state.cells + k)) (text_of m)) (sym (offset_is_17 r)) ∙ here.is }
+    let memory = behind (memory_text m.state.heap m.state.granules) _ _ (21 * length m.state.granules) (offset 17 r) (memory_long m) inner in
+    let here = behind (head_text m.state.heap.base (length m.dirty) m.state.heap.is_open) _ _ 13 (21 * length m.state.granules + offset 17 r) (length_head m.state.heap.base (length m.dirty) m.state.heap.is_open) memory in
+    record { rest = here.rest; is = ap (λ (k : ℕ). drop (13 + (21 * length m.state.granules + k)) (text_of m)) (sym (offset_is_17 r)) ∙ here.is }
 
 pub record IsRegisterAt (bytes : List ℕ) (at : ℕ) (cell : Cell) : Type 0 where
   pub bits : little_number 16 (drop at bytes) ≡ cell.0.bits
   pub tag : (get_or bytes (at + 16) 0 == 1) ≡ cell.1
 
-pub register_read : (m : MachineState) (bytes : List ℕ) (r at : ℕ) → IsWhole m → text_of m ≡ bytes → r < 32 → at ≡ 13 + (21 * length m.state.cells + 17 * r)
+pub register_read : (m : MachineState) (bytes : List ℕ) (r at : ℕ) → HasInvariant m → text_of m ≡ bytes → r < 32 → at ≡ 13 + (21 * length m.state.granules + 17 * r)
     → IsRegisterAt bytes at (register_at m.state.registers r)
 unfolding register_text
 register_read m bytes r at e text lt at_is =
     let stands = register_stands m r lt in
-    let p = 13 + (21 * length m.state.cells + 17 * r) in
+    let p = 13 + (21 * length m.state.granules + 17 * r) in
     let fits = register_fits m.state.registers r (omega (arith, lt, e.sound.count)) e.registers in
     record {
-      bits = (λ i. little_number 16 (drop (at_is i) (sym text i))) ∙ number_at (text_of m) _ (13 + (21 * length m.state.cells + 17 * r)) 16 (register_at m.state.registers r).0.bits fits stands;
+      bits = (λ i. little_number 16 (drop (at_is i) (sym text i))) ∙ number_at (text_of m) _ (13 + (21 * length m.state.granules + 17 * r)) 16 (register_at m.state.registers r).0.bits fits stands;
       tag = (λ i. get_or (sym text i) (at_is i + 16) 0 == 1)
-          ∙ flag_at (text_of m) (little_bytes 16 (register_at m.state.registers r).0.bits) [] (13 + (21 * length m.state.cells + 17 * r)) 16 (register_at m.state.registers r).1 (length_little 16 (register_at m.state.registers r).0.bits) stands;
+          ∙ flag_at (text_of m) (little_bytes 16 (register_at m.state.registers r).0.bits) [] (13 + (21 * length m.state.granules + 17 * r)) 16 (register_at m.state.registers r).1 (length_little 16 (register_at m.state.registers r).0.bits) stands;
     }
 
 -- One register more is the machine's.
-pub registers_more : (m : MachineState) (bytes : List ℕ) (xs : List Cell) (r rows bits : ℕ) (tag : Bool) → IsWhole m → text_of m ≡ bytes → r < 32 → length xs ≡ 32
-    → rows ≡ 13 + 21 * length m.state.cells → bits ≡ little_number 16 (drop (rows + 17 * r) bytes) → tag ≡ (get_or bytes (rows + 17 * r + 16) 0 == 1)
+pub registers_more : (m : MachineState) (bytes : List ℕ) (xs : List Cell) (r rows bits : ℕ) (tag : Bool) → HasInvariant m → text_of m ≡ bytes → r < 32 → length xs ≡ 32
+    → rows ≡ 13 + 21 * length m.state.granules → bits ≡ little_number 16 (drop (rows + 17 * r) bytes) → tag ≡ (get_or bytes (rows + 17 * r + 16) 0 == 1)
     → ((k : ℕ) → k < r → register_at xs k ≡ register_at m.state.registers k)
-    → (k : ℕ) → k < r + 1 → register_at (with_register xs r (record { bits = bits }, tag)) k ≡ register_at m.state.registers k
+    → (k : ℕ) → k < r + 1 → register_at (registers_with xs r (record { bits = bits }, tag)) k ≡ register_at m.state.registers k
 registers_more m bytes xs r rows bits tag e text lt count rows_is bits_is tag_is before k less =
     let read = register_read m bytes r (rows + 17 * r) e text lt (omega (arith, rows_is)) in
     elim (cases_eq k 0) [
@@ -201,14 +201,14 @@ registers_more m bytes xs r rows bits tag e text lt count rows_is bits_is tag_is
       ]
     ]
 
-pub length-with_register : (xs : List Cell) (r : ℕ) (cell : Cell) → length (with_register xs r cell) ≡ length xs
-length-with_register xs r cell =
+pub length-registers_with : (xs : List Cell) (r : ℕ) (cell : Cell) → length (registers_with xs r cell) ≡ length xs
+length-registers_with xs r cell =
     elim (cases_eq r 0) [
       | inl z ↦ rw (eq-eqb r 0 z) refl
       | inr nonzero ↦ rw (ne_eqb r 0 nonzero) (length-set xs r cell)
     ]
 
-pub registers_all : (m : MachineState) (xs : List Cell) → IsWhole m → AreRegisters xs → ((k : ℕ) → k < 32 → register_at xs k ≡ register_at m.state.registers k) → xs ≡ m.state.registers
+pub registers_all : (m : MachineState) (xs : List Cell) → HasInvariant m → AreRegisters xs → ((k : ℕ) → k < 32 → register_at xs k ≡ register_at m.state.registers k) → xs ≡ m.state.registers
 registers_all m xs e are each =
     ext_get_or null_cell xs m.state.registers (are.count ∙ sym e.sound.count)
     (λ k lt.
@@ -219,28 +219,28 @@ registers_all m xs e are each =
 
 -- ---- dirty pages
 
-dirty_stands : (m : MachineState) (page : ℕ) → page < length m.dirty → StandsAt (text_of m) (13 + (21 * length m.state.cells + (17 * 32 + page))) (dirty_text m.dirty page)
+dirty_stands : (m : MachineState) (page : ℕ) → page < length m.dirty → StandsAt (text_of m) (13 + (21 * length m.state.granules + (17 * 32 + page))) (dirty_text m.dirty page)
 dirty_stands m page lt =
     let stands = texts_at (dirty_text m.dirty) 1 (length m.dirty) page [] (λ k. length_dirty m.dirty k) lt in
     let inner : StandsAt (texts_below (dirty_text m.dirty) (length m.dirty)) (offset 1 page) (dirty_text m.dirty page) =
     record { rest = stands.rest; is = ap (drop (offset 1 page)) (sym (append-nil (texts_below (dirty_text m.dirty) (length m.dirty)))) ∙ stands.is } in
     let long : length (texts_below (register_text m.state.registers) 32) ≡ 17 * 32 = texts_long (register_text m.state.registers) 17 32 (λ k. length_register m.state.registers k) ∙ offset_is_17 32 in
     let registers = behind (texts_below (register_text m.state.registers) 32) _ _ (17 * 32) (offset 1 page) long inner in
-    let memory = behind (memory_text m.state.heap m.state.cells) _ _ (21 * length m.state.cells) (17 * 32 + offset 1 page) (memory_long m) registers in
-    let here = behind (head_text m.state.heap.base (length m.dirty) m.state.heap.is_open) _ _ 13 (21 * length m.state.cells + (17 * 32 + offset 1 page)) (length_head m.state.heap.base (length m.dirty) m.state.heap.is_open) memory in
-    record { rest = here.rest; is = ap (λ (k : ℕ). drop (13 + (21 * length m.state.cells + (17 * 32 + k))) (text_of m)) (sym (offset_is_1 page)) ∙ here.is }
+    let memory = behind (memory_text m.state.heap m.state.granules) _ _ (21 * length m.state.granules) (17 * 32 + offset 1 page) (memory_long m) registers in
+    let here = behind (head_text m.state.heap.base (length m.dirty) m.state.heap.is_open) _ _ 13 (21 * length m.state.granules + (17 * 32 + offset 1 page)) (length_head m.state.heap.base (length m.dirty) m.state.heap.is_open) memory in
+    record { rest = here.rest; is = ap (λ (k : ℕ). drop (13 + (21 * length m.state.granules + (17 * 32 + k))) (text_of m)) (sym (offset_is_1 page)) ∙ here.is }
 
 -- A page's mark is read.
-dirty_read : (m : MachineState) (bytes : List ℕ) (page at : ℕ) → IsWhole m → text_of m ≡ bytes → page < length m.dirty → at ≡ 557 + 5376 * length m.dirty + page
+dirty_read : (m : MachineState) (bytes : List ℕ) (page at : ℕ) → HasInvariant m → text_of m ≡ bytes → page < length m.dirty → at ≡ 557 + 5376 * length m.dirty + page
     → (get_or bytes at 0 == 1) ≡ is_dirty_at m.dirty page
 unfolding dirty_text
 dirty_read m bytes page at e text lt at_is =
-    let same : at ≡ 13 + (21 * length m.state.cells + (17 * 32 + page)) + 0 = omega (arith, at_is, e.pages) in
+    let same : at ≡ 13 + (21 * length m.state.granules + (17 * 32 + page)) + 0 = omega (arith, at_is, e.pages) in
     (λ i. get_or (sym text i) (same i) 0 == 1)
-    ∙ flag_at (text_of m) [] [] (13 + (21 * length m.state.cells + (17 * 32 + page))) 0 (is_dirty_at m.dirty page) refl (dirty_stands m page lt)
+    ∙ flag_at (text_of m) [] [] (13 + (21 * length m.state.granules + (17 * 32 + page))) 0 (is_dirty_at m.dirty page) refl (dirty_stands m page lt)
 
 -- One page more is the machine's.
-pub marks_more : (m : MachineState) (bytes : List ℕ) (now new : List Bool) (page start : ℕ) (flag : Bool) → IsWhole m → text_of m ≡ bytes → length m.dirty ≡ length now → page < length now
+pub marks_more : (m : MachineState) (bytes : List ℕ) (now new : List Bool) (page start : ℕ) (flag : Bool) → HasInvariant m → text_of m ≡ bytes → length m.dirty ≡ length now → page < length now
     → start ≡ 557 + 5376 * length m.dirty → flag ≡ (get_or bytes (start + page) 0 == 1)
     → new ≡ (if flag then set now page true else now)
     → ((k : ℕ) → k < page → is_dirty_at now k ≡ is_dirty_at m.dirty k) → ((k : ℕ) → page ≤ k → is_dirty_at now k ≡ false)
@@ -276,13 +276,13 @@ marks_count now new page flag new_is = ap (λ (l : List Bool). length l) new_is 
 
 -- ---- the head, and how long all is
 
-pub text_long : (m : MachineState) → IsWhole m → length (text_of m) ≡ text_length (length m.dirty)
+pub text_long : (m : MachineState) → HasInvariant m → length (text_of m) ≡ text_length (length m.dirty)
 text_long m e =
     let registers : length (texts_below (register_text m.state.registers) 32) ≡ 17 * 32 = texts_long (register_text m.state.registers) 17 32 (λ k. length_register m.state.registers k) ∙ offset_is_17 32 in
     let dirty : length (texts_below (dirty_text m.dirty) (length m.dirty)) ≡ length m.dirty = texts_long (dirty_text m.dirty) 1 (length m.dirty) (λ k. length_dirty m.dirty k) ∙ offset_is_1 (length m.dirty) in
     let head = length_head m.state.heap.base (length m.dirty) m.state.heap.is_open in
-    let one = length-append (head_text m.state.heap.base (length m.dirty) m.state.heap.is_open) (memory_text m.state.heap m.state.cells ++ (texts_below (register_text m.state.registers) 32 ++ texts_below (dirty_text m.dirty) (length m.dirty))) in
-    let two = length-append (memory_text m.state.heap m.state.cells) (texts_below (register_text m.state.registers) 32 ++ texts_below (dirty_text m.dirty) (length m.dirty)) in
+    let one = length-append (head_text m.state.heap.base (length m.dirty) m.state.heap.is_open) (memory_text m.state.heap m.state.granules ++ (texts_below (register_text m.state.registers) 32 ++ texts_below (dirty_text m.dirty) (length m.dirty))) in
+    let two = length-append (memory_text m.state.heap m.state.granules) (texts_below (register_text m.state.registers) 32 ++ texts_below (dirty_text m.dirty) (length m.dirty)) in
     let three = length-append (texts_below (register_text m.state.registers) 32) (texts_below (dirty_text m.dirty) (length m.dirty)) in
     omega (arith, one, two, three, head, memory_long m, registers, dirty, e.pages)
 
@@ -292,16 +292,16 @@ pub record HasHeadBytes (m : MachineState) (bytes : List ℕ) : Type 0 where
   pub pages : little_number 4 (drop 8 bytes) ≡ length m.dirty
   pub open_is : (get_or bytes 12 0 == 1) ≡ m.state.heap.is_open
 
-pub head_read : (m : MachineState) (bytes : List ℕ) → IsWhole m → text_of m ≡ bytes → HasHeadBytes m bytes
+pub head_read : (m : MachineState) (bytes : List ℕ) → HasInvariant m → text_of m ≡ bytes → HasHeadBytes m bytes
 unfolding head_text
 head_read m bytes e text =
     let sizes = sizes_of m e in
-    let rest = memory_text m.state.heap m.state.cells ++ (texts_below (register_text m.state.registers) 32 ++ texts_below (dirty_text m.dirty) (length m.dirty)) in
+    let rest = memory_text m.state.heap m.state.granules ++ (texts_below (register_text m.state.registers) 32 ++ texts_below (dirty_text m.dirty) (length m.dirty)) in
     let base = little_bytes 8 m.state.heap.base in
     let pages = little_bytes 4 (length m.dirty) in
     let flag = flag_byte m.state.heap.is_open ∷ [] in
     let whole : StandsAt (text_of m) 0 (little_bytes 8 m.state.heap.base ++ (little_bytes 4 (length m.dirty) ++ (flag_byte m.state.heap.is_open ∷ []))) =
-    record { rest = memory_text m.state.heap m.state.cells ++ (texts_below (register_text m.state.registers) 32 ++ texts_below (dirty_text m.dirty) (length m.dirty)); is = refl } in
+    record { rest = memory_text m.state.heap m.state.granules ++ (texts_below (register_text m.state.registers) 32 ++ texts_below (dirty_text m.dirty) (length m.dirty)); is = refl } in
     let after = later (text_of m) (little_bytes 8 m.state.heap.base) (little_bytes 4 (length m.dirty) ++ (flag_byte m.state.heap.is_open ∷ [])) 0 8 (length_little 8 m.state.heap.base) whole in
     record {
       base = ap (little_number 8) (sym text) ∙ number_at (text_of m) _ 0 8 m.state.heap.base sizes.base whole;

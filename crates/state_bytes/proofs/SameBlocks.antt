@@ -3,8 +3,8 @@ use Rattle.std.proofs.Common.{◌≡◌, ◌∙◌, ◌<◌, ◌≤◌, ◌+◌,
 use Rattle.std.specs.Prelude.{All, AllPairs}
 use Rattle.std.proofs.lemmas.Bool.{cases_eq, cases_lt, ne_eqb}
 use Rattle.std.proofs.lemmas.List.Elements.{All-head, All-tail}
-use Rattle.heap_core.specs.Blocks.{IsBefore, Span, length_of, start_of}
-use Rattle.heap_core.specs.Heap.{HeapState, IsInside}
+use Rattle.heap_model.specs.Blocks.{IsBefore, Span, length_of, start_of}
+use Rattle.heap_model.specs.Heap.{HeapState, IsInside}
 use Rattle.state_bytes.proofs.StartsLaws.{starts_in-zero}
 use Rattle.state_bytes.specs.Text.{starts_in}
 

@@ -3,7 +3,7 @@ use Rattle.std.proofs.Common.{◌≡◌, ◌∙◌, ◌<◌, ◌+◌, ◌*◌, �
 use Rattle.std.proofs.lemmas.Bool.{cases_lt}
 use Rattle.byteorder.specs.Endian.{little_bytes, little_from}
 use Rattle.byteorder.specs.Numbers.{length-bytes_low_first, little_number-reads_back}
-use Rattle.heap_core.specs.Heap.{HeapState}
+use Rattle.heap_model.specs.Heap.{HeapState}
 use Rattle.tag_memory.specs.Cells.{Cell, Granule, is_dirty_at, register_at}
 use Rattle.state_bytes.specs.Text.{block_number, dirty_text, flag_byte, granule_text, head_text, register_text, texts_below}
 

@@ -4,12 +4,12 @@ use Rattle.std.specs.Prelude.{All, nat_le}
 use Rattle.std.proofs.lemmas.Bool.{and_left, and_parts, cases_eq, cases_lt, ne_eqb, true≢false}
 use Rattle.std.proofs.lemmas.Bool.Decides.{nat_tests}
 use Rattle.std.proofs.lemmas.List.Elements.{All-contains, All-head, All-tail}
-use Rattle.heap_core.specs.Blocks.{IsApart, Span, end_of, has_address, has_bounds, is_block, length_of, start_of}
-use Rattle.heap_core.specs.Found.{IsFound, blocks_in}
-use Rattle.heap_core.specs.Heap.{HeapState, IsInside, IsSound}
-use Rattle.heap_core.specs.Laws.{Contains-block, has_address-within}
-use Rattle.heap_core.specs.declared.block.Kind.{Kind}
-use Rattle.heap_core.specs.declared.block.Kind.TheVariants.{Live, Painted, Waiting}
+use Rattle.heap_model.specs.Blocks.{IsApart, Span, end_of, has_address, has_bounds, is_block, length_of, start_of}
+use Rattle.heap_model.specs.Found.{IsFound, blocks_in}
+use Rattle.heap_model.specs.Heap.{HeapState, IsInside, IsSound}
+use Rattle.heap_model.specs.Laws.{Contains-block, has_address-within}
+use Rattle.heap_model.specs.declared.block.Kind.{Kind}
+use Rattle.heap_model.specs.declared.block.Kind.TheVariants.{Live, Painted, Waiting}
 use Rattle.state_bytes.specs.Text.{starts_in}
 
 pub starts_in-zero : (blocks : List Span) (a : ℕ) → All (λ b. start_of b ≡ a → ⊥) blocks → starts_in blocks a ≡ 0

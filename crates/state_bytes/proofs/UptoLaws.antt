@@ -3,14 +3,14 @@ use Rattle.std.proofs.Common.{◌≡◌, ◌∙◌, ◌<◌, ◌≤◌, ◌+◌,
 use Rattle.std.specs.Prelude.{All, AllPairs}
 use Rattle.std.proofs.lemmas.Bool.{and_left, and_right, cases_eq, cases_lt, cond_both, le-ltb, lt-ltb, ne_eqb, or_right}
 use Rattle.std.proofs.lemmas.List.Elements.{All-cons, All-head, All-nil, All-tail}
-use Rattle.heap_core.specs.Blocks.{IsApart, IsBefore, Span, blocks_with, blocks_without, end_of, has_bounds, is_block, length_of, start_of}
-use Rattle.heap_core.specs.Heap.{HeapState, IsInside}
-use Rattle.heap_core.specs.Claim.{IsClaimable}
-use Rattle.heap_core.specs.Place.{IsFreeBlock, with_block}
+use Rattle.heap_model.specs.Blocks.{IsApart, IsBefore, Span, blocks_with, blocks_without, end_of, has_bounds, is_block, length_of, start_of}
+use Rattle.heap_model.specs.Heap.{HeapState, IsInside}
+use Rattle.heap_model.specs.Claim.{IsClaimable}
+use Rattle.heap_model.specs.Place.{IsFreeBlock, with_block}
 use Rattle.cap_codec.specs.Rounding.{IsExact}
 use Rattle.state_bytes.proofs.StartsLaws.{All-start}
-use Rattle.heap_core.specs.Quarantine.{with_waiting}
-use Rattle.state_bytes.specs.Replay.{upto}
+use Rattle.heap_model.specs.Quarantine.{with_waiting}
+use Rattle.state_bytes.specs.Replay.{blocks_below}
 use Rattle.state_bytes.specs.Text.{starts_in}
 
 -- Blocks of the heap m may be made in the heap s, in their order: they share no address with the blocks of s.
@@ -40,18 +40,18 @@ rest_of : (x : Span) (xs : List Span) → AllPairs IsBefore (x ∷ xs) → AllPa
 rest_of x xs order = λ j k d less lt. order (suc j) (suc k) d (omega (arith, less)) (omega (arith, lt))
 
 -- None before the first.
-upto_none : (a : ℕ) (xs : List Span) → All (λ b. a ≤ start_of b) xs → upto a xs ≡ []
+upto_none : (a : ℕ) (xs : List Span) → All (λ b. a ≤ start_of b) xs → blocks_below a xs ≡ []
 upto_none a [] from = refl
 upto_none a (b ∷ xs) from = rw (le-ltb (start_of b) a (All-head (λ (b : Span). a ≤ start_of b) b xs from)) (upto_none a xs (All-tail (λ (b : Span). a ≤ start_of b) b xs from))
 
 -- All once the address is past them.
-pub upto_all : (a : ℕ) (xs : List Span) → All (λ b. start_of b < a) xs → upto a xs ≡ xs
+pub upto_all : (a : ℕ) (xs : List Span) → All (λ b. start_of b < a) xs → blocks_below a xs ≡ xs
 upto_all a [] before = refl
 upto_all a (b ∷ xs) before =
     rw (lt-ltb (start_of b) a (All-head (λ (b : Span). start_of b < a) b xs before)) (ap (λ (l : List Span). b ∷ l) (upto_all a xs (All-tail (λ (b : Span). start_of b < a) b xs before)))
 
 -- A granule further, where no block starts at the address, and where one does.
-pub upto_same : (a : ℕ) (xs : List Span) → a % 16 ≡ 0 → All IsEven xs → starts_in xs a ≡ 0 → upto (a + 16) xs ≡ upto a xs
+pub upto_same : (a : ℕ) (xs : List Span) → a % 16 ≡ 0 → All IsEven xs → starts_in xs a ≡ 0 → blocks_below (a + 16) xs ≡ blocks_below a xs
 upto_same a [] even each none = refl
 upto_same a (b ∷ xs) even each none =
     let here = All-head IsEven b xs each in
@@ -66,7 +66,7 @@ upto_same a (b ∷ xs) even each none =
           ]
     ]
 
-pub upto_more : (a n : ℕ) (xs : List Span) → All IsEven xs → AllPairs IsBefore xs → starts_in xs a ≡ n → 0 < n → upto (a + 16) xs ≡ blocks_with (a, n) (upto a xs)
+pub upto_more : (a n : ℕ) (xs : List Span) → All IsEven xs → AllPairs IsBefore xs → starts_in xs a ≡ n → 0 < n → blocks_below (a + 16) xs ≡ blocks_with (a, n) (blocks_below a xs)
 upto_more a n [] each order is some = absurd (omega (arith, is, some))
 upto_more a n (b ∷ xs) each order is some =
     let here = All-head IsEven b xs each in
@@ -74,8 +74,8 @@ upto_more a n (b ∷ xs) each order is some =
     elim (cases_eq (start_of b) a) [
       | inl same ↦
           let long : length_of b ≡ n = sym (rw (eq-eqb (start_of b) a same) refl) ∙ is in
-          let none : upto (a + 16) xs ≡ [] = upto_none (a + 16) xs (λ k d lt. omega (arith, later k d lt, same, here.some)) in
-          let none_yet : upto a xs ≡ [] = upto_none a xs (λ k d lt. omega (arith, later k d lt, same)) in
+          let none : blocks_below (a + 16) xs ≡ [] = upto_none (a + 16) xs (λ k d lt. omega (arith, later k d lt, same, here.some)) in
+          let none_yet : blocks_below a xs ≡ [] = upto_none a xs (λ k d lt. omega (arith, later k d lt, same)) in
           rw (lt-ltb (start_of b) (a + 16) (omega (arith, same)), le-ltb (start_of b) a (omega (arith, same)), none, none_yet) (λ i. (same i, long i) ∷ [])
       | inr other ↦
           let next : starts_in xs a ≡ n = sym (rw (ne_eqb (start_of b) a other) refl) ∙ is in
@@ -93,7 +93,7 @@ upto_more a n (b ∷ xs) each order is some =
           rw (ne_eqb (start_of b) a (λ e. omega (arith, e, All-head (λ (b : Span). a < start_of b) b xs from))) (past_all a xs (All-tail (λ (b : Span). a < start_of b) b xs from))
 
 -- It shares no address with those before it.
-pub upto_apart : (a n : ℕ) (xs : List Span) → All IsEven xs → AllPairs IsBefore xs → starts_in xs a ≡ n → 0 < n → All (IsApart (a, n)) (upto a xs)
+pub upto_apart : (a n : ℕ) (xs : List Span) → All IsEven xs → AllPairs IsBefore xs → starts_in xs a ≡ n → 0 < n → All (IsApart (a, n)) (blocks_below a xs)
 upto_apart a n [] each order is some = All-nil (IsApart (a, n))
 upto_apart a n (b ∷ xs) each order is some =
     elim (cases_lt (start_of b) a) [
@@ -101,7 +101,7 @@ upto_apart a n (b ∷ xs) each order is some =
           let other : start_of b ≡ a → ⊥ = λ e. omega (arith, e, less) in
           let next : starts_in xs a ≡ n = sym (rw (ne_eqb (start_of b) a other) refl) ∙ is in
           let before : end_of b ≤ a = All-start (λ (c : Span). end_of b ≤ start_of c) a n xs (after b xs order) next some in
-          rw (lt-ltb (start_of b) a less) (All-cons (IsApart (a, n)) b (upto a xs) (inr before) (upto_apart a n xs (All-tail IsEven b xs each) (rest_of b xs order) next some))
+          rw (lt-ltb (start_of b) a less) (All-cons (IsApart (a, n)) b (blocks_below a xs) (inr before) (upto_apart a n xs (All-tail IsEven b xs each) (rest_of b xs order) next some))
       | inr le ↦
           let later = after b xs order in
           rw (le-ltb (start_of b) a le, upto_none a xs (λ k d lt. omega (arith, later k d lt, le))) (All-nil (IsApart (a, n)))
@@ -114,10 +114,10 @@ IsClaimable-free s a n some free exact =
     record { order = omega (arith, some); free = subst (IsFreeBlock s a) long free; exact = exact }
 
 -- The next block may be claimed.
-IsClaimable-next : (m s : HeapState) (xs : List Span) (a n : ℕ) → IsReplay m s xs → starts_in xs a ≡ n → 0 < n → IsClaimable (record s { waiting = upto a xs }) a (a + n)
+IsClaimable-next : (m s : HeapState) (xs : List Span) (a n : ℕ) → IsReplay m s xs → starts_in xs a ≡ n → 0 < n → IsClaimable (record s { waiting = blocks_below a xs }) a (a + n)
 IsClaimable-next m s xs a n replay is some =
     let here = All-start (IsInside m) a n xs replay.inside is some in
-    IsClaimable-free (record s { waiting = upto a xs }) a n some
+    IsClaimable-free (record s { waiting = blocks_below a xs }) a n some
     (record {
       start = here.start;
       whole = here.length;
@@ -186,18 +186,18 @@ held_at s now new i n result may is held =
 -- ---- one granule after the other
 
 -- Before the first granule no block starts, and behind the last one each does.
-pub upto_init : (s : HeapState) (xs : List Span) → All (IsInside s) xs → upto (s.base + 16 * 0) xs ≡ []
+pub upto_init : (s : HeapState) (xs : List Span) → All (IsInside s) xs → blocks_below (s.base + 16 * 0) xs ≡ []
 upto_init s xs inside = upto_none (s.base + 16 * 0) xs (λ k d lt. omega (arith, (inside k d lt).from))
 
-pub upto_end : (s : HeapState) (xs : List Span) (i : ℕ) → All (IsInside s) xs → s.size ≤ 16 * i → upto (s.base + 16 * i) xs ≡ xs
+pub upto_end : (s : HeapState) (xs : List Span) (i : ℕ) → All (IsInside s) xs → s.size ≤ 16 * i → blocks_below (s.base + 16 * i) xs ≡ xs
 upto_end s xs i inside all =
     upto_all (s.base + 16 * i) xs (λ k d lt. let h = inside k d lt in omega (arith, h.end, h.some, all))
 
 replay_from : (m s new : HeapState) (xs : List Span) (i n : ℕ) (result : Bool) → IsReplay m s xs → n ≡ starts_in xs (s.base + 16 * i)
-    → (n ≡ 0 → (result ≡ true) × (new ≡ record s { waiting = upto (s.base + 16 * i) xs }))
-    → (0 < n → IsClaimable (record s { waiting = upto (s.base + 16 * i) xs }) (s.base + 16 * i) (s.base + 16 * i + n)
-    → (result ≡ true) × (new ≡ record s { waiting = blocks_with (s.base + 16 * i, n) (upto (s.base + 16 * i) xs) }))
-    → (result ≡ true) × (new ≡ record s { waiting = upto (s.base + 16 * (i + 1)) xs })
+    → (n ≡ 0 → (result ≡ true) × (new ≡ record s { waiting = blocks_below (s.base + 16 * i) xs }))
+    → (0 < n → IsClaimable (record s { waiting = blocks_below (s.base + 16 * i) xs }) (s.base + 16 * i) (s.base + 16 * i + n)
+    → (result ≡ true) × (new ≡ record s { waiting = blocks_with (s.base + 16 * i, n) (blocks_below (s.base + 16 * i) xs) }))
+    → (result ≡ true) × (new ≡ record s { waiting = blocks_below (s.base + 16 * (i + 1)) xs })
 replay_from m s new xs i n result replay is none held =
     let a = s.base + 16 * i in
     let next : s.base + 16 * i + 16 ≡ s.base + 16 * (i + 1) = omega arith in
@@ -205,32 +205,32 @@ replay_from m s new xs i n result replay is none held =
     elim (cases_lt 0 n) [
       | inl some ↦
           let done = held some (IsClaimable-next m s xs (s.base + 16 * i) n replay (sym is) some) in
-          let more = sym (upto_more (s.base + 16 * i) n xs (IsEven-inside m xs replay.inside) replay.order (sym is) some) ∙ ap (λ (x : ℕ). upto x xs) next in
+          let more = sym (upto_more (s.base + 16 * i) n xs (IsEven-inside m xs replay.inside) replay.order (sym is) some) ∙ ap (λ (x : ℕ). blocks_below x xs) next in
           (done.0, done.1 ∙ (λ j. record s { waiting = more j }))
       | inr most ↦
           let done = none (omega (arith, most)) in
-          let same = sym (upto_same (s.base + 16 * i) xs even (IsEven-inside m xs replay.inside) (sym is ∙ omega (arith, most))) ∙ ap (λ (x : ℕ). upto x xs) next in
+          let same = sym (upto_same (s.base + 16 * i) xs even (IsEven-inside m xs replay.inside) (sym is ∙ omega (arith, most))) ∙ ap (λ (x : ℕ). blocks_below x xs) next in
           (done.0, done.1 ∙ (λ j. record s { waiting = same j }))
     ]
 
 pub replay_step : (m s now new : HeapState) (xs : List Span) (i n : ℕ) (result : Bool) → IsReplay m s xs → n ≡ starts_in xs (s.base + 16 * i)
-    → now ≡ record s { waiting = upto (s.base + 16 * i) xs }
+    → now ≡ record s { waiting = blocks_below (s.base + 16 * i) xs }
     → (n ≡ 0 → (result ≡ true) × (new ≡ now))
     → (0 < n → IsClaimable now (now.base + 16 * i) (now.base + 16 * i + n)
     → (result ≡ true) × (new ≡ record now { waiting = blocks_with (now.base + 16 * i, n) now.waiting }))
-    → (result ≡ true) × (new ≡ record s { waiting = upto (s.base + 16 * (i + 1)) xs })
+    → (result ≡ true) × (new ≡ record s { waiting = blocks_below (s.base + 16 * (i + 1)) xs })
 replay_step m s now new xs i n result replay is now_is =
     subst (λ (h : HeapState). (n ≡ 0 → (result ≡ true) × (new ≡ h))
     → (0 < n → IsClaimable h (h.base + 16 * i) (h.base + 16 * i + n) → (result ≡ true) × (new ≡ record h { waiting = blocks_with (h.base + 16 * i, n) h.waiting }))
-    → (result ≡ true) × (new ≡ record s { waiting = upto (s.base + 16 * (i + 1)) xs }))
+    → (result ≡ true) × (new ≡ record s { waiting = blocks_below (s.base + 16 * (i + 1)) xs }))
     (sym now_is) (replay_from m s new xs i n result replay is)
 
 -- ---- the same of live blocks
 
-IsClaimable-next_live : (m s : HeapState) (xs : List Span) (a n : ℕ) → IsReplay m s xs → starts_in xs a ≡ n → 0 < n → IsClaimable (record s { live = upto a xs }) a (a + n)
+IsClaimable-next_live : (m s : HeapState) (xs : List Span) (a n : ℕ) → IsReplay m s xs → starts_in xs a ≡ n → 0 < n → IsClaimable (record s { live = blocks_below a xs }) a (a + n)
 IsClaimable-next_live m s xs a n replay is some =
     let here = All-start (IsInside m) a n xs replay.inside is some in
-    IsClaimable-free (record s { live = upto a xs }) a n some
+    IsClaimable-free (record s { live = blocks_below a xs }) a n some
     (record {
       start = here.start;
       whole = here.length;
@@ -244,10 +244,10 @@ IsClaimable-next_live m s xs a n replay is some =
     (All-start (λ (b : Span). IsExact (start_of b) (end_of b)) a n xs replay.exact is some)
 
 live_replay_from : (m s new : HeapState) (xs : List Span) (i n : ℕ) (result : Bool) → IsReplay m s xs → n ≡ starts_in xs (s.base + 16 * i)
-    → (n ≡ 0 → (result ≡ true) × (new ≡ record s { live = upto (s.base + 16 * i) xs }))
-    → (0 < n → IsClaimable (record s { live = upto (s.base + 16 * i) xs }) (s.base + 16 * i) (s.base + 16 * i + n)
-    → (result ≡ true) × (new ≡ record s { live = blocks_with (s.base + 16 * i, n) (upto (s.base + 16 * i) xs) }))
-    → (result ≡ true) × (new ≡ record s { live = upto (s.base + 16 * (i + 1)) xs })
+    → (n ≡ 0 → (result ≡ true) × (new ≡ record s { live = blocks_below (s.base + 16 * i) xs }))
+    → (0 < n → IsClaimable (record s { live = blocks_below (s.base + 16 * i) xs }) (s.base + 16 * i) (s.base + 16 * i + n)
+    → (result ≡ true) × (new ≡ record s { live = blocks_with (s.base + 16 * i, n) (blocks_below (s.base + 16 * i) xs) }))
+    → (result ≡ true) × (new ≡ record s { live = blocks_below (s.base + 16 * (i + 1)) xs })
 live_replay_from m s new xs i n result replay is none held =
     let a = s.base + 16 * i in
     let next : s.base + 16 * i + 16 ≡ s.base + 16 * (i + 1) = omega arith in
@@ -255,22 +255,22 @@ live_replay_from m s new xs i n result replay is none held =
     elim (cases_lt 0 n) [
       | inl some ↦
           let done = held some (IsClaimable-next_live m s xs (s.base + 16 * i) n replay (sym is) some) in
-          let more = sym (upto_more (s.base + 16 * i) n xs (IsEven-inside m xs replay.inside) replay.order (sym is) some) ∙ ap (λ (x : ℕ). upto x xs) next in
+          let more = sym (upto_more (s.base + 16 * i) n xs (IsEven-inside m xs replay.inside) replay.order (sym is) some) ∙ ap (λ (x : ℕ). blocks_below x xs) next in
           (done.0, done.1 ∙ (λ j. record s { live = more j }))
       | inr most ↦
           let done = none (omega (arith, most)) in
-          let same = sym (upto_same (s.base + 16 * i) xs even (IsEven-inside m xs replay.inside) (sym is ∙ omega (arith, most))) ∙ ap (λ (x : ℕ). upto x xs) next in
+          let same = sym (upto_same (s.base + 16 * i) xs even (IsEven-inside m xs replay.inside) (sym is ∙ omega (arith, most))) ∙ ap (λ (x : ℕ). blocks_below x xs) next in
           (done.0, done.1 ∙ (λ j. record s { live = same j }))
     ]
 
 pub live_replay_step : (m s now new : HeapState) (xs : List Span) (i n : ℕ) (result : Bool) → IsReplay m s xs → n ≡ starts_in xs (s.base + 16 * i)
-    → now ≡ record s { live = upto (s.base + 16 * i) xs }
+    → now ≡ record s { live = blocks_below (s.base + 16 * i) xs }
     → (n ≡ 0 → (result ≡ true) × (new ≡ now))
     → (0 < n → IsClaimable now (now.base + 16 * i) (now.base + 16 * i + n)
     → (result ≡ true) × (new ≡ record now { live = blocks_with (now.base + 16 * i, n) now.live }))
-    → (result ≡ true) × (new ≡ record s { live = upto (s.base + 16 * (i + 1)) xs })
+    → (result ≡ true) × (new ≡ record s { live = blocks_below (s.base + 16 * (i + 1)) xs })
 live_replay_step m s now new xs i n result replay is now_is =
     subst (λ (h : HeapState). (n ≡ 0 → (result ≡ true) × (new ≡ h))
     → (0 < n → IsClaimable h (h.base + 16 * i) (h.base + 16 * i + n) → (result ≡ true) × (new ≡ record h { live = blocks_with (h.base + 16 * i, n) h.live }))
-    → (result ≡ true) × (new ≡ record s { live = upto (s.base + 16 * (i + 1)) xs }))
+    → (result ≡ true) × (new ≡ record s { live = blocks_below (s.base + 16 * (i + 1)) xs }))
     (sym now_is) (live_replay_from m s new xs i n result replay is)

@@ -1,9 +1,9 @@
 -- The whole text of a machine, written and compared in four pieces.
 use Rattle.std.proofs.Common.{◌≡◌, ◌∙◌, ◌+◌, ◌*◌, ℕ, Bool, List, ◌++◌, length, refl, sym, ap, subst, arith}
-use Rattle.heap_core.specs.Heap.{HeapState}
-use Rattle.heap_machine.specs.Parts.{MachineState}
+use Rattle.heap_model.specs.Heap.{HeapState}
+use Rattle.heap_machine.specs.Storage.{MachineState}
 use Rattle.tag_memory.specs.Cells.{Cell, Granule}
-use Rattle.state_bytes.specs.State.{IsWhole}
+use Rattle.state_bytes.specs.State.{HasInvariant}
 use Rattle.state_bytes.specs.Text.{dirty_text, head_text, memory_text, register_text, text_length, text_of, texts_below}
 use Rattle.state_bytes.specs.Writing.{IsWritten, StandsAt}
 use Rattle.state_bytes.proofs.PieceLaws.{dirty_long, granules_long, memory_as_texts, registers_long}
@@ -15,23 +15,23 @@ use Rattle.state_bytes.proofs.WritingLaws.{written_long, written_two, written_wh
 -- The pieces of a machine's text, and where the last two of them begin.
 pub record ArePieces (m : MachineState) (head granules registers pages : List ℕ) (at last : ℕ) : Type 0 where
   pub head_is : head ≡ head_text m.state.heap.base (length m.dirty) m.state.heap.is_open
-  pub granules_are : granules ≡ memory_text m.state.heap m.state.cells
+  pub granules_are : granules ≡ memory_text m.state.heap m.state.granules
   pub registers_are : registers ≡ texts_below (register_text m.state.registers) 32
   pub pages_are : pages ≡ texts_below (dirty_text m.dirty) (length m.dirty)
-  pub at_is : at ≡ 13 + 21 * length m.state.cells
+  pub at_is : at ≡ 13 + 21 * length m.state.granules
   pub last_is : last ≡ at + 17 * 32
 
 -- How long they are.
 record AreLong (m : MachineState) (h g r p : List ℕ) : Type 0 where
   head : length h ≡ 13
-  granules : length g ≡ 21 * length m.state.cells
+  granules : length g ≡ 21 * length m.state.granules
   registers : length r ≡ 17 * 32
   pages : length p ≡ length m.dirty
 
 long_of : (m : MachineState) (h g r p : List ℕ) (at last : ℕ) → ArePieces m h g r p at last → AreLong m h g r p
 long_of m h g r p at last are = record {
   head = ap (λ (l : List ℕ). length l) are.head_is ∙ length_head m.state.heap.base (length m.dirty) m.state.heap.is_open;
-  granules = ap (λ (l : List ℕ). length l) (are.granules_are ∙ memory_as_texts m.state.heap m.state.cells (length m.state.cells) refl) ∙ granules_long m.state.heap m.state.cells (length m.state.cells);
+  granules = ap (λ (l : List ℕ). length l) (are.granules_are ∙ memory_as_texts m.state.heap m.state.granules (length m.state.granules) refl) ∙ granules_long m.state.heap m.state.granules (length m.state.granules);
   registers = ap (λ (l : List ℕ). length l) are.registers_are ∙ registers_long m.state.registers 32;
   pages = ap (λ (l : List ℕ). length l) are.pages_are ∙ dirty_long m.dirty (length m.dirty);
 }
@@ -39,7 +39,7 @@ long_of m h g r p at last are = record {
 whole_is : (m : MachineState) (h g r p : List ℕ) (at last : ℕ) → ArePieces m h g r p at last → h ++ (g ++ (r ++ p)) ≡ text_of m
 whole_is m h g r p at last are = λ j. are.head_is j ++ (are.granules_are j ++ (are.registers_are j ++ are.pages_are j))
 
-pub all_written : (m : MachineState) (h g r p a b c d e : List ℕ) (at last : ℕ) → IsWhole m → ArePieces m h g r p at last → length a ≡ text_length (length m.dirty)
+pub all_written : (m : MachineState) (h g r p a b c d e : List ℕ) (at last : ℕ) → HasInvariant m → ArePieces m h g r p at last → length a ≡ text_length (length m.dirty)
     → IsWritten a 0 h b → IsWritten b 13 g c → IsWritten c at r d → IsWritten d last p e → e ≡ text_of m
 all_written m h g r p a b c d e at last whole are room first second third fourth =
     let long = long_of m h g r p at last are in
@@ -59,7 +59,7 @@ pub record AllStand (bytes h g r p : List ℕ) (at last : ℕ) : Type 0 where
   pub registers : StandsAt bytes at r
   pub pages : StandsAt bytes last p
 
-pub text_of_pieces : (m : MachineState) (bytes h g r p : List ℕ) (at last : ℕ) → IsWhole m → ArePieces m h g r p at last → length bytes ≡ text_length (length m.dirty)
+pub text_of_pieces : (m : MachineState) (bytes h g r p : List ℕ) (at last : ℕ) → HasInvariant m → ArePieces m h g r p at last → length bytes ≡ text_length (length m.dirty)
     → AllStand bytes h g r p at last → text_of m ≡ bytes
 text_of_pieces m bytes h g r p at last whole are room all =
     let long = long_of m h g r p at last are in
@@ -85,18 +85,18 @@ pieces_of_text m bytes h g r p at last are text =
 -- ---- what the code tells of a machine
 
 pub own_pieces : (m : MachineState)
-    → ArePieces m (head_text m.state.heap.base (length m.dirty) m.state.heap.is_open) (memory_text m.state.heap m.state.cells) (texts_below (register_text m.state.registers) 32)
-    (texts_below (dirty_text m.dirty) (length m.dirty)) (13 + 21 * length m.state.cells) (13 + 21 * length m.state.cells + 17 * 32)
+    → ArePieces m (head_text m.state.heap.base (length m.dirty) m.state.heap.is_open) (memory_text m.state.heap m.state.granules) (texts_below (register_text m.state.registers) 32)
+    (texts_below (dirty_text m.dirty) (length m.dirty)) (13 + 21 * length m.state.granules) (13 + 21 * length m.state.granules + 17 * 32)
 own_pieces m = record { head_is = refl; granules_are = refl; registers_are = refl; pages_are = refl; at_is = refl; last_is = refl }
 
-pub head_same_as : (m : MachineState) (heap : HeapState) (cells : List Granule) (base pages : ℕ) (is_open : Bool) → IsWhole m → heap ≡ m.state.heap → cells ≡ m.state.cells → base ≡ heap.base
-    → 256 * pages ≡ length cells → is_open ≡ heap.is_open → head_text base pages is_open ≡ head_text m.state.heap.base (length m.dirty) m.state.heap.is_open
-head_same_as m heap cells base pages is_open whole heap_is cells_are base_is count open_is =
-    let counted : pages ≡ length m.dirty = omega (arith, count, ap (λ (xs : List Granule). length xs) cells_are, whole.pages) in
+pub head_same_as : (m : MachineState) (heap : HeapState) (granules : List Granule) (base pages : ℕ) (is_open : Bool) → HasInvariant m → heap ≡ m.state.heap → granules ≡ m.state.granules → base ≡ heap.base
+    → 256 * pages ≡ length granules → is_open ≡ heap.is_open → head_text base pages is_open ≡ head_text m.state.heap.base (length m.dirty) m.state.heap.is_open
+head_same_as m heap granules base pages is_open whole heap_is granules_are base_is count open_is =
+    let counted : pages ≡ length m.dirty = omega (arith, count, ap (λ (xs : List Granule). length xs) granules_are, whole.pages) in
     λ j. head_text ((base_is ∙ ap (λ (s : HeapState). s.base) heap_is) j) (counted j) ((open_is ∙ ap (λ (s : HeapState). s.is_open) heap_is) j)
 
-pub granules_same_as : (m : MachineState) (heap : HeapState) (cells : List Granule) → heap ≡ m.state.heap → cells ≡ m.state.cells → memory_text heap cells ≡ memory_text m.state.heap m.state.cells
-granules_same_as m heap cells heap_is cells_are = λ j. memory_text (heap_is j) (cells_are j)
+pub granules_same_as : (m : MachineState) (heap : HeapState) (granules : List Granule) → heap ≡ m.state.heap → granules ≡ m.state.granules → memory_text heap granules ≡ memory_text m.state.heap m.state.granules
+granules_same_as m heap granules heap_is granules_are = λ j. memory_text (heap_is j) (granules_are j)
 
 pub registers_same_as : (m : MachineState) (registers : List Cell) → registers ≡ m.state.registers → texts_below (register_text registers) 32 ≡ texts_below (register_text m.state.registers) 32
 registers_same_as m registers are = λ j. texts_below (register_text (are j)) 32
@@ -107,9 +107,9 @@ pages_same_as m dirty are = λ j. texts_below (dirty_text (are j)) (length (are 
 pub stands_as : (bytes p q : List ℕ) (a b : ℕ) → a ≡ b → p ≡ q → StandsAt bytes b q → StandsAt bytes a p
 stands_as bytes p q a b places pieces stands = subst (λ (k : ℕ). StandsAt bytes k p) (sym places) (subst (StandsAt bytes b) (sym pieces) stands)
 
-pub place_of : (m : MachineState) (cells : List Granule) (n : ℕ) → cells ≡ m.state.cells → n ≡ length cells → 13 + 21 * n ≡ 13 + 21 * length m.state.cells
-place_of m cells n are count = omega (arith, count, ap (λ (xs : List Granule). length xs) are)
+pub place_of : (m : MachineState) (granules : List Granule) (n : ℕ) → granules ≡ m.state.granules → n ≡ length granules → 13 + 21 * n ≡ 13 + 21 * length m.state.granules
+place_of m granules n are count = omega (arith, count, ap (λ (xs : List Granule). length xs) are)
 
 -- The length of a room for as many pages.
-pub room_of : (m : MachineState) (cells : List Granule) (pages long : ℕ) → IsWhole m → cells ≡ m.state.cells → 256 * pages ≡ length cells → long ≡ text_length pages → long ≡ text_length (length m.dirty)
-room_of m cells pages long whole are count is = omega (arith, is, count, ap (λ (xs : List Granule). length xs) are, whole.pages)
+pub room_of : (m : MachineState) (granules : List Granule) (pages long : ℕ) → HasInvariant m → granules ≡ m.state.granules → 256 * pages ≡ length granules → long ≡ text_length pages → long ≡ text_length (length m.dirty)
+room_of m granules pages long whole are count is = omega (arith, is, count, ap (λ (xs : List Granule). length xs) are, whole.pages)

@@ -4,7 +4,7 @@ use Rattle.std.proofs.lemmas.List.{append-nil, drop-drop, drop_at, length-drop, 
 use Rattle.std.proofs.lemmas.Slice.{put_mid-paste}
 use borrow.Rule.Slice.PartMut.{put_mid}
 use Rattle.byteorder.specs.Endian.{little_bytes}
-use Rattle.heap_core.specs.Heap.{HeapState}
+use Rattle.heap_model.specs.Heap.{HeapState}
 use Rattle.tag_memory.specs.Cells.{Cell, register_at}
 use Rattle.state_bytes.specs.Text.{block_number, flag_byte, granule_text, head_text, register_text, texts_below}
 use Rattle.state_bytes.specs.Writing.{IsWritten}

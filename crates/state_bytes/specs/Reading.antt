@@ -1,7 +1,7 @@
 -- What was read of a machine.
 use Rattle.std.specs.Prelude.{◌≡◌, List, length}
-use Rattle.heap_core.specs.Heap.{HeapState}
-use Rattle.heap_machine.specs.Parts.{MachineState}
+use Rattle.heap_model.specs.Heap.{HeapState}
+use Rattle.heap_machine.specs.Storage.{MachineState}
 use Rattle.tag_memory.specs.Cells.{Cell, MemoryState}
 use Rattle.state_bytes.specs.declared.decoding.Head.{Head}
 
@@ -15,6 +15,6 @@ pub record HasHead (m : MachineState) (head : Head) : Type 0 where
 pub record HasParts (m : MachineState) (heap : HeapState) (memory : MemoryState) (registers : List Cell) : Type 0 where
   pub heap_is : heap ≡ m.state.heap
   pub base : memory.base ≡ m.state.heap.base
-  pub cells : memory.cells ≡ m.state.cells
+  pub granules : memory.granules ≡ m.state.granules
   pub dirty : memory.dirty ≡ m.dirty
   pub registers_are : registers ≡ m.state.registers

@@ -1,21 +1,21 @@
 -- What holds of the state of every machine, and of one that bytes can tell of.
 use Rattle.std.specs.Prelude.{◌≡◌, ◌<◌, ◌^◌, All}
 use Rattle.cap_codec.specs.Rounding.{IsExact}
-use Rattle.heap_core.specs.Blocks.{end_of, start_of}
-use Rattle.heap_core.specs.Found.{blocks_in}
-use Rattle.heap_core.specs.Heap.{HeapState}
-use Rattle.heap_core.specs.declared.block.Kind.{Kind}
-use Rattle.heap_machine.specs.Dirty.{HasPages, IsDirtied}
-use Rattle.heap_machine.specs.Parts.{MachineState}
-use Rattle.heap_machine.specs.Sound.{IsMachine}
+use Rattle.heap_model.specs.Blocks.{end_of, start_of}
+use Rattle.heap_model.specs.Found.{blocks_in}
+use Rattle.heap_model.specs.Heap.{HeapState}
+use Rattle.heap_model.specs.declared.block.Kind.{Kind}
+use Rattle.machine_steps.specs.Dirty.{HasPages, IsDirtied}
+use Rattle.heap_machine.specs.Storage.{MachineState}
+use Rattle.machine_steps.specs.Sound.{IsMachine}
 
 -- What holds of each machine: its state is sound, what the painted blocks have in memory stands in dirty pages, there is
 -- a mark for each page, and words are numbers of 128 bits.
-pub record IsWhole (m : MachineState) : Type 0 where
+pub record HasInvariant (m : MachineState) : Type 0 where
   pub sound : IsMachine m.state
   pub dirtied : IsDirtied m.state m.dirty
   pub pages : HasPages m.state m.dirty
-  pub cells : All (λ granule. granule.0 < 2 ^ 128) m.state.cells
+  pub granules : All (λ granule. granule.0 < 2 ^ 128) m.state.granules
   pub registers : All (λ cell. cell.0.bits < 2 ^ 128) m.state.registers
 
 -- A capability can hold the bounds of each block, whatever its kind.
@@ -25,7 +25,7 @@ pub record AreExact (heap : HeapState) : Type 0 where
 -- A state that bytes can tell of: it is a machine's, and its blocks are exact. That of the first machine is, and each
 -- command keeps it so.
 pub record IsState (m : MachineState) : Type 0 where
-  pub whole : IsWhole m
+  pub invariant : HasInvariant m
   pub exact : AreExact m.state.heap
 
 -- Both have one state and the same dirty pages. Their sweeps may be cut in other ways.

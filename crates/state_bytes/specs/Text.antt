@@ -2,11 +2,11 @@
 -- many bytes as any other of its sort. So the texts of two heaps of as many pages are as long.
 use Rattle.std.specs.Prelude.{◌+◌, ◌-◌, ◌*◌, ◌%◌, ◌==◌, ℕ, zero, suc, Bool, List, [], ◌∷◌, ◌++◌, false, if◌then◌else◌, length, slice_index_or}
 use Rattle.byteorder.specs.Endian.{little_bytes}
-use Rattle.heap_core.specs.Blocks.{Span, length_of, start_of}
-use Rattle.heap_core.specs.Heap.{HeapState}
-use Rattle.heap_core.specs.declared.block.Kind.{Kind}
-use Rattle.heap_core.specs.declared.block.Kind.TheVariants.{Live, Painted, Waiting}
-use Rattle.heap_machine.specs.Parts.{MachineState}
+use Rattle.heap_model.specs.Blocks.{Span, length_of, start_of}
+use Rattle.heap_model.specs.Heap.{HeapState}
+use Rattle.heap_model.specs.declared.block.Kind.{Kind}
+use Rattle.heap_model.specs.declared.block.Kind.TheVariants.{Live, Painted, Waiting}
+use Rattle.heap_machine.specs.Storage.{MachineState}
 use Rattle.tag_memory.specs.Cells.{Cell, Granule, is_dirty_at, register_at, register_count}
 
 -- A flag in a byte.
@@ -27,9 +27,9 @@ kind_number Waiting = 2
 kind_number Painted = 3
 
 -- A block's length and the number of its kind in one: lengths are multiples of 16. A length of 0 stands for no block.
-abbrev pub numbered : ℕ → ℕ → ℕ
-numbered kind zero = 0
-numbered kind (suc length) = suc length + kind
+abbrev pub block_code : ℕ → ℕ → ℕ
+block_code kind zero = 0
+block_code kind (suc length) = suc length + kind
 
 -- The length that such a number tells of a block of this kind: 0 where it tells of another, or of none.
 abbrev pub length_told : ℕ → ℕ → ℕ
@@ -37,7 +37,7 @@ length_told kind number = if number % 16 == kind then number - kind else 0
 
 -- The number of the block that starts at an address, or 0. No two blocks do.
 abbrev pub block_number : HeapState → ℕ → ℕ
-block_number heap a = numbered 1 (starts_in heap.live a) + (numbered 2 (starts_in heap.waiting a) + numbered 3 (starts_in heap.painted a))
+block_number heap a = block_code 1 (starts_in heap.live a) + (block_code 2 (starts_in heap.waiting a) + block_code 3 (starts_in heap.painted a))
 
 -- ---- the parts of a text
 
@@ -56,7 +56,7 @@ granule_text heap i granule = little_bytes 16 granule.0 ++ ((flag_byte granule.1
 
 -- All granules.
 unfoldable pub memory_text : HeapState → List Granule → List ℕ
-memory_text heap cells = texts_below (λ i. granule_text heap i (slice_index_or cells i (0, false))) (length cells)
+memory_text heap granules = texts_below (λ i. granule_text heap i (slice_index_or granules i (0, false))) (length granules)
 
 -- A register: its bytes and its tag.
 unfoldable pub register_text : List Cell → ℕ → List ℕ
@@ -72,7 +72,7 @@ dirty_text dirty page = flag_byte (is_dirty_at dirty page) ∷ []
 abbrev pub text_of : MachineState → List ℕ
 text_of m =
     head_text m.state.heap.base (length m.dirty) m.state.heap.is_open
-    ++ (memory_text m.state.heap m.state.cells
+    ++ (memory_text m.state.heap m.state.granules
     ++ (texts_below (register_text m.state.registers) register_count
     ++ texts_below (dirty_text m.dirty) (length m.dirty)))
 

@@ -1,13 +1,13 @@
 //! The blocks that bytes tell of.
 
 ghost use Rattle.std.specs.Prelude.{◌≡◌, ◌<◌, ◌≤◌, ◌+◌, ◌-◌, ◌*◌, ◌^◌, [], false, length, true};
-ghost use Rattle.heap_core.specs.Blocks.{blocks_with, is_block};
-ghost use Rattle.heap_core.specs.Claim.{IsClaimable};
-ghost use Rattle.heap_core.specs.Found.{blocks_in};
-ghost use Rattle.heap_core.specs.Place.{with_block};
-ghost use Rattle.heap_core.specs.Quarantine.{with_waiting};
-ghost use Rattle.heap_machine.specs.Parts.{MachineState};
-ghost use Rattle.state_bytes.specs.Replay.{IsStart, reached};
+ghost use Rattle.heap_model.specs.Blocks.{blocks_with, is_block};
+ghost use Rattle.heap_model.specs.Claim.{IsClaimable};
+ghost use Rattle.heap_model.specs.Found.{blocks_in};
+ghost use Rattle.heap_model.specs.Place.{with_block};
+ghost use Rattle.heap_model.specs.Quarantine.{with_waiting};
+ghost use Rattle.heap_machine.specs.Storage.{MachineState};
+ghost use Rattle.state_bytes.specs.Replay.{IsStart, heap_below};
 ghost use Rattle.state_bytes.specs.State.{AreExact, IsState};
 ghost use Rattle.state_bytes.specs.Text.{kind_number, length_told, starts_in, text_of};
 
@@ -90,8 +90,8 @@ fn read_others(heap: &mut Heap, bytes: &[u8]) -> bool
 fn read_row(heap: &mut Heap, bytes: &[u8], i: usize) -> bool
     requires inside { 16 * i < heap.old.size }
     requires row { 13 + 21 * (i + 1) ≤ length bytes.now }
-    ensures all { (m : MachineState) → IsState m → text_of m ≡ bytes.now → heap.old ≡ reached m.state.heap i
-        → (result ≡ true) × (heap.new ≡ reached m.state.heap (i + 1)) }
+    ensures all { (m : MachineState) → IsState m → text_of m ≡ bytes.now → heap.old ≡ heap_below m.state.heap i
+        → (result ≡ true) × (heap.new ≡ heap_below m.state.heap (i + 1)) }
     ensures size { heap.new.size ≡ heap.old.size }
     ensures exact { AreExact heap.old → AreExact heap.new }
 {
@@ -108,7 +108,7 @@ fn read_row(heap: &mut Heap, bytes: &[u8], i: usize) -> bool
 // The number in a granule's row.
 fn number_in(bytes: &[u8], i: usize) -> u32
     requires inside { 13 + 21 * (i + 1) ≤ length bytes.now }
-    ensures { (m : MachineState) → IsState m → text_of m ≡ bytes.now → i < length m.state.cells
+    ensures { (m : MachineState) → IsState m → text_of m ≡ bytes.now → i < length m.state.granules
         → (kind : Kind) → length_told (kind_number kind) result ≡ starts_in (blocks_in m.state.heap kind) (m.state.heap.base + 16 * i) }
 {
     LittleEndian::read_u32(&bytes[HEAD + ROW * i + NUMBER..])
@@ -138,7 +138,7 @@ fn claim_at(heap: &mut Heap, i: usize, length: u32) -> bool
     if length == 0 {
         return true;
     }
-    heap.whole();
+    heap.invariant();
     let base = heap.base() + GRANULE * i as u64;
     claim_block(heap, base, u128::from(base) + u128::from(length))
 }
@@ -184,7 +184,7 @@ fn release_at(heap: &mut Heap, i: usize, length: u32) -> bool
     ensures open { heap.new.is_open ≡ heap.old.is_open }
     ensures exact { AreExact heap.old → AreExact heap.new }
 {
-    heap.whole();
+    heap.invariant();
     let base = heap.base() + GRANULE * i as u64;
     let Ok(freed) = heap.release(base, u128::from(base) + u128::from(length)) else {
         return false;

@@ -3,11 +3,11 @@
 ghost use Rattle.std.specs.Prelude.{◌≡◌, ◌<◌, ◌≤◌, ◌+◌, ◌*◌, ◌∷◌, [], length, true};
 ghost use Rattle.byteorder.specs.Endian.{little_bytes};
 ghost use Rattle.tag_memory.specs.Cells.{register_count};
-ghost use Rattle.state_bytes.specs.State.{IsWhole};
+ghost use Rattle.state_bytes.specs.State.{HasInvariant};
 ghost use Rattle.state_bytes.specs.Text.{dirty_text, flag_byte, granule_text, head_text, memory_text, register_text, text_of, texts_below};
 ghost use Rattle.state_bytes.specs.Writing.{StandsAt};
 
-use crate::encoding::{byte_of, number_at, tell_whole};
+use crate::encoding::{byte_of, number_at, tell_all};
 use crate::places::{HEAD, NUMBER, OPEN, PAGES, REGISTER, ROW, TAG, text_length};
 use byteorder::{ByteOrder, LittleEndian};
 use heap_core::Heap;
@@ -18,9 +18,9 @@ use tag_memory::{Memory, REGISTERS, Registers};
 pub fn is_text(bytes: &[u8], machine: &Machine) -> bool
     ensures yes { result ≡ true → text_of machine.now ≡ bytes.now }
     ensures no { text_of machine.now ≡ bytes.now → result ≡ true }
-    ensures whole { IsWhole machine.now }
+    ensures invariant { HasInvariant machine.now }
 {
-    tell_whole(machine);
+    tell_all(machine);
     let heap = machine.heap();
     let memory = machine.memory();
     if bytes.len() != text_length(memory.pages()) {
@@ -55,10 +55,10 @@ fn is_head(bytes: &[u8], base: u64, pages: u32, is_open: bool) -> bool
 
 // All granules.
 fn are_granules(bytes: &[u8], heap: &Heap, memory: &Memory) -> bool
-    requires same { 16 * length memory.now.cells ≡ heap.now.size }
-    requires inside { 13 + 21 * length memory.now.cells ≤ length bytes.now }
-    ensures yes { result ≡ true → StandsAt bytes.now 13 (memory_text heap.now memory.now.cells) }
-    ensures no { StandsAt bytes.now 13 (memory_text heap.now memory.now.cells) → result ≡ true }
+    requires same { 16 * length memory.now.granules ≡ heap.now.size }
+    requires inside { 13 + 21 * length memory.now.granules ≤ length bytes.now }
+    ensures yes { result ≡ true → StandsAt bytes.now 13 (memory_text heap.now memory.now.granules) }
+    ensures no { StandsAt bytes.now 13 (memory_text heap.now memory.now.granules) → result ≡ true }
 {
     for i in 0..memory.granules() {
         let (bits, tag) = memory.cell(i);
@@ -91,7 +91,7 @@ fn are_registers(bytes: &[u8], start: usize, registers: &Registers) -> bool
     ensures yes { result ≡ true → StandsAt bytes.now start (texts_below (register_text registers.now) register_count) }
     ensures no { StandsAt bytes.now start (texts_below (register_text registers.now) register_count) → result ≡ true }
 {
-    registers.whole();
+    registers.invariant();
     for r in 0..REGISTERS {
         if !is_register(bytes, start, registers, r) {
             return false;
@@ -120,7 +120,7 @@ fn are_dirty(bytes: &[u8], start: usize, memory: &Memory) -> bool
     ensures yes { result ≡ true → StandsAt bytes.now start (texts_below (dirty_text memory.now.dirty) (length memory.now.dirty)) }
     ensures no { StandsAt bytes.now start (texts_below (dirty_text memory.now.dirty) (length memory.now.dirty)) → result ≡ true }
 {
-    memory.whole();
+    memory.invariant();
     for page in 0..memory.pages() {
         if !is_flag(bytes, start + page as usize, memory.dirty(page)) {
             return false;

@@ -2,19 +2,19 @@
 
 ghost use Rattle.std.specs.Prelude.{◌≡◌, ◌≢◌, ◌≤◌, ◌==◌, ℕ, IfErr, IfOk, drop, false, length, slice_index_or};
 ghost use Rattle.byteorder.specs.Endian.{little_number};
-ghost use Rattle.heap_machine.specs.Making.{made};
-ghost use Rattle.heap_machine.specs.Parts.{MachineState};
+ghost use Rattle.heap_machine.specs.Making.{machine_of_fields};
+ghost use Rattle.heap_machine.specs.Storage.{MachineState};
 ghost use Rattle.state_bytes.specs.Reading.{HasHead, HasParts};
-ghost use Rattle.state_bytes.specs.State.{AreExact, IsSameState, IsState, IsWhole};
+ghost use Rattle.state_bytes.specs.State.{AreExact, IsSameState, IsState, HasInvariant};
 ghost use Rattle.state_bytes.specs.Text.{text_of};
 ghost use Rattle.state_bytes.specs.Text as text;
 
 use crate::blocks::read_blocks;
 use crate::comparing::is_text;
 use crate::fault::BytesFault;
-use crate::laws::texts;
+use crate::laws::one_text_law;
 use crate::places::{HEAD, OPEN, PAGES, REGISTER, ROW, text_length};
-use crate::words::{read_cells, read_dirty, read_registers};
+use crate::words::{read_dirty, read_granules, read_registers};
 use byteorder::{ByteOrder, LittleEndian};
 use heap_core::Heap;
 use heap_machine::Machine;
@@ -36,10 +36,10 @@ pub fn decode(alloc: Global, cutting: Cutting, bytes: &[u8]) -> Result<Machine, 
     ensures text { IfOk result (λ machine. text_of machine ≡ bytes.now) }
     ensures state { IfOk result IsState }
     ensures cutting { IfOk result (λ machine. machine.cutting ≡ cutting) }
-    ensures same { IfOk result (λ machine. (m : MachineState) → IsWhole m → text_of m ≡ bytes.now → IsSameState machine m) }
+    ensures same { IfOk result (λ machine. (m : MachineState) → HasInvariant m → text_of m ≡ bytes.now → IsSameState machine m) }
     ensures refused { IfErr result (λ why. why ≢ BytesFault.Memory → (m : MachineState) → IsState m → text_of m ≢ bytes.now) }
 {
-    texts();
+    one_text_law();
     let machine = match read(alloc, cutting, bytes) {
         Ok(machine) => machine,
         Err(why) => return Err(why),
@@ -77,7 +77,7 @@ fn read_head(bytes: &[u8]) -> Result<Head, BytesFault>
     ensures head { IfOk result (λ head. (m : MachineState) → IsState m → text_of m ≡ bytes.now → HasHead m head) }
     ensures refused { IfErr result (λ why. (m : MachineState) → IsState m → text_of m ≢ bytes.now) }
 {
-    texts();
+    one_text_law();
     if bytes.len() < HEAD {
         return Err(BytesFault::Length);
     }
@@ -110,16 +110,16 @@ fn head_in(bytes: &[u8]) -> Head
 // The granules, the dirty pages and the registers.
 fn read_words(memory: &mut Memory, bytes: &[u8]) -> Registers
     requires length { length bytes.now ≡ text.text_length (length memory.old.dirty) }
-    requires zero { (k : ℕ) → slice_index_or memory.old.cells k (0, false) ≡ (0, false) }
+    requires zero { (k : ℕ) → slice_index_or memory.old.granules k (0, false) ≡ (0, false) }
     ensures base { memory.new.base ≡ memory.old.base }
     ensures memory { (m : MachineState) → IsState m → text_of m ≡ bytes.now → length m.dirty ≡ length memory.old.dirty
-        → (memory.new.cells ≡ m.state.cells) × (memory.new.dirty ≡ m.dirty) }
+        → (memory.new.granules ≡ m.state.granules) × (memory.new.dirty ≡ m.dirty) }
     ensures registers { (m : MachineState) → IsState m → text_of m ≡ bytes.now → length m.dirty ≡ length memory.old.dirty
         → result ≡ m.state.registers }
 {
-    memory.whole();
+    memory.invariant();
     let registers = HEAD + ROW * memory.granules();
-    read_cells(memory, bytes);
+    read_granules(memory, bytes);
     read_dirty(memory, bytes, registers + REGISTER * REGISTERS as usize);
     read_registers(bytes, registers)
 }
@@ -131,8 +131,8 @@ fn machine_of(
     registers: Registers,
     cutting: Cutting,
 ) -> Result<Machine, BytesFault>
-    ensures made { IfOk result (λ machine. machine ≡ made heap memory registers cutting) }
-    ensures refused { IfErr result (λ why. (m : MachineState) → IsWhole m → HasParts m heap memory registers → ⊥) }
+    ensures made { IfOk result (λ machine. machine ≡ machine_of_fields heap memory registers cutting) }
+    ensures refused { IfErr result (λ why. (m : MachineState) → HasInvariant m → HasParts m heap memory registers → ⊥) }
 {
     match Machine::of(heap, memory, registers, cutting) {
         Ok(machine) => Ok(machine),

@@ -3,7 +3,7 @@
 ghost use Rattle.std.specs.Prelude.{◌≡◌, ◌<◌, ◌≤◌, ◌+◌, ◌*◌, ◌∷◌, [], IfOk, length};
 ghost use Rattle.byteorder.specs.Endian.{little_bytes};
 ghost use Rattle.tag_memory.specs.Cells.{register_count};
-ghost use Rattle.state_bytes.specs.State.{IsWhole};
+ghost use Rattle.state_bytes.specs.State.{HasInvariant};
 ghost use Rattle.state_bytes.specs.Text.{block_number, dirty_text, flag_byte, granule_text, head_text, kind_number, memory_text, register_text, text_of, texts_below};
 ghost use Rattle.state_bytes.specs.Text as text;
 ghost use Rattle.state_bytes.specs.Writing.{IsWritten};
@@ -19,9 +19,9 @@ use tag_memory::{Memory, REGISTERS, Registers};
 /// registers, and which pages are dirty. How its sweeps are cut isn't told. It errs where an allocation is refused.
 pub fn encode(alloc: Global, machine: &Machine) -> Result<Vec<u8>, AllocError>
     ensures text { IfOk result (λ bytes. bytes.items ≡ text_of machine.now) }
-    ensures whole { IsWhole machine.now }
+    ensures invariant { HasInvariant machine.now }
 {
-    tell_whole(machine);
+    tell_all(machine);
     let mut bytes = vec![in alloc; 0; text_length(machine.memory().pages())]?;
     encode_into(machine, &mut bytes);
     Ok(bytes)
@@ -31,9 +31,9 @@ pub fn encode(alloc: Global, machine: &Machine) -> Result<Vec<u8>, AllocError>
 pub fn encode_into(machine: &Machine, out: &mut [u8])
     requires room { length out.old ≡ text.text_length (length machine.now.dirty) }
     ensures text { out.new ≡ text_of machine.now }
-    ensures whole { IsWhole machine.now }
+    ensures invariant { HasInvariant machine.now }
 {
-    tell_whole(machine);
+    tell_all(machine);
     let heap = machine.heap();
     let memory = machine.memory();
     let at = HEAD + ROW * memory.granules();
@@ -44,12 +44,12 @@ pub fn encode_into(machine: &Machine, out: &mut [u8])
 }
 
 /// Tells what holds of every machine. Nothing is done.
-pub fn tell_whole(machine: &Machine)
-    ensures { IsWhole machine.now }
+pub fn tell_all(machine: &Machine)
+    ensures { HasInvariant machine.now }
 {
-    machine.whole();
-    machine.memory().whole();
-    machine.registers().whole();
+    machine.invariant();
+    machine.memory().invariant();
+    machine.registers().invariant();
 }
 
 fn put_head(out: &mut [u8], base: u64, pages: u32, is_open: bool)
@@ -63,9 +63,9 @@ fn put_head(out: &mut [u8], base: u64, pages: u32, is_open: bool)
 
 // All granules.
 fn put_memory(out: &mut [u8], heap: &Heap, memory: &Memory)
-    requires same { 16 * length memory.now.cells ≡ heap.now.size }
-    requires inside { 13 + 21 * length memory.now.cells ≤ length out.old }
-    ensures { IsWritten out.old 13 (memory_text heap.now memory.now.cells) out.new }
+    requires same { 16 * length memory.now.granules ≡ heap.now.size }
+    requires inside { 13 + 21 * length memory.now.granules ≤ length out.old }
+    ensures { IsWritten out.old 13 (memory_text heap.now memory.now.granules) out.new }
 {
     for i in 0..memory.granules() {
         let (bits, tag) = memory.cell(i);
@@ -90,7 +90,7 @@ pub fn number_at(heap: &Heap, i: usize) -> u32
     requires inside { 16 * i < heap.now.size }
     ensures { result ≡ block_number heap.now (heap.now.base + 16 * i) }
 {
-    heap.whole();
+    heap.invariant();
     let Some((block, kind)) = heap.block_starting_at(i) else {
         return 0;
     };
@@ -126,7 +126,7 @@ fn put_dirty(out: &mut [u8], start: usize, memory: &Memory)
     requires inside { start + length memory.now.dirty ≤ length out.old }
     ensures { IsWritten out.old start (texts_below (dirty_text memory.now.dirty) (length memory.now.dirty)) out.new }
 {
-    memory.whole();
+    memory.invariant();
     for page in 0..memory.pages() {
         put_flag(out, start + page as usize, memory.dirty(page));
     }

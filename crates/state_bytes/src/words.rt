@@ -1,7 +1,7 @@
 //! The granules, dirty pages and registers that bytes tell of.
 
 ghost use Rattle.std.specs.Prelude.{◌≡◌, ◌<◌, ◌≤◌, ◌+◌, ◌*◌, ℕ, Bool, false, if◌then◌else◌, length, slice_index_or, slice_set, true};
-ghost use Rattle.heap_machine.specs.Parts.{MachineState};
+ghost use Rattle.heap_machine.specs.Storage.{MachineState};
 ghost use Rattle.tag_memory.specs.Cells.{register_count};
 ghost use Rattle.state_bytes.specs.State.{IsState};
 ghost use Rattle.state_bytes.specs.Text.{text_of};
@@ -12,14 +12,14 @@ use cap_codec::Word;
 use tag_memory::{Memory, PAGE_GRANULES, REGISTERS, Registers};
 
 /// Writes the granules that bytes tell of into a memory that is zero and untagged.
-pub fn read_cells(memory: &mut Memory, bytes: &[u8])
-    requires rows { 13 + 21 * length memory.old.cells ≤ length bytes.now }
-    requires zero { (k : ℕ) → slice_index_or memory.old.cells k (0, false) ≡ (0, false) }
-    ensures count { length memory.new.cells ≡ length memory.old.cells }
+pub fn read_granules(memory: &mut Memory, bytes: &[u8])
+    requires rows { 13 + 21 * length memory.old.granules ≤ length bytes.now }
+    requires zero { (k : ℕ) → slice_index_or memory.old.granules k (0, false) ≡ (0, false) }
+    ensures count { length memory.new.granules ≡ length memory.old.granules }
     ensures pages { length memory.new.dirty ≡ length memory.old.dirty }
     ensures base { memory.new.base ≡ memory.old.base }
-    ensures cells { (m : MachineState) → IsState m → text_of m ≡ bytes.now → length m.state.cells ≡ length memory.old.cells
-        → memory.new.cells ≡ m.state.cells }
+    ensures granules { (m : MachineState) → IsState m → text_of m ≡ bytes.now → length m.state.granules ≡ length memory.old.granules
+        → memory.new.granules ≡ m.state.granules }
 {
     for i in 0..memory.granules() {
         let at = HEAD + ROW * i;
@@ -30,9 +30,9 @@ pub fn read_cells(memory: &mut Memory, bytes: &[u8])
 
 // Writes a granule that is zero and untagged, if it is to be another.
 fn put_over_zero(memory: &mut Memory, granule: usize, bits: u128, tag: bool)
-    requires inside { granule < length memory.old.cells }
-    requires zero { slice_index_or memory.old.cells granule (0, false) ≡ (0, false) }
-    ensures cells { memory.new.cells ≡ slice_set memory.old.cells granule (bits, tag) }
+    requires inside { granule < length memory.old.granules }
+    requires zero { slice_index_or memory.old.granules granule (0, false) ≡ (0, false) }
+    ensures granules { memory.new.granules ≡ slice_set memory.old.granules granule (bits, tag) }
     ensures pages { length memory.new.dirty ≡ length memory.old.dirty }
     ensures base { memory.new.base ≡ memory.old.base }
 {
@@ -45,8 +45,8 @@ fn put_over_zero(memory: &mut Memory, granule: usize, bits: u128, tag: bool)
 /// Makes the pages dirty that bytes tell of, from `start` on, and the others clean.
 pub fn read_dirty(memory: &mut Memory, bytes: &[u8], start: usize)
     requires marks { start + length memory.old.dirty ≤ length bytes.now }
-    requires pages { length memory.old.cells ≡ 256 * length memory.old.dirty }
-    ensures cells { memory.new.cells ≡ memory.old.cells }
+    requires pages { length memory.old.granules ≡ 256 * length memory.old.dirty }
+    ensures granules { memory.new.granules ≡ memory.old.granules }
     ensures base { memory.new.base ≡ memory.old.base }
     ensures dirty { (m : MachineState) → IsState m → text_of m ≡ bytes.now → length m.dirty ≡ length memory.old.dirty
         → start ≡ 557 + 5376 * length m.dirty → memory.new.dirty ≡ m.dirty }
@@ -59,8 +59,8 @@ pub fn read_dirty(memory: &mut Memory, bytes: &[u8], start: usize)
 
 // Makes a page dirty, where it is to be.
 fn mark_if(memory: &mut Memory, page: usize, is_dirty: bool)
-    requires page { 256 * page < length memory.old.cells }
-    ensures cells { memory.new.cells ≡ memory.old.cells }
+    requires page { 256 * page < length memory.old.granules }
+    ensures granules { memory.new.granules ≡ memory.old.granules }
     ensures base { memory.new.base ≡ memory.old.base }
     ensures dirty { memory.new.dirty ≡ (if is_dirty then slice_set memory.old.dirty page true else memory.old.dirty) }
 {
@@ -72,8 +72,8 @@ fn mark_if(memory: &mut Memory, page: usize, is_dirty: bool)
 
 // Makes a page dirty, and leaves its granules as they are: its first one is tagged for a moment.
 fn mark_dirty(memory: &mut Memory, page: usize)
-    requires page { 256 * page < length memory.old.cells }
-    ensures cells { memory.new.cells ≡ memory.old.cells }
+    requires page { 256 * page < length memory.old.granules }
+    ensures granules { memory.new.granules ≡ memory.old.granules }
     ensures base { memory.new.base ≡ memory.old.base }
     ensures dirty { memory.new.dirty ≡ slice_set memory.old.dirty page true }
 {
@@ -87,7 +87,7 @@ fn mark_dirty(memory: &mut Memory, page: usize)
 /// The registers that bytes tell of, from `start` on.
 pub fn read_registers(bytes: &[u8], start: usize) -> Registers
     requires { start + 17 * register_count ≤ length bytes.now }
-    ensures all { (m : MachineState) → IsState m → text_of m ≡ bytes.now → start ≡ 13 + 21 * length m.state.cells → result ≡ m.state.registers }
+    ensures all { (m : MachineState) → IsState m → text_of m ≡ bytes.now → start ≡ 13 + 21 * length m.state.granules → result ≡ m.state.registers }
     ensures count { length result ≡ register_count }
 {
     let mut registers = Registers::new();
@@ -96,6 +96,6 @@ pub fn read_registers(bytes: &[u8], start: usize) -> Registers
         let bits = LittleEndian::read_u128(&bytes[at..]);
         registers.set(r, Word { bits }, bytes[at + TAG] == 1);
     }
-    registers.whole();
+    registers.invariant();
     registers
 }

@@ -4,11 +4,11 @@ use Rattle.command_line.specs.declared.asked.Options.{Options}
 use Rattle.command_line.specs.declared.asked.Refusal.{Refusal}
 use Rattle.command_line.specs.declared.asked.Refusal.TheVariants.{Memory, Words}
 use Rattle.command_line.specs.Asked.{NamesStates, Text}
-use Rattle.heap_trace.specs.Reading.{trace_of}
+use Rattle.trace_text.specs.Reading.{trace_of}
 use Rattle.trace_text.specs.declared.fault.TraceFault.{TraceFault}
-use Rattle.trace_program.specs.declared.answer.Answer.{Answer}
-use Rattle.trace_program.specs.Answer.{line_of_fault, refusal_line, refusal_status, status_of, text_of}
-use Rattle.trace_program.specs.Device.{ReadsUpTo, most_read}
+use Rattle.program_devices.specs.declared.answer.Answer.{Answer}
+use Rattle.program_devices.specs.Answer.{line_of_fault, refusal_line, refusal_status, status_of, text_of}
+use Rattle.program_devices.specs.Device.{ReadsUpTo, most_read}
 use Rattle.states_command.specs.Answer.{IsAnswer, IsStatesAnswer, lacks_memory, names_fault, refuses, shows_states, tells_states, usage_line}
 
 -- The line of a fault is the answer where the text has that fault.

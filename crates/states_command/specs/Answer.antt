@@ -2,10 +2,10 @@
 use Rattle.std.specs.Prelude.{◌≡◌, ℕ, List, Option, Err, codes}
 use Rattle.command_line.specs.declared.asked.Options.{Options}
 use Rattle.command_line.specs.Asked.{NamesStates, Text}
-use Rattle.heap_trace.specs.Reading.{trace_of}
-use Rattle.state_text.specs.States.{IsDataOf}
-use Rattle.trace_program.specs.Answer.{line_of_fault, memory_line}
-use Rattle.trace_program.specs.Device.{ReadsUpTo, most_read}
+use Rattle.trace_text.specs.Reading.{trace_of}
+use Rattle.state_data.specs.States.{IsDataOf}
+use Rattle.program_devices.specs.Answer.{line_of_fault, memory_line}
+use Rattle.program_devices.specs.Device.{ReadsUpTo, most_read}
 use Rattle.trace_text.specs.declared.fault.TraceFault.{TraceFault}
 
 -- What is written where the words are refused.

@@ -5,4 +5,4 @@ mod program;
 
 pub use crate::program::{refuse, states_tool};
 pub use command_line::{Options, Refusal};
-pub use trace_program::{Failed, FromRead, FromWrite, Sink, Source};
+pub use program_devices::{Failed, FromRead, FromWrite, Sink, Source};

@@ -4,17 +4,17 @@ ghost use Rattle.std.specs.Prelude.{◌≡◌, ◌≢◌, ◌↔◌, ◌||◌, I
 ghost use Rattle.std.specs.Io.KnownBytes.{Appends};
 ghost use Rattle.command_line.specs.declared.asked.Options.{Options as TheOptions};
 ghost use Rattle.command_line.specs.Asked.{AreWithinLimits, NamesStates, texts};
-ghost use Rattle.trace_program.specs.Answer.{BeginsAnswer, HasAnswered, refusal_line, refusal_status};
-ghost use Rattle.trace_program.specs.Device.{AppendsBeginning, ReadsFew, most_read};
+ghost use Rattle.program_devices.specs.Answer.{BeginsAnswer, HasAnswered, refusal_line, refusal_status};
+ghost use Rattle.program_devices.specs.Device.{AppendsBeginning, ReadsFew, most_read};
 ghost use Rattle.states_command.specs.Answer.{IsAnswer, IsStatesAnswer, usage_line};
 
 use command_line::{Options, Refusal, states_options_by};
 use heap_trace::RunFault;
-use state_text::states;
+use program_devices::{Answer, ReadFault, Sink, Source, fault_answer, give, read_text};
+use state_data::states;
 use std::alloc::Global;
 use std::thread::Threads;
 use sweep_pool::Cutting;
-use trace_program::{Answer, ReadFault, Sink, Source, fault_answer, read_text, tell};
 use trace_text::LONGEST_TEXT;
 
 const USAGE: &[u8] = b"usage: heap_states [--workers N] [--cut N]\n";
@@ -32,7 +32,7 @@ pub fn states_tool<'a, R: Threads + Sync, I: Source, O: Sink>(
 ) -> u8
     requires reader { I.failed reader.old ≡ false }
     requires writer { O.failed writer.old ≡ false }
-    ensures whole { result ≢ 4 → HasAnswered (IsAnswer (texts words.entry.now) (I.remaining reader.old) (I.remaining reader.new))
+    ensures complete { result ≢ 4 → HasAnswered (IsAnswer (texts words.entry.now) (I.remaining reader.old) (I.remaining reader.new))
         result (O.contents writer.old) (O.contents writer.new) }
     ensures part { result ≡ 4 → BeginsAnswer (IsAnswer (texts words.entry.now) (I.remaining reader.old) (I.remaining reader.new))
         (O.contents writer.old) (O.contents writer.new) }
@@ -44,7 +44,7 @@ pub fn states_tool<'a, R: Threads + Sync, I: Source, O: Sink>(
 {
     match states_options_by(alloc, words) {
         Ok(options) => match read_text(alloc, reader, LONGEST_TEXT) {
-            Ok(text) => tell(writer, states_answer(rt, alloc, &text, options), USAGE),
+            Ok(text) => give(writer, states_answer(rt, alloc, &text, options), USAGE),
             Err(ReadFault::Memory) => refuse(writer, Refusal::Memory),
             Err(ReadFault::Failed) => 4,
         },
@@ -55,11 +55,11 @@ pub fn states_tool<'a, R: Threads + Sync, I: Source, O: Sink>(
 /// Writes the line of a refusal, and answers its status, or 4 where a write failed.
 pub fn refuse<O: Sink>(writer: &mut O, refusal: Refusal) -> u8
     requires { O.failed writer.old ≡ false }
-    ensures whole { result ≢ 4 → (result ≡ refusal_status refusal) × Appends (O.contents writer.old) (O.contents writer.new) (refusal_line usage_line refusal) }
+    ensures complete { result ≢ 4 → (result ≡ refusal_status refusal) × Appends (O.contents writer.old) (O.contents writer.new) (refusal_line usage_line refusal) }
     ensures part { result ≡ 4 → AppendsBeginning (O.contents writer.old) (O.contents writer.new) (refusal_line usage_line refusal) }
     ensures failed { (result ≡ 4) ↔ (O.failed writer.new ≡ true) }
 {
-    trace_program::refuse(writer, refusal, USAGE)
+    program_devices::refuse(writer, refusal, USAGE)
 }
 
 // The data of the trace that this text is, or the line of its fault.

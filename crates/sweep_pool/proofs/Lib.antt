@@ -1,7 +1,1 @@
-pub mod CountLaws
-pub mod GatherLaws
-pub mod MarkLaws
-pub mod MaskLaws
 pub mod PaintLaws
-pub mod TaskLaws
-pub mod WholeLaws

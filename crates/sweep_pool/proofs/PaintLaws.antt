@@ -8,12 +8,12 @@ use Rattle.std.proofs.lemmas.List.Elements.{All-head, All-tail}
 use Rattle.std.proofs.Math.Nat.{div-le_of_le-mul, div-mul-le_self}
 use Rattle.std.proofs.lemmas.Nat.{le-div, mul-le}
 use Rattle.std.proofs.lemmas.Nat.Bits.{bit_at-lt}
-use Rattle.heap_core.specs.Blocks.{Span, end_of, has_address, lies_in, start_of}
-use Rattle.heap_core.specs.Heap.{HeapState, IsInside, IsSound, due}
-use Rattle.heap_core.specs.Laws.{due-inside, has_address-after, has_address-before, has_address-within}
+use Rattle.heap_model.specs.Blocks.{Span, end_of, has_address, lies_in, start_of}
+use Rattle.heap_model.specs.Heap.{HeapState, IsInside, IsSound, due}
+use Rattle.heap_model.specs.Laws.{due-inside, has_address-after, has_address-before, has_address-within}
 use Rattle.heap_core.specs.Painting.{IsPainted, is_in_due}
-use Rattle.heap_core.specs.Quarantine.{IsShadow}
-use Rattle.mark_board.specs.Bits.{has, united}
+use Rattle.heap_model.specs.Quarantine.{IsShadow}
+use Rattle.mark_board.specs.Bits.{has, union}
 use Rattle.mark_board.specs.Board.{BoardState, IsOf, IsSeat, SeatState, no_bits, word_count}
 use Rattle.mark_board.specs.Laws.{bit-none, bit-united}
 use Rattle.sweep_pool.specs.Painting.{EachAt, HasGranules, HasPainted, is_due_at, share_start}
@@ -41,7 +41,7 @@ lies_in_at s k blocks = lies_in blocks (s.base + 16 * k)
 
 -- One share more: what lies in neither part was set through neither seat.
 pub painted-join : (s : HeapState) (board : BoardState) (a b c : ℕ) (whole one both : SeatState) → a ≤ b → b ≤ c → HasPainted s board b c whole → HasPainted s board a b one
-    → IsOf board both → IsSeat both → both.mine ≡ united whole.mine one.mine → both.seen ≡ united whole.seen one.seen → HasPainted s board a c both
+    → IsOf board both → IsSeat both → both.mine ≡ union whole.mine one.mine → both.seen ≡ union whole.seen one.seen → HasPainted s board a c both
 painted-join s board a b c whole one both low high all more of sound mine seen = record {
   of = of;
   sound = sound;

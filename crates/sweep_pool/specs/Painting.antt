@@ -1,7 +1,7 @@
 -- A shadow that several workers paint: the blocks that are due are cut into shares, one a worker.
 use Rattle.std.specs.Prelude.{◌≡◌, ◌<◌, ◌+◌, ◌*◌, ◌/◌, ℕ, Bool, List, true, false, length, slice_index_or}
-use Rattle.heap_core.specs.Blocks.{lies_in}
-use Rattle.heap_core.specs.Heap.{HeapState, due}
+use Rattle.heap_model.specs.Blocks.{lies_in}
+use Rattle.heap_model.specs.Heap.{HeapState, due}
 use Rattle.heap_core.specs.Painting.{is_in_due}
 use Rattle.mark_board.specs.Bits.{has}
 use Rattle.mark_board.specs.Board.{BoardState, IsOf, IsSeat, SeatState, no_bits}

@@ -1,24 +1,13 @@
-//! Which tags a sweep takes, and how it is cut into tasks for workers.
+//! What a pass of a revoker finds: a heap's shadow, painted by workers, the registers whose tags it takes, and the masks
+//! of `sweep_masks`.
 #![tactic(auto)]
 
-mod alone;
-mod claims;
-mod cutting;
-mod dirty;
-mod gate;
-mod gathering;
 mod painting;
-mod pool;
-mod sweep;
-mod task;
-mod workers;
+mod registers;
 
-pub use crate::claims::sweep_next;
-pub use crate::cutting::{CutFault, Cutting};
-pub use crate::dirty::{sweep_dirty, sweep_dirty_alone};
-pub use crate::gate::{Gate, Open};
-pub use crate::gathering::{GatherFault, gather};
 pub use crate::painting::{paint_shadow, share_of};
-pub use crate::pool::{sweep_masks, sweep_masks_alone};
-pub use crate::sweep::{SweepFault, due_registers, swept_registers};
-pub use crate::task::{Swept, sweep_task};
+pub use crate::registers::due_registers;
+pub use sweep_masks::{
+    CutFault, Cutting, Gate, GatherFault, Open, SweepFault, Swept, gather, sweep_dirty,
+    sweep_dirty_alone, sweep_masks, sweep_masks_alone, sweep_next, sweep_task, swept_registers,
+};

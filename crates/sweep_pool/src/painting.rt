@@ -1,21 +1,19 @@
 //! A shadow that several workers paint.
 
-ghost use Rattle.heap_core.specs.Heap.{due};
+ghost use Rattle.heap_model.specs.Heap.{due};
 ghost use Rattle.heap_core.specs.Painting.{is_in_due};
-ghost use Rattle.heap_core.specs.Quarantine.{IsShadow};
+ghost use Rattle.heap_model.specs.Quarantine.{IsShadow};
 ghost use Rattle.mark_board.specs.Board.{IsOf, IsSeat, first_seat, no_bits};
 ghost use Rattle.std.specs.Prelude.{◌≡◌, ◌<◌, ◌≤◌, ◌+◌, ◌*◌, ◌/◌, IfErr, IfOk, length, vec_len};
 ghost use Rattle.sweep_pool.specs.Painting.{EachAt, HasGranules, HasPainted, IsUnpainted, IsPaintedShare, share_start};
 
-use crate::cutting::Cutting;
-use crate::gate::Gate;
-use crate::sweep::SweepFault;
 use heap_core::{Heap, Shadow};
 use mark_board::{Board, BoardFault, MarkSeat};
 use std::alloc::{AllocError, Global};
 use std::ops::Range;
 use std::thread;
 use std::thread::Threads;
+use sweep_masks::{Cutting, Gate, SweepFault};
 
 /// What the workers that paint a shadow share.
 #[derive(Drop)]
@@ -38,6 +36,19 @@ pub(crate) struct Share {
 /// including, `(i + 1) * h / w` (`share_of`), by rising start, and `gate` is told of it once, by the worker that painted
 /// it. A single worker is the calling thread, which copies the row of the held granules (Filardo et al. 2020,
 /// Cornucopia: the shadow bitmap).
+///
+/// ```rust
+/// use heap_core::Heap;
+/// use sweep_pool::{Cutting, Open, paint_shadow};
+///
+/// let mut heap = Heap::new(alloc, 0x4000_0000, 1)?;
+/// heap.reserve(32)?;
+/// heap.release(0x4000_0000, 0x4000_0020)?;
+/// let cutting = Cutting::new(4, 16)?;
+/// let shadow = paint_shadow(&rt, alloc, &heap, &cutting, &Open)?;
+/// assert!(rt; shadow.painted(1));
+/// assert!(rt; !shadow.painted(2));
+/// ```
 pub fn paint_shadow<R: Threads + Sync, G: Gate + Sync>(
     rt: &R,
     alloc: Global,
@@ -48,7 +59,7 @@ pub fn paint_shadow<R: Threads + Sync, G: Gate + Sync>(
     ensures shadow { IfOk result (IsShadow heap.now) }
     ensures err { IfErr result (λ fault. fault ≡ SweepFault.Memory) }
 {
-    cutting.whole();
+    cutting.invariant();
     let workers = cutting.workers();
     if workers == 1 {
         let shadow = copied(alloc, heap)?;
@@ -106,7 +117,7 @@ fn board_for(alloc: Global, heap: &Heap, workers: u32) -> Result<(Board, MarkSea
     ensures sound { IfOk result (λ made. IsSeat made.1) }
     ensures err { IfErr result (λ fault. fault ≡ SweepFault.Memory) }
 {
-    heap.whole();
+    heap.invariant();
     match Board::new(alloc, heap.granules() as u32, workers) {
         Ok(made) => Ok(made),
         Err(fault) => match fault {
@@ -227,6 +238,6 @@ fn finished(alloc: Global, heap: &Heap, board: Board, seat: MarkSeat) -> Result<
     let Ok(words) = board.finish(alloc, seat) else {
         return Err(SweepFault::Memory);
     };
-    heap.whole();
+    heap.invariant();
     Ok(Shadow::from_words(words, heap.granules()))
 }

@@ -49,10 +49,10 @@ tagged_by bits tags i inside = ap (λ (cell : Granule). cell.1) (get_or-granules
 pub untagged_by : (bits tags : List ℕ) (may_hold : List Bool) → AreBlank tags may_hold → AreUntagged (granules_of bits tags) may_hold
 unfolding AreBlank
 untagged_by bits tags may_hold blank i none =
-    let cells : List Granule = granules_of bits tags in
+    let granules : List Granule = granules_of bits tags in
     elim (cases_lt i (length bits)) [
       | inl inside ↦ tagged_by bits tags i inside ∙ no_tag tags i (blank (i / 256) none (i / 64) (omega arith))
-      | inr past ↦ ap (λ (cell : Granule). cell.1) (get_or_past cells i (0, false) (omega (arith, past, length-granules_of bits tags)))
+      | inr past ↦ ap (λ (cell : Granule). cell.1) (get_or_past granules i (0, false) (omega (arith, past, length-granules_of bits tags)))
     ]
 
 -- The pages that may hold tags are those with a tagged granule, where each of them has a word that isn't 0.

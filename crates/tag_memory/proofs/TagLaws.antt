@@ -32,9 +32,9 @@ get_or-granules_of bits tags i h =
     get_or-map (λ (at : ℕ × ℕ). (at.1, is_set_for tags at.0)) (enumerate_from 0 bits) i (0, 0) (0, false) (rw length-enumerate_from h) ∙ ap (λ (at : ℕ × ℕ). (at.1, is_set_for tags at.0)) at
 
 -- a list of granules is that of these bits and words, where each granule is
-same_granules : (bits tags : List ℕ) (cells : List Granule) → length cells ≡ length bits → ((i : ℕ) → i < length bits → get_or cells i (0, false) ≡ (get_or bits i 0, is_set_for tags i)) → granules_of bits tags ≡ cells
-same_granules bits tags cells e h =
-    ext_get_or (0, false) (granules_of bits tags) cells (length-granules_of bits tags ∙ sym e)
+same_granules : (bits tags : List ℕ) (granules : List Granule) → length granules ≡ length bits → ((i : ℕ) → i < length bits → get_or granules i (0, false) ≡ (get_or bits i 0, is_set_for tags i)) → granules_of bits tags ≡ granules
+same_granules bits tags granules e h =
+    ext_get_or (0, false) (granules_of bits tags) granules (length-granules_of bits tags ∙ sym e)
     (λ i lt. let within : i < length bits = omega (arith, lt, length-granules_of bits tags) in get_or-granules_of bits tags i within ∙ sym (h i within))
 
 -- ---- new memory
@@ -51,9 +51,9 @@ pub granules_of-zeros : (n m : ℕ) → granules_of (replicate n 0) (replicate m
 granules_of-zeros n m =
     let bits : List ℕ = replicate n 0 in
     let long : length bits ≡ n = length-replicate {A = ℕ} n 0 in
-    let cells : List Granule = replicate n (0, false) in
-    let count : length cells ≡ n = length-replicate {A = Granule} n (0, false) in
-    same_granules bits (replicate m 0) cells (count ∙ sym long)
+    let granules : List Granule = replicate n (0, false) in
+    let count : length granules ≡ n = length-replicate {A = Granule} n (0, false) in
+    same_granules bits (replicate m 0) granules (count ∙ sym long)
     (λ i h. let lt : i < n = omega arith in
     get_or-replicate {A = Granule} n i (0, false) (0, false) lt ∙ (λ k. (sym (zero_at n i) k, sym (no_bit m i) k)))
 
@@ -75,19 +75,19 @@ is_set_for-set tags i word k tag within w =
 pub granules_of-set : (bits tags : List ℕ) (i b word : ℕ) (tag : Bool) → length bits ≡ 64 * length tags → i < length bits → ((j : ℕ) → j < 64 → is_set word j ≡ (if j == i % 64 then tag else is_set (get_or tags (i / 64) 0) j))
     → granules_of (set bits i b) (set tags (i / 64) word) ≡ set (granules_of bits tags) i (b, tag)
 granules_of-set bits tags i b word tag e h w =
-    let cells : List Granule = granules_of bits tags in
+    let granules : List Granule = granules_of bits tags in
     let new_tags : List ℕ = set tags (i / 64) word in
-    let long : length cells ≡ length bits = length-granules_of bits tags in
+    let long : length granules ≡ length bits = length-granules_of bits tags in
     let within : i / 64 < length tags = div_below i 64 (length tags) (omega arith) (omega arith) in
-    same_granules (set bits i b) new_tags (set cells i (b, tag)) (length-set cells i (b, tag) ∙ (long ∙ sym (length-set bits i b)))
+    same_granules (set bits i b) new_tags (set granules i (b, tag)) (length-set granules i (b, tag) ∙ (long ∙ sym (length-set bits i b)))
     (λ k lt. let below : k < length bits = omega (arith, lt, length-set bits i b) in
     let bit : is_set_for new_tags k ≡ (if k == i then tag else is_set_for tags k) = is_set_for-set tags i word k tag within w in
     dite (ℕ_discrete k i)
-    (λ here. let old : get_or (set cells i (b, tag)) k (0, false) ≡ (b, tag) = rw here (get_or-set_same cells i (b, tag) (0, false) (omega arith)) in
+    (λ here. let old : get_or (set granules i (b, tag)) k (0, false) ≡ (b, tag) = rw here (get_or-set_same granules i (b, tag) (0, false) (omega arith)) in
     let new : get_or (set bits i b) k 0 ≡ b = rw here (get_or-set_same bits i b 0 h) in
     let tagged : is_set_for new_tags k ≡ tag = bit ∙ rw (eq-eqb k i here) refl in
     old ∙ (λ x. (sym new x, sym tagged x)))
-    (λ other. let old : get_or (set cells i (b, tag)) k (0, false) ≡ (get_or bits k 0, is_set_for tags k) = get_or-set_other cells i k (b, tag) (0, false) other ∙ get_or-granules_of bits tags k below in
+    (λ other. let old : get_or (set granules i (b, tag)) k (0, false) ≡ (get_or bits k 0, is_set_for tags k) = get_or-set_other granules i k (b, tag) (0, false) other ∙ get_or-granules_of bits tags k below in
     let new : get_or (set bits i b) k 0 ≡ get_or bits k 0 = get_or-set_other bits i k b 0 other in
     let tagged : is_set_for new_tags k ≡ is_set_for tags k = bit ∙ rw (ne_eqb k i other) refl in
     old ∙ (λ x. (sym new x, sym tagged x))))
@@ -109,44 +109,44 @@ tag_of cell = cell.1
 
 -- the w-th 64 granules
 abbrev run_of : List Granule → ℕ → List Granule
-run_of cells w = take 64 (drop (64 * w) cells)
+run_of granules w = take 64 (drop (64 * w) granules)
 
-length-run_of : (cells : List Granule) (w : ℕ) → 64 * w + 64 ≤ length cells → length (run_of cells w) ≡ 64
-length-run_of cells w h = omega (arith, length-take 64 (drop (64 * w) cells), length-drop (64 * w) cells)
+length-run_of : (granules : List Granule) (w : ℕ) → 64 * w + 64 ≤ length granules → length (run_of granules w) ≡ 64
+length-run_of granules w h = omega (arith, length-take 64 (drop (64 * w) granules), length-drop (64 * w) granules)
 
-get_or-run_of : (cells : List Granule) (w j : ℕ) → 64 * w + 64 ≤ length cells → j < 64 → get_or (map tag_of (run_of cells w)) j false ≡ is_tagged cells (64 * w + j)
-get_or-run_of cells w j h lt =
-    let short : j < length (run_of cells w) = omega (arith, lt, length-run_of cells w h) in
-    get_or-map tag_of (run_of cells w) j (0, false) false short ∙ ap tag_of (get_or-take 64 (drop (64 * w) cells) j (0, false) lt ∙ get_or-drop (64 * w) cells j (0, false))
+get_or-run_of : (granules : List Granule) (w j : ℕ) → 64 * w + 64 ≤ length granules → j < 64 → get_or (map tag_of (run_of granules w)) j false ≡ is_tagged granules (64 * w + j)
+get_or-run_of granules w j h lt =
+    let short : j < length (run_of granules w) = omega (arith, lt, length-run_of granules w h) in
+    get_or-map tag_of (run_of granules w) j (0, false) false short ∙ ap tag_of (get_or-take 64 (drop (64 * w) granules) j (0, false) lt ∙ get_or-drop (64 * w) granules j (0, false))
 
 pub tag_word-granules_of : (bits tags : List ℕ) (w : ℕ) → 64 * w + 64 ≤ length bits → get_or tags w 0 < 2 ^ 64 → get_or tags w 0 ≡ tag_word (granules_of bits tags) w
 unfolding tag_word
 tag_word-granules_of bits tags w within fits =
-    let cells : List Granule = granules_of bits tags in
-    let long : 64 * w + 64 ≤ length cells = omega (arith, within, length-granules_of bits tags) in
-    let row : List Bool = map tag_of (run_of cells w) in
-    let count : length row ≡ 64 = length-map (run_of cells w) tag_of ∙ length-run_of cells w long in
+    let granules : List Granule = granules_of bits tags in
+    let long : 64 * w + 64 ≤ length granules = omega (arith, within, length-granules_of bits tags) in
+    let row : List Bool = map tag_of (run_of granules w) in
+    let count : length row ≡ 64 = length-map (run_of granules w) tag_of ∙ length-run_of granules w long in
     let below : number_of_bits row < 2 ^ 64 = subst (λ (n : ℕ). number_of_bits row < 2 ^ n) count (number_of_bits-lt row) in
     sym (same_from_bits_below 64 (number_of_bits row) (get_or tags w 0) below fits (λ j h.
     bit_at-number_of_bits row j
-    ∙ (ap (λ (b : Bool). if b then 1 else 0) (get_or-run_of cells w j long h ∙ sym (is_set-granules_of bits tags w j (omega arith) h))
+    ∙ (ap (λ (b : Bool). if b then 1 else 0) (get_or-run_of granules w j long h ∙ sym (is_set-granules_of bits tags w j (omega arith) h))
     ∙ of_test (bit_at (get_or tags w 0) j) (bit_at-lt (get_or tags w 0) j))))
 
 -- ---- tags counted by words
 
-counted : (cells : List Granule) (w : ℕ) → count_ones (tag_word cells w) ≡ count_by tag_of (run_of cells w)
+counted : (granules : List Granule) (w : ℕ) → count_ones (tag_word granules w) ≡ count_by tag_of (run_of granules w)
 unfolding tag_word
-counted cells w = ones-number_of_bits tag_of (run_of cells w)
+counted granules w = ones-number_of_bits tag_of (run_of granules w)
 
 pub count_more : (bits tags : List ℕ) (w : ℕ) → 64 * w + 64 ≤ length bits → get_or tags w 0 < 2 ^ 64
     → count_by tag_of (take (64 * (w + 1)) (granules_of bits tags)) ≡ count_by tag_of (take (64 * w) (granules_of bits tags)) + count_ones (get_or tags w 0)
 count_more bits tags w within fits =
-    let cells : List Granule = granules_of bits tags in
+    let granules : List Granule = granules_of bits tags in
     let next : 64 * (w + 1) ≡ 64 * w + 64 = omega arith in
-    let split = sum_by-take-drop (λ (x : Granule). cond (tag_of x) 1 0) (take (64 * w + 64) cells) (64 * w) in
-    let before : take (64 * w) (take (64 * w + 64) cells) ≡ take (64 * w) cells = take-take (64 * w) (64 * w + 64) cells (omega arith) in
-    let here : drop (64 * w) (take (64 * w + 64) cells) ≡ run_of cells w = drop-take (64 * w) 64 cells in
-    let ones : count_ones (get_or tags w 0) ≡ count_by tag_of (run_of cells w) = ap count_ones (tag_word-granules_of bits tags w within fits) ∙ counted cells w in
+    let split = sum_by-take-drop (λ (x : Granule). cond (tag_of x) 1 0) (take (64 * w + 64) granules) (64 * w) in
+    let before : take (64 * w) (take (64 * w + 64) granules) ≡ take (64 * w) granules = take-take (64 * w) (64 * w + 64) granules (omega arith) in
+    let here : drop (64 * w) (take (64 * w + 64) granules) ≡ run_of granules w = drop-take (64 * w) 64 granules in
+    let ones : count_ones (get_or tags w 0) ≡ count_by tag_of (run_of granules w) = ap count_ones (tag_word-granules_of bits tags w within fits) ∙ counted granules w in
     rw (next, ones) (sym (rw (before, here) at split))
 
 -- ---- tags taken by words
@@ -155,15 +155,15 @@ pub without_tags-granules_of : (bits tags masks new : List ℕ) → length bits 
     → granules_of bits new ≡ without_tags masks (granules_of bits tags)
 unfolding without_tags
 without_tags-granules_of bits tags masks new e fits each =
-    let cells : List Granule = granules_of bits tags in
-    let count : length cells ≡ length bits = length-granules_of bits tags in
-    let numbered : length (enumerate_from 0 cells) ≡ length bits = length-enumerate_from 0 cells ∙ count in
+    let granules : List Granule = granules_of bits tags in
+    let count : length granules ≡ length bits = length-granules_of bits tags in
+    let numbered : length (enumerate_from 0 granules) ≡ length bits = length-enumerate_from 0 granules ∙ count in
     let kept : ℕ × Granule → Granule = λ at. (at.1.0, at.1.1 && not (is_set_for masks at.0)) in
-    same_granules bits new (map kept (enumerate_from 0 cells)) (length-map _ _ ∙ numbered)
+    same_granules bits new (map kept (enumerate_from 0 granules)) (length-map _ _ ∙ numbered)
     (λ i h. let here : 0 + i ≡ i = omega arith in
-    let at : get_or (enumerate_from 0 cells) i (0, (0, false)) ≡ (i, (get_or bits i 0, is_set_for tags i)) =
-    get_or-enumerate_from 0 cells i (0, (0, false)) (omega arith) ∙ (λ k. (here k, get_or-granules_of bits tags i h k)) in
+    let at : get_or (enumerate_from 0 granules) i (0, (0, false)) ≡ (i, (get_or bits i 0, is_set_for tags i)) =
+    get_or-enumerate_from 0 granules i (0, (0, false)) (omega arith) ∙ (λ k. (here k, get_or-granules_of bits tags i h k)) in
     let word : i / 64 < length tags = div_below i 64 (length tags) (omega arith) (omega arith) in
     let bit : is_set_for new i ≡ (is_set_for tags i && not (is_set_for masks i)) =
     rw (each (i / 64) word) (is_set-cleared (get_or tags (i / 64) 0) (get_or masks (i / 64) 0) (i % 64) (fits (i / 64)) (mod_below i 64 (omega arith))) in
-    get_or-map kept (enumerate_from 0 cells) i (0, (0, false)) (0, false) (omega arith) ∙ (ap kept at ∙ (λ k. (get_or bits i 0, sym bit k))))
+    get_or-map kept (enumerate_from 0 granules) i (0, (0, false)) (0, false) (omega arith) ∙ (ap kept at ∙ (λ k. (get_or bits i 0, sym bit k))))

@@ -1,4 +1,4 @@
--- Tagged memory and registers as lists of cells (CHERI ISA version 9, UCAM-CL-TR-987: tagged memory; one
+-- Tagged memory and registers as lists of granules (CHERI ISA version 9, UCAM-CL-TR-987: tagged memory; one
 -- tag a granule of 16 bytes; register 0 is the null register of RISC-V).
 use Rattle.std.specs.Prelude.{◌≡◌, ◌<◌, ◌*◌, ◌/◌, ◌^◌, ◌==◌, ◌&&◌, ℕ, Bool, IsTrue, List, false, if◌then◌else◌, length, not, replicate, slice_index_or, slice_set, true}
 use Rattle.std.specs.List.{All}
@@ -15,7 +15,7 @@ Granule = ℕ × Bool
 -- hold tags, and whether it is dirty: a tagged word was written there since all pages were made clean.
 pub record MemoryState : Type 0 where
   pub base : ℕ
-  pub cells : List Granule
+  pub granules : List Granule
   pub may_hold : List Bool
   pub dirty : List Bool
 
@@ -23,7 +23,7 @@ pub record MemoryState : Type 0 where
 abbrev pub new_memory : ℕ → ℕ → MemoryState
 new_memory base pages = record {
   base = base;
-  cells = replicate (page_granules * pages) (0, false);
+  granules = replicate (page_granules * pages) (0, false);
   may_hold = replicate pages false;
   dirty = replicate pages false;
 }
@@ -42,7 +42,7 @@ all_clean dirty = replicate (length dirty) false
 
 -- A page that may hold no tags has no tagged granule.
 abbrev pub AreUntagged : List Granule → List Bool → Type 0
-AreUntagged cells may_hold = (i : ℕ) → may_hold_at may_hold (i / page_granules) ≡ false → (slice_index_or cells i (0, false)).1 ≡ false
+AreUntagged granules may_hold = (i : ℕ) → may_hold_at may_hold (i / page_granules) ≡ false → (slice_index_or granules i (0, false)).1 ≡ false
 
 -- Marks of pages once granule i is written with this tag: where it is one its own page is marked too. So do the
 -- pages change that may hold tags, and those that are dirty.
@@ -53,13 +53,13 @@ marks_after pages i tag = if tag then slice_set pages (i / page_granules) true e
 -- numbers have 128 bits, and pages that may hold no tags have none.
 pub record IsMemory (m : MemoryState) : Type 0 where
   pub pages : ℕ
-  pub count : length m.cells ≡ page_granules * pages
+  pub count : length m.granules ≡ page_granules * pages
   pub marks : length m.may_hold ≡ pages
   pub dirty_marks : length m.dirty ≡ pages
-  pub untagged : AreUntagged m.cells m.may_hold
+  pub untagged : AreUntagged m.granules m.may_hold
   pub size : IsTrue (is_size pages)
   pub place : IsTrue (is_base m.base pages)
-  pub numbers : All (λ granule. granule.0 < 2 ^ 128) m.cells
+  pub numbers : All (λ granule. granule.0 < 2 ^ 128) m.granules
 
 -- ---- registers
 
@@ -98,5 +98,5 @@ abbrev pub register_at : List Cell → ℕ → Cell
 register_at cells r = if r == 0 then null_cell else slice_index_or cells r null_cell
 
 -- The registers after a write. One to register 0 changes nothing.
-abbrev pub with_register : List Cell → ℕ → Cell → List Cell
-with_register cells r cell = if r == 0 then cells else slice_set cells r cell
+abbrev pub registers_with : List Cell → ℕ → Cell → List Cell
+registers_with cells r cell = if r == 0 then cells else slice_set cells r cell

@@ -12,7 +12,7 @@ use Rattle.tag_memory.specs.declared.memory.Memory.TheInside.{Inside}
 abbrev pub memory_inside : Inside → MemoryState
 memory_inside m = record {
   base = m.base;
-  cells = granules_of m.bits.items m.tags.items;
+  granules = granules_of m.bits.items m.tags.items;
   may_hold = m.may_hold.items;
   dirty = m.dirty.items;
 }

@@ -1,7 +1,7 @@
 //! Single bits of a word that has one for each of 64 granules.
 
-ghost use Rattle.std.specs.Prelude.{◌≡◌, ◌<◌, ◌==◌, ℕ, false, if◌then◌else◌, true};
-ghost use Rattle.tag_memory.specs.Tags.{is_set};
+ghost use Rattle.std.specs.Prelude.{◌≡◌, ◌<◌, ◌*◌, ◌==◌, ℕ, false, if◌then◌else◌, length, true};
+ghost use Rattle.tag_memory.specs.Tags.{is_set, is_set_for};
 
 /// Granules a word, each with one bit.
 pub const WORD_GRANULES: usize = 64;
@@ -41,4 +41,12 @@ pub fn without_lowest(word: u64) -> u64
         → (k : ℕ) → is_set result k ≡ (if k == j then false else is_set word k) }
 {
     word & (word - 1)
+}
+
+/// Whether bit `k` of a row is 1.
+pub fn row_bit(words: &[u64], k: usize) -> bool
+    requires { k < 64 * length words.now }
+    ensures { result ≡ is_set_for words.now k }
+{
+    bit(words[k / WORD_GRANULES], k % WORD_GRANULES)
 }

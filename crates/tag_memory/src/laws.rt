@@ -10,7 +10,7 @@ use crate::memory::PAGE_WORDS;
 use crate::registers::REGISTERS;
 
 /// Granules, pages, memories, words of tags and registers have these sizes.
-pub fn sizes()
+pub fn size_law()
     ensures granule { GRANULE ≡ 16 }
     ensures page { PAGE ≡ 4096 }
     ensures page_granules { PAGE_GRANULES ≡ page_granules }

@@ -63,6 +63,16 @@ impl Model for Memory {
 impl Memory {
     /// A memory of so many pages from `base` on, all zero and untagged. The size is judged before the
     /// base.
+    ///
+    /// ```rust
+    /// use tag_memory::Memory;
+    ///
+    /// let mut memory = Memory::new(alloc, 0x4000_0000, 1)?;
+    /// assert_eq!(rt; memory.granules(), 256);
+    /// memory.put(3, 7, true);
+    /// assert_eq!(rt; memory.cell(3), (7, true));
+    /// assert!(rt; memory.dirty(0));
+    /// ```
     pub fn new(alloc: Global, base: u64, pages: u32) -> Result<Memory, MemoryFault>
         ensures bad_size { (result ≡ Err MemoryFault.BadSize) ↔ (extent.is_size pages ≡ false) }
         ensures bad_base { (result ≡ Err MemoryFault.BadBase)
@@ -110,7 +120,7 @@ impl Memory {
     }
 
     /// Tells what holds of every memory. Nothing is done.
-    pub fn whole(&self)
+    pub fn invariant(&self)
         ensures { IsMemory self.now }
     {
         let _ = &self.bits;
@@ -118,22 +128,22 @@ impl Memory {
 
     /// How many pages of 4,096 bytes there are.
     pub fn pages(&self) -> u32
-        ensures { 256 * result ≡ length self.now.cells }
+        ensures { 256 * result ≡ length self.now.granules }
     {
         self.pages
     }
 
     /// How many granules of 16 bytes there are.
     pub fn granules(&self) -> usize
-        ensures { result ≡ length self.now.cells }
+        ensures { result ≡ length self.now.granules }
     {
         self.bits.len()
     }
 
     /// The number that a granule's bytes hold, and its tag. Granules are counted from the base.
     pub fn cell(&self, i: usize) -> (u128, bool)
-        requires { i < length self.now.cells }
-        ensures { slice_get self.now.cells i ≡ Some result }
+        requires { i < length self.now.granules }
+        ensures { slice_get self.now.granules i ≡ Some result }
     {
         (
             self.bits[i],
@@ -144,10 +154,10 @@ impl Memory {
     /// The granule in which the base of a granule's word lies, tagged or not, counted from the base of the memory; `FAR`
     /// where that is none of the first `2^32 - 1`.
     pub fn base_granule(&self, i: usize) -> u32
-        requires { i < length self.now.cells }
-        ensures value { result ≡ bases.base_granule self.now.base (cell_of (slice_index_or self.now.cells i (0, false))).0 }
-        ensures near { result < bases.far → self.now.base ≤ base_of (cell_of (slice_index_or self.now.cells i (0, false))).0 }
-        ensures place { result < bases.far → (base_of (cell_of (slice_index_or self.now.cells i (0, false))).0 - self.now.base) / 16 ≡ result }
+        requires { i < length self.now.granules }
+        ensures value { result ≡ bases.base_granule self.now.base (cell_of (slice_index_or self.now.granules i (0, false))).0 }
+        ensures near { result < bases.far → self.now.base ≤ base_of (cell_of (slice_index_or self.now.granules i (0, false))).0 }
+        ensures place { result < bases.far → (base_of (cell_of (slice_index_or self.now.granules i (0, false))).0 - self.now.base) / 16 ≡ result }
     {
         let granules = &self.granules_of_bases;
         granules[i]
@@ -155,8 +165,8 @@ impl Memory {
 
     /// Writes a granule's bytes and its tag. With one, its page may hold tags from then on, and is dirty.
     pub fn put(&mut self, i: usize, bits: u128, tag: bool)
-        requires { i < length self.old.cells }
-        ensures { self.new ≡ record self.old { cells = slice_set self.old.cells i (bits, tag); may_hold = marks_after self.old.may_hold i tag; dirty = marks_after self.old.dirty i tag } }
+        requires { i < length self.old.granules }
+        ensures { self.new ≡ record self.old { granules = slice_set self.old.granules i (bits, tag); may_hold = marks_after self.old.may_hold i tag; dirty = marks_after self.old.dirty i tag } }
     {
         self.bits[i] = bits;
         self.granules_of_bases[i] = base_granule(self.base, bits);
@@ -172,9 +182,9 @@ impl Memory {
     /// Whether granules of this page may be tagged: since the last `clear_tags` after which none was, one
     /// was written with a tag. Pages are counted from the base.
     pub fn may_hold_tags(&self, page: u32) -> bool
-        requires { 256 * page < length self.now.cells }
+        requires { 256 * page < length self.now.granules }
         ensures value { result ≡ may_hold_at self.now.may_hold page }
-        ensures untagged { result ≡ false → (i : ℕ) → i / 256 ≡ page → is_tagged self.now.cells i ≡ false }
+        ensures untagged { result ≡ false → (i : ℕ) → i / 256 ≡ page → is_tagged self.now.granules i ≡ false }
     {
         self.may_hold[page as usize]
     }
@@ -189,7 +199,7 @@ impl Memory {
     /// Whether a tagged word was written into this page since all pages were made clean, or since the memory was
     /// made (Filardo et al. 2020, Cornucopia: capability dirty pages). Pages are counted from the base.
     pub fn dirty(&self, page: u32) -> bool
-        requires { 256 * page < length self.now.cells }
+        requires { 256 * page < length self.now.granules }
         ensures { result ≡ is_dirty_at self.now.dirty page }
     {
         self.dirty[page as usize]
@@ -204,9 +214,9 @@ impl Memory {
 
     /// The tags of granules `64 * w` to `64 * w + 63`, the first in bit 0.
     pub fn tag_word(&self, w: usize) -> u64
-        requires { 64 * w < length self.now.cells }
-        ensures value { result ≡ tags.tag_word self.now.cells w }
-        ensures bits { (j : ℕ) → j < 64 → is_set result j ≡ is_tagged self.now.cells (64 * w + j) }
+        requires { 64 * w < length self.now.granules }
+        ensures value { result ≡ tags.tag_word self.now.granules w }
+        ensures bits { (j : ℕ) → j < 64 → is_set result j ≡ is_tagged self.now.granules (64 * w + j) }
     {
         self.tags[w]
     }
@@ -214,12 +224,12 @@ impl Memory {
     /// Takes each tag whose bit is 1 in the masks, which lie as the words of tags do. Then just the pages
     /// with a tagged granule may hold tags.
     pub fn clear_tags(&mut self, masks: &[u64])
-        requires { 64 * length masks.now ≡ length self.old.cells }
+        requires { 64 * length masks.now ≡ length self.old.granules }
         ensures base { self.new.base ≡ self.old.base }
-        ensures cells { self.new.cells ≡ without_tags masks.now self.old.cells }
-        ensures count { length self.new.cells ≡ length self.old.cells }
+        ensures granules { self.new.granules ≡ without_tags masks.now self.old.granules }
+        ensures count { length self.new.granules ≡ length self.old.granules }
         ensures dirty { self.new.dirty ≡ self.old.dirty }
-        ensures marks { (page : ℕ) → (may_hold_at self.new.may_hold page ≡ true) ↔ HasTag self.new.cells page }
+        ensures marks { (page : ℕ) → (may_hold_at self.new.may_hold page ≡ true) ↔ HasTag self.new.granules page }
     {
         for page in 0..self.may_hold.len() {
             let may_hold = self.may_hold[page];
@@ -229,7 +239,7 @@ impl Memory {
 
     /// How many granules are tagged.
     pub fn tagged(&self) -> usize
-        ensures { result ≡ count_by (λ cell. cell.1) self.now.cells }
+        ensures { result ≡ count_by (λ cell. cell.1) self.now.granules }
     {
         let mut count = 0;
         for word in &self.tags {

@@ -1,7 +1,7 @@
 //! The registers of a machine.
 
 ghost use Rattle.std.specs.Prelude.{◌≡◌, ◌<◌, ℕ, count_by, drop, false, length, slice_index_or};
-ghost use Rattle.tag_memory.specs.Cells.{AreRegisters, new_registers, null_cell, register_at, register_count, with_register, without_tag_if};
+ghost use Rattle.tag_memory.specs.Cells.{AreRegisters, new_registers, null_cell, register_at, register_count, registers_with, without_tag_if};
 ghost use Rattle.tag_memory.specs.Tags.{is_set};
 
 use crate::bits::bit;
@@ -31,6 +31,19 @@ impl Model for Registers {
 
 impl Registers {
     /// All registers null and untagged.
+    ///
+    /// ```rust
+    /// use cap_codec::block_capability;
+    /// use tag_memory::Registers;
+    ///
+    /// let mut registers = Registers::new();
+    /// let word = block_capability(0x4000_0000, 0x4000_0020);
+    /// registers.set(1, word, true);
+    /// assert_eq!(rt; registers.get(1), (word, true));
+    /// // Register 0 is always null.
+    /// registers.set(0, word, true);
+    /// assert!(rt; !registers.get(0).1);
+    /// ```
     pub fn new() -> Registers
         ensures { result ≡ new_registers }
     {
@@ -40,7 +53,7 @@ impl Registers {
     }
 
     /// Tells what holds of all registers. Nothing is done.
-    pub fn whole(&self)
+    pub fn invariant(&self)
         ensures { AreRegisters self.now }
     {
         let _ = &self.cells;
@@ -57,7 +70,7 @@ impl Registers {
     /// Writes a register's word and tag.
     pub fn set(&mut self, r: u8, word: Word, tag: bool)
         requires { r < register_count }
-        ensures { self.new ≡ with_register self.old r (word, tag) }
+        ensures { self.new ≡ registers_with self.old r (word, tag) }
     {
         if r == 0 {
             return;
@@ -68,7 +81,7 @@ impl Registers {
     /// Takes a register's tag and keeps its bits.
     pub fn clear(&mut self, r: u8)
         requires { r < register_count }
-        ensures { self.new ≡ with_register self.old r ((register_at self.old r).0, false) }
+        ensures { self.new ≡ registers_with self.old r ((register_at self.old r).0, false) }
     {
         let (word, _) = self.get(r);
         self.set(r, word, false);

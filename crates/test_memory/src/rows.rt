@@ -13,7 +13,7 @@ fn runs_in_one_word_are_found(rt: HostRuntime) {
     ];
     for (word, longest, place, longer) in words {
         let mut row = FreeRow::new(rt.alloc(), 1).expect(&rt, "there is memory");
-        row.give_words(&[word], 0, 1);
+        row.vacate_words(&[word], 0, 1);
         assert_eq!(rt; row.first_run(longest), Some(place), "{word:x}");
         assert_eq!(rt; row.first_run(longer), None, "{word:x}");
     }
@@ -24,9 +24,9 @@ fn runs_are_found(rt: HostRuntime) {
     let mut row = FreeRow::new(rt.alloc(), 5).expect(&rt, "there is memory");
     assert_eq!(rt; row.granules(), 512);
     assert_eq!(rt; row.first_run(1), None);
-    row.give(3, 2);
-    row.give(60, 10);
-    row.give(120, 200);
+    row.vacate(3, 2);
+    row.vacate(60, 10);
+    row.vacate(120, 200);
     let places = [
         (1, Some(3)),
         (2, Some(3)),
@@ -50,9 +50,9 @@ fn runs_are_found(rt: HostRuntime) {
     assert_eq!(rt; row.first_multiple(16, 5, 32), Some(123));
     assert_eq!(rt; row.first_multiple(1, 0, 5), Some(60));
     assert_eq!(rt; row.first_multiple(200, 0, 32), None);
-    row.take(128, 64);
+    row.occupy(128, 64);
     assert_eq!(rt; row.first_run(11), Some(192));
-    row.give_words(&[1, 0, u64::MAX, 0], 1, 4);
+    row.vacate_words(&[1, 0, u64::MAX, 0], 1, 4);
     assert_eq!(rt; row.first_run(200), Some(120));
 }
 

@@ -2,8 +2,8 @@
 
 ghost use Rattle.std.specs.Prelude.{◌≡◌, ◌≤◌, IfOk, Some, false};
 
+use program_devices::{Failed, FromRead, FromWrite, Sink, Source, send};
 use std::io;
-use trace_program::{Failed, FromRead, FromWrite, Sink, Source, send};
 
 /// A reader that fails at once.
 #[derive(Drop)]

@@ -1,9 +1,9 @@
 //! Texts of megabytes, through the wrappers of the standard library's devices.
 
 use heap_command::tool;
+use program_devices::{FromRead, FromWrite};
 use std::alloc::{AllocError, Global};
 use std::thread::Threads;
-use trace_program::{FromRead, FromWrite};
 
 const HEAP: &[u8] = b"heap 0x40000000 1\n";
 

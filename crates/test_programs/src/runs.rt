@@ -2,10 +2,10 @@
 
 use crate::devices::{Failing, Fixed, Short, Slow};
 use heap_command::tool;
+use program_devices::{Failed, Source};
 use std::alloc::Global;
 use std::process::Abort;
 use std::thread::Threads;
-use trace_program::{Failed, Source};
 
 const WORDS: &[&str] = &["heap_tool", "run"];
 

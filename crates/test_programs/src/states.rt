@@ -2,7 +2,7 @@
 
 use crate::devices::{Failing, Fixed, Short, Slow};
 use heap_trace::{RunFault, TraceFault};
-use state_text::{states, states_alone};
+use state_data::{states, states_alone};
 use states_command::states_tool;
 use std::alloc::Global;
 use std::thread::Threads;

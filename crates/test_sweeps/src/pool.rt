@@ -2,7 +2,7 @@
 
 ghost use Rattle.std.specs.Prelude.{◌≡◌, ◌≤◌};
 ghost use Rattle.mark_board.specs.Board.{IsOf};
-ghost use Rattle.sweep_pool.specs.Claims.{HasTasks};
+ghost use Rattle.sweep_masks.specs.Claims.{HasTasks};
 
 use crate::tasks::{BASE, held_shadow, word};
 use heap_core::{Heap, Shadow};

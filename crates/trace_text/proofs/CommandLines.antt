@@ -8,7 +8,7 @@ use Rattle.trace_text.specs.declared.trace.Command.TheVariants.{Malloc, Free, Co
 use Rattle.trace_text.specs.declared.fault.LineFault.{LineFault}
 use Rattle.trace_text.specs.declared.fault.LineFault.TheVariants as line_fault
 use Rattle.trace_text.specs.Grammar.{FirstLacks, Form, Register, Number, Mask, Data, HasFault, HasForm, HaveForms, IsCommand, IsData, IsMask, IsNumber, IsRegister, form_fault, forms_of}
-use Rattle.trace_text.specs.Reading.{◌>>=◌, limited, command_of, data_from, data_in, mask_in, none_of, number_in, number_of, one_of, register_in, register_of, three_of, two_of}
+use Rattle.trace_text.specs.Reading.{◌>>=◌, below_limit, command_of, data_from, data_in, mask_in, none_of, number_in, number_of, one_of, register_in, register_of, three_of, two_of}
 use Rattle.trace_text.proofs.Operands.{IsMask-read, IsNumber-read, IsRegister-read, limited-IsMask, number_of-IsNumber, register_of-IsRegister, same_bytes}
 
 -- ---- one word
@@ -30,8 +30,8 @@ reads_number word = go (number_of word) refl where
   go None is = rw is (refl, λ h. let e = number_of-IsNumber word h.0 h.1 in absurd cc)
 
 reads_mask : (word : List ℕ) → Reads Mask word (mask_in word)
-reads_mask word = go (limited 65536 (number_of word)) refl where
-  go : (found : Option ℕ) → limited 65536 (number_of word) ≡ found → Reads Mask word (mask_in word)
+reads_mask word = go (below_limit 65536 (number_of word)) refl where
+  go : (found : Option ℕ) → below_limit 65536 (number_of word) ≡ found → Reads Mask word (mask_in word)
   go (Some mask) is = rw is (mask, IsMask-read word mask is)
   go None is = rw is (refl, λ h. let e = limited-IsMask word h.0 h.1 in absurd cc)
 
@@ -52,7 +52,7 @@ number_in_is : (word : List ℕ) (number : ℕ) → number_in word ≡ Ok number
 number_in_is word number e = IsNumber-read word number (Ok_from line_fault.BadNumber (number_of word) number e)
 
 mask_in_is : (word : List ℕ) (mask : ℕ) → mask_in word ≡ Ok mask → IsMask word mask
-mask_in_is word mask e = IsMask-read word mask (Ok_from line_fault.BadNumber (limited 65536 (number_of word)) mask e)
+mask_in_is word mask e = IsMask-read word mask (Ok_from line_fault.BadNumber (below_limit 65536 (number_of word)) mask e)
 
 data_in_is : (word bytes : List ℕ) → data_in word ≡ Ok bytes → IsData word bytes
 data_in_is word bytes = go (decode_sized word 16) where

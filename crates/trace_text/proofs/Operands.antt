@@ -9,7 +9,7 @@ use Rattle.std.proofs.lemmas.List.{take-append-drop}
 use Rattle.std.proofs.lemmas.Slice.Eq.{bytes_eq-Decides}
 use Rattle.std.proofs.lemmas.Str.Parse.{IsNumeralModel, numerals_by_value, tells_digits}
 use Rattle.trace_text.specs.Grammar.{AreDigits, IsMask, IsNumber, IsRegister}
-use Rattle.trace_text.specs.Reading.{all_digits_in, are_digits, limited, has_leading_zero, number_of, numeral_of, register_of}
+use Rattle.trace_text.specs.Reading.{all_digits_in, are_digits, below_limit, has_leading_zero, number_of, numeral_of, register_of}
 use Rattle.trace_text.proofs.Digits.{all_digits_are, and_true}
 
 pub when : {A : Type 0} (t : Bool) (x y : A) → cond t (Some x) None ≡ Some y → (t ≡ true) × (x ≡ y)
@@ -80,13 +80,13 @@ number_of-IsNumber word number (inr h) = ap number_of h.1 ∙ numeral_of-AreDigi
 own : IsNumeralModel (AllDigits 10) (digits_value 10)
 own = numerals_by_value (AllDigits 10) tells_digits
 
-limited-some : (limit : ℕ) (found : Option ℕ) (number : ℕ) → limited limit found ≡ Some number → (found ≡ Some number) × (number < limit)
+limited-some : (limit : ℕ) (found : Option ℕ) (number : ℕ) → below_limit limit found ≡ Some number → (found ≡ Some number) × (number < limit)
 limited-some limit None number e = absurd cc
 limited-some limit (Some n) number e =
     let test = when (nat_lt n limit) n number e in
     (ap Some test.1, grind (arith, nat_tests, test.0, test.1))
 
-limited-is : (limit number : ℕ) → number < limit → limited limit (Some number) ≡ Some number
+limited-is : (limit number : ℕ) → number < limit → below_limit limit (Some number) ≡ Some number
 limited-is limit number lt = let t : nat_lt number limit ≡ true = grind (arith, nat_tests, lt) in rw t refl
 
 only_zero : (digits : List ℕ) → not (has_leading_zero digits) ≡ true → 0 < length digits → get_or digits 0 0 ≡ 48 → length digits ≡ 1
@@ -96,7 +96,7 @@ only_zero (d ∷ d' ∷ ds) e some starts = absurd (grind (arith, nat_tests, e, 
 
 pub IsRegister-read : (word : List ℕ) (register : ℕ) → register_of word ≡ Some register → IsRegister word register
 IsRegister-read word register e = go (bytes_eq (take 1 word) (codes "c")) (not (has_leading_zero (drop 1 word))) refl refl e where
-  go : (t u : Bool) → bytes_eq (take 1 word) (codes "c") ≡ t → not (has_leading_zero (drop 1 word)) ≡ u → cond (t && u) (limited 32 (numeral_of 10 2 (drop 1 word))) None ≡ Some register → IsRegister word register
+  go : (t u : Bool) → bytes_eq (take 1 word) (codes "c") ≡ t → not (has_leading_zero (drop 1 word)) ≡ u → cond (t && u) (below_limit 32 (numeral_of 10 2 (drop 1 word))) None ≡ Some register → IsRegister word register
   go true true is plain h =
       let found = limited-some 32 (numeral_of 10 2 (drop 1 word)) register h in
       let digits = AreDigits-read 10 2 (drop 1 word) register found.0 in
@@ -129,10 +129,10 @@ register_of-IsRegister word register h =
 
 -- ---- masks
 
-pub IsMask-read : (word : List ℕ) (mask : ℕ) → limited 65536 (number_of word) ≡ Some mask → IsMask word mask
+pub IsMask-read : (word : List ℕ) (mask : ℕ) → below_limit 65536 (number_of word) ≡ Some mask → IsMask word mask
 IsMask-read word mask e =
     let found = limited-some 65536 (number_of word) mask e in
     (IsNumber-read word mask found.0, omega arith)
 
-pub limited-IsMask : (word : List ℕ) (mask : ℕ) → IsMask word mask → limited 65536 (number_of word) ≡ Some mask
-limited-IsMask word mask h = ap (limited 65536) (number_of-IsNumber word mask h.0) ∙ limited-is 65536 mask (omega arith)
+pub limited-IsMask : (word : List ℕ) (mask : ℕ) → IsMask word mask → below_limit 65536 (number_of word) ≡ Some mask
+limited-IsMask word mask h = ap (below_limit 65536) (number_of-IsNumber word mask h.0) ∙ limited-is 65536 mask (omega arith)

@@ -5,7 +5,7 @@ use Rattle.trace_text.specs.declared.trace.Command.{Command}
 use Rattle.trace_text.specs.declared.fault.TraceFault.{TraceFault}
 use Rattle.trace_text.specs.declared.fault.TraceFault.TheVariants.{Memory, NoHeap}
 use Rattle.trace_text.specs.Lines.{lines_of, words_of}
-use Rattle.trace_text.specs.Reading.{◌>>=◌, Fails, Opening, command_at, commands_from, heap_at, listed, opened, opening_from}
+use Rattle.trace_text.specs.Reading.{◌>>=◌, Fails, Opening, command_at, commands_from, heap_at, listed_command, opening_with, opening_from}
 
 -- a call that answers the fault that was read
 pub fails_with : {Y : Type 0} (fault : TraceFault) (read : Result Y TraceFault) → read ≡ Err fault → Fails fault read
@@ -15,7 +15,7 @@ fails_with fault read h = h
 -- ---- lines up to the heap line
 
 abbrev opens : ℕ → List (List ℕ) → Result (Option (ℕ × ℕ)) TraceFault → Result Opening TraceFault
-opens number lines read = read >>= opened (number + 1) lines (opening_from (number + 1) lines)
+opens number lines read = read >>= opening_with (number + 1) lines (opening_from (number + 1) lines)
 
 opening_step : (number : ℕ) (text line rest : List ℕ) (read : Result (Option (ℕ × ℕ)) TraceFault) → lines_of text ≡ line ∷ lines_of rest → read ≡ heap_at number (words_of line)
     → opening_from number (lines_of text) ≡ opens number (lines_of rest) read
@@ -47,7 +47,7 @@ abbrev pub with_front : List (ℕ × Command) → Result (List (ℕ × Command))
 with_front front read = read >>= λ list. Ok (front ++ list)
 
 abbrev lists : List (ℕ × Command) → ℕ → List (List ℕ) → Result (Option Command) TraceFault → Result (List (ℕ × Command)) TraceFault
-lists front number lines read = with_front front (read >>= λ command. commands_from (number + 1) lines >>= λ list. Ok (listed number command ++ list))
+lists front number lines read = with_front front (read >>= λ command. commands_from (number + 1) lines >>= λ list. Ok (listed_command number command ++ list))
 
 commands_step : (front : List (ℕ × Command)) (number : ℕ) (text line rest : List ℕ) (read : Result (Option Command) TraceFault) → lines_of text ≡ line ∷ lines_of rest
     → read ≡ command_at number (words_of line) → with_front front (commands_from number (lines_of text)) ≡ lists front number (lines_of rest) read
@@ -56,13 +56,13 @@ commands_step front number text line rest read cut is =
     ap (λ lines. with_front front (commands_from number lines)) cut ∙ ap (lists front number (lines_of rest)) (sym is)
 
 regroup : (front : List (ℕ × Command)) (number : ℕ) (command : Option Command) (read : Result (List (ℕ × Command)) TraceFault)
-    → with_front (front ++ listed number command) read ≡ with_front front (read >>= λ list. Ok (listed number command ++ list))
-regroup front number command (Ok list) = ap Ok (append_assoc front (listed number command) list)
+    → with_front (front ++ listed_command number command) read ≡ with_front front (read >>= λ list. Ok (listed_command number command ++ list))
+regroup front number command (Ok list) = ap Ok (append_assoc front (listed_command number command) list)
 regroup front number command (Err fault) = refl
 
 pub commands_go_on : (front : List (ℕ × Command)) (number : ℕ) (text line rest : List ℕ) (command : Option Command) (total : Result (List (ℕ × Command)) TraceFault)
     → lines_of text ≡ line ∷ lines_of rest → Ok command ≡ command_at number (words_of line) → with_front front (commands_from number (lines_of text)) ≡ total
-    → with_front (front ++ listed number command) (commands_from (number + 1) (lines_of rest)) ≡ total
+    → with_front (front ++ listed_command number command) (commands_from (number + 1) (lines_of rest)) ≡ total
 commands_go_on front number text line rest command total cut is told =
     regroup front number command (commands_from (number + 1) (lines_of rest)) ∙ sym (commands_step front number text line rest (Ok command) cut is) ∙ told
 

@@ -10,7 +10,7 @@ use Rattle.trace_text.specs.declared.fault.TraceFault.{TraceFault}
 use Rattle.trace_text.specs.declared.fault.TraceFault.TheVariants.{Memory, TooLong, NoHeap, BadHeap, BadCommand, BadCount, BadRegister, BadNumber, BadData}
 use Rattle.trace_text.specs.Grammar.{AreCommands, BeginsAsHeap, ComesAfter, HasFault, HasFaultyLine, IsCommand, IsFaulty, IsFine, IsHeapLine, IsPassedOver, IsShort, IsTrace, LacksHeap}
 use Rattle.trace_text.specs.Lines.{is_passed_over, lines_of, longest_text, words_of}
-use Rattle.trace_text.specs.Reading.{◌>>=◌, Fails, Opening, Script, command_at, command_of, commands_from, fault_at, heap_at, listed, opened, opening_from, read_at, trace_of}
+use Rattle.trace_text.specs.Reading.{◌>>=◌, Fails, Opening, Script, command_at, command_of, commands_from, fault_at, heap_at, listed_command, opening_with, opening_from, read_at, trace_of}
 use Rattle.trace_text.proofs.CommandLines.{Read, command_of-HasFault, command_of-IsCommand, command_read}
 use Rattle.trace_text.proofs.HeapLines.{HeapFault, HeapRead, heap_at-IsHeapLine, heap_at-fault, heap_at-passed, heap_at-read}
 
@@ -95,7 +95,7 @@ opening_from-read first (line ∷ lines) = go (heap_at first (words_of line)) (h
   later (Err fault) over (inr h) = inr (h.0, h.1, h.2, comes_later first h.0 line h.1 lines h.2 over h.3, h.4, h.5)
 
   go : (read : Result (Option (ℕ × ℕ)) TraceFault) → HeapRead first (words_of line) read → (rest : Result Opening TraceFault) → OpeningRead (first + 1) lines rest
-      → OpeningRead first (line ∷ lines) (read >>= opened (first + 1) lines rest)
+      → OpeningRead first (line ∷ lines) (read >>= opening_with (first + 1) lines rest)
   go (Ok None) over rest h = later rest over h
   go (Ok (Some heap)) is rest h = (first, line, first_comes IsPassedOver first line lines, is, refl)
   go (Err fault) is rest h = inr (first, line, lines, first_comes IsPassedOver first line lines, is.0, is.1)
@@ -113,7 +113,7 @@ opening_from-all first number (line ∷ lines) all is =
     rw (heap_at-passed first (words_of line) all.0) (opening_from-all (first + 1) number lines all.1 (omega arith))
 
 opening_from-line : (first number : ℕ) (lines : List (List ℕ)) (line : List ℕ) (rest : List (List ℕ)) → ComesAfter IsPassedOver first lines number line rest
-    → opening_from first lines ≡ (heap_at number (words_of line) >>= opened (number + 1) rest (opening_from (number + 1) rest))
+    → opening_from first lines ≡ (heap_at number (words_of line) >>= opening_with (number + 1) rest (opening_from (number + 1) rest))
 unfolding opening_from
 opening_from-line first number lines line rest h =
     ap (opening_from first) h.lines_are ∙ opening_from-comes h.before first (line ∷ rest) h.all ∙ ap (λ n. opening_from n (line ∷ rest)) (sym h.number_is)
@@ -134,7 +134,7 @@ commands_from-read first (line ∷ lines) = go (command_at first (words_of line)
   later fault fine h = (h.0, h.1, h.2, h.3, comes_later first h.0 line h.1 lines h.2 fine h.4, h.5, h.6, h.7)
 
   go : (read : Result (Option Command) TraceFault) → CommandRead first (words_of line) read → (rest : Result (List (ℕ × Command)) TraceFault) → CommandsRead (first + 1) lines rest
-      → CommandsRead first (line ∷ lines) (read >>= λ command. rest >>= λ commands. Ok (listed first command ++ commands))
+      → CommandsRead first (line ∷ lines) (read >>= λ command. rest >>= λ commands. Ok (listed_command first command ++ commands))
   go (Ok None) over (Ok commands) h = inl (over, h)
   go (Ok None) over (Err fault) h = later fault (inl over) h
   go (Ok (Some command)) is (Ok commands) h = inr (command, commands, is, refl, h)

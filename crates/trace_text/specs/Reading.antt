@@ -47,9 +47,9 @@ number_of word =
     else numeral_of 10 20 word
 
 -- a number that is below a limit
-abbrev pub limited : ℕ → Option ℕ → Option ℕ
-limited limit None = None
-limited limit (Some number) = if nat_lt number limit then Some number else None
+abbrev pub below_limit : ℕ → Option ℕ → Option ℕ
+below_limit limit None = None
+below_limit limit (Some number) = if nat_lt number limit then Some number else None
 
 -- a zero with another digit after it
 abbrev pub has_leading_zero : List ℕ → Bool
@@ -59,7 +59,7 @@ has_leading_zero digits = nat_lt 1 (length digits) && starts_with nat_eq digits 
 abbrev pub register_of : List ℕ → Option ℕ
 register_of word =
     if bytes_eq (take 1 word) (codes "c") && not (has_leading_zero (drop 1 word))
-    then limited register_count (numeral_of 10 2 (drop 1 word)) else None
+    then below_limit register_count (numeral_of 10 2 (drop 1 word)) else None
 
 -- a register, or what is wrong with a word that names none
 abbrev pub register_in : List ℕ → Result ℕ LineFault
@@ -71,7 +71,7 @@ number_in word = ok_or (number_of word) line_fault.BadNumber
 
 -- a mask of 16 bits, or what is wrong with a word that writes none
 abbrev pub mask_in : List ℕ → Result ℕ LineFault
-mask_in word = ok_or (limited 65536 (number_of word)) line_fault.BadNumber
+mask_in word = ok_or (below_limit 65536 (number_of word)) line_fault.BadNumber
 
 -- the bytes that were decoded, or that a word writes none
 abbrev pub data_from : {F : Type 0} → Result (List ℕ) F → Result (List ℕ) LineFault
@@ -199,20 +199,20 @@ pub record Opening : Type 0 where
   pub rest : List (List ℕ)
 
 -- the heap that a line gives, or what later lines give
-abbrev pub opened : ℕ → List (List ℕ) → Result Opening TraceFault → Option (ℕ × ℕ) → Result Opening TraceFault
-opened next rest later None = later
-opened next rest later (Some heap) = Ok (record { base = heap.0; pages = heap.1; next = next; rest = rest })
+abbrev pub opening_with : ℕ → List (List ℕ) → Result Opening TraceFault → Option (ℕ × ℕ) → Result Opening TraceFault
+opening_with next rest later None = later
+opening_with next rest later (Some heap) = Ok (record { base = heap.0; pages = heap.1; next = next; rest = rest })
 
 -- lines up to the heap line, numbered from here on
 unfoldable pub opening_from : ℕ → List (List ℕ) → Result Opening TraceFault
 opening_from number [] = Err (NoHeap number)
 opening_from number (line ∷ lines) =
-    heap_at number (words_of line) >>= opened (number + 1) lines (opening_from (number + 1) lines)
+    heap_at number (words_of line) >>= opening_with (number + 1) lines (opening_from (number + 1) lines)
 
 -- the command that a line gives, with the line's number
-abbrev pub listed : ℕ → Option Command → List (ℕ × Command)
-listed number None = []
-listed number (Some command) = (number, command) ∷ []
+abbrev pub listed_command : ℕ → Option Command → List (ℕ × Command)
+listed_command number None = []
+listed_command number (Some command) = (number, command) ∷ []
 
 -- lines after the heap line, numbered from here on
 unfoldable pub commands_from : ℕ → List (List ℕ) → Result (List (ℕ × Command)) TraceFault
@@ -220,7 +220,7 @@ commands_from number [] = Ok []
 commands_from number (line ∷ lines) = do
   command ← command_at number (words_of line)
   commands ← commands_from (number + 1) lines
-  Ok (listed number command ++ commands)
+  Ok (listed_command number command ++ commands)
 
 -- what a trace says
 pub record Script : Type 0 where

@@ -10,7 +10,7 @@ ghost use Rattle.trace_text.specs.Lines.{split_at_first};
 ghost use Rattle.trace_text.specs.Reading.{Script, command_of, trace_of};
 
 /// The words of a line are read as a command exactly where they are it, and else their fault is read.
-pub fn command_lines()
+pub fn command_grammar_law()
     ensures command { (words : List (List ℕ)) (command : TheCommand) →
         (command_of words ≡ Ok command) ↔ IsCommand words command }
     ensures fault { (name : List ℕ) (words : List (List ℕ)) (fault : TheLineFault) →
@@ -18,7 +18,7 @@ pub fn command_lines()
 {}
 
 /// A text is read as a trace exactly where it is it, and else its fault is read.
-pub fn texts()
+pub fn trace_grammar_law()
     ensures trace { (text : List ℕ) (script : Script) →
         (trace_of text ≡ Ok script) ↔ IsTrace text script }
     ensures fault { (text : List ℕ) (fault : TheTraceFault) →
@@ -26,7 +26,7 @@ pub fn texts()
 {}
 
 /// Words are cut at the first that is this one.
-pub fn cuts()
+pub fn word_cut_law()
     ensures parts { (word : List ℕ) (words before after : List (List ℕ)) →
         (split_at_first word words ≡ Some (before, after)) ↔
         ((words ≡ before ++ word ∷ after) × AllByRecursion (λ other. other ≢ word) before) }

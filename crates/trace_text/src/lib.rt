@@ -11,7 +11,7 @@ mod trace;
 mod words;
 
 pub use crate::fault::{LineFault, TraceFault};
-pub use crate::laws::{command_lines, cuts, texts};
+pub use crate::laws::{command_grammar_law, trace_grammar_law, word_cut_law};
 pub use crate::line::command;
 pub use crate::marked::Line;
 pub use crate::operand::{data, hexadecimal_digit, number, operand_number, register};

@@ -173,7 +173,7 @@ pub fn command(name: &[u8], operands: &Line<'_>) -> Result<Command, LineFault>
 
 /// What a line after the heap line means: a command, or nothing where it is passed over.
 #[tactic(auto, unfolding(crate::specs::Reading::command_at))]
-pub fn command_line(number: u32, line: &Line<'_>) -> Result<Option<Command>, TraceFault>
+pub fn command_at(number: u32, line: &Line<'_>) -> Result<Option<Command>, TraceFault>
     ensures value { result ≡ command_at number (words_of line.now) }
     ensures valid { IfOk result (λ read. IfSome read IsValid) }
 {
@@ -211,7 +211,7 @@ fn heap(operands: &Line<'_>) -> Option<(u64, u32)>
 
 /// What a line up to the heap line means: the heap, or nothing where it is passed over.
 #[tactic(auto, unfolding(crate::specs::Reading::heap_at))]
-pub fn heap_line(number: u32, line: &Line<'_>) -> Result<Option<(u64, u32)>, TraceFault>
+pub fn heap_at(number: u32, line: &Line<'_>) -> Result<Option<(u64, u32)>, TraceFault>
     ensures value { result ≡ heap_at number (words_of line.now) }
     ensures heap { IfOk result (λ read. IfSome read (λ read. IsHeap read.0 read.1)) }
 {

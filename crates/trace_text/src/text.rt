@@ -8,7 +8,7 @@ ghost use Rattle.trace_text.specs.Lines.{lines_of};
 ghost use Rattle.trace_text.specs.Reading.{Gives, commands_from, opening_from, script_of, trace_of};
 
 use crate::fault::TraceFault;
-use crate::line::{command_line, heap_line};
+use crate::line::{command_at, heap_at};
 use crate::trace::{Command, Trace};
 use crate::words::split_line;
 use std::alloc::Global;
@@ -36,7 +36,7 @@ pub fn read_heap(text: &[u8]) -> Result<Opening<'_>, TraceFault>
     let mut number = 1;
     let mut rest = text;
     while let Some((line, after)) = split_line(rest) {
-        if let Some((base, pages)) = heap_line(number, &line)? {
+        if let Some((base, pages)) = heap_at(number, &line)? {
             let next = number + 1;
             return Ok(Opening {
                 base,
@@ -61,7 +61,7 @@ fn read_commands(alloc: Global, first: u32, text: &[u8]) -> Result<Vec<(u32, Com
     let mut number = first;
     let mut rest = text;
     while let Some((line, after)) = split_line(rest) {
-        if let Some(command) = command_line(number, &line)? {
+        if let Some(command) = command_at(number, &line)? {
             list.push((number, command))?;
         }
         rest = after;

@@ -1,12 +1,12 @@
 //! Blocks whose place a caller names.
 
 ghost use Rattle.std.specs.Prelude.{◌≡◌, ◌<◌, ◌≤◌, ◌+◌, ◌*◌, ◌++◌, IfErr, IfOk};
-ghost use Rattle.heap_core.specs.Claim.{AreFitting, FindsOver, IsClaim, IsClaimable, IsReason};
-ghost use Rattle.heap_core.specs.Heap.{HeapState, IsSound};
+ghost use Rattle.heap_model.specs.Claim.{AreFitting, FindsOver, IsClaim, IsClaimable, IsReason};
+ghost use Rattle.heap_model.specs.Heap.{HeapState, IsSound};
 
-use crate::block::{Block, Claim};
 use crate::heap::Heap;
 use cap_codec::{Word, with_bounds};
+use heap_model::{Block, Claim};
 use tag_memory::GRANULE;
 
 // A granule's bytes, to be counted in addresses up to 2^64.
@@ -15,11 +15,20 @@ const WIDE_GRANULE: u128 = GRANULE as u128;
 impl Heap {
     /// Makes the bytes from `base` on, before `top`, a live block where they may be one (`Claimed`). Else nothing
     /// changes, and the first reason is answered.
+    ///
+    /// ```rust
+    /// use heap_core::{Block, Claim, Heap};
+    ///
+    /// let mut heap = Heap::new(alloc, 0x4000_0000, 1)?;
+    /// assert_eq!(rt; heap.claim(0x4000_0040, 0x4000_0060), Claim::Claimed);
+    /// let there = Block { base: 0x4000_0040, top: 0x4000_0060 };
+    /// assert_eq!(rt; heap.claim(0x4000_0050, 0x4000_0070), Claim::OverLive(there));
+    /// ```
     pub fn claim(&mut self, base: u64, top: u128) -> Claim
         ensures claim { IsClaim self.old self.old base top result self.new }
         ensures sound { IsSound self.new }
     {
-        self.whole();
+        self.invariant();
         let (first, granules) = match self.granules_of(base, top) {
             Ok(place) => place,
             Err(reason) => return reason,

@@ -1,11 +1,11 @@
 //! The block in which an address lies, and the one that starts at a granule.
 
 ghost use Rattle.std.specs.Prelude.{◌≡◌, ◌<◌, ◌+◌, ◌*◌, ◌==◌, All, IfSome, None, false};
-ghost use Rattle.heap_core.specs.Blocks.{start_of};
-ghost use Rattle.heap_core.specs.Found.{IsFound, IsInNoBlock, blocks_in};
+ghost use Rattle.heap_model.specs.Blocks.{start_of};
+ghost use Rattle.heap_model.specs.Found.{IsFound, IsInNoBlock, blocks_in};
 
-use crate::block::{Block, Kind};
 use crate::heap::Heap;
+use heap_model::{Block, Kind};
 use tag_memory::GRANULE;
 
 impl Heap {

@@ -1,7 +1,7 @@
 //! The shadow painted by several threads, on a board with a bit for each granule.
 
 ghost use Rattle.std.specs.Prelude.{◌≡◌, ◌≤◌, ◌*◌, ◌^◌, length};
-ghost use Rattle.heap_core.specs.Heap.{due};
+ghost use Rattle.heap_model.specs.Heap.{due};
 ghost use Rattle.heap_core.specs.Painting.{IsPainted, is_in_due};
 ghost use Rattle.mark_board.specs.Board.{IsOf};
 
@@ -22,7 +22,7 @@ impl Heap {
         // A block has a granule at least.
         ensures limit { result ≤ 2 ^ 18 }
     {
-        self.table.held_blocks()
+        self.table.due_count()
     }
 
     /// Marks the granules of the blocks that are due, number `first` to `last - 1` by rising start, on a board
@@ -36,8 +36,8 @@ impl Heap {
         requires blocks { last ≤ length (due self.now) }
         ensures { IsPainted (is_in_due self.now first last) board.now seat.old seat.new }
     {
-        let from = self.table.held_start(first);
-        let to = self.table.held_start(last);
-        self.table.paint_held(board, seat, from, to);
+        let from = self.table.due_start(first);
+        let to = self.table.due_start(last);
+        self.table.paint_due(board, seat, from, to);
     }
 }

@@ -2,17 +2,16 @@
 
 ghost use Rattle.std.specs.Prelude.{◌≡◌, ◌↔◌, ◌+◌, ℕ, IfErr, IfOk, IfSome, IsOk, None, false, true};
 ghost use Rattle.cap_codec.specs.Rounding.{IsExact};
-ghost use Rattle.heap_core.specs.Blocks.{bytes_in, lies_in};
-ghost use Rattle.heap_core.specs.Claim.{IsClaim};
-ghost use Rattle.heap_core.specs.Heap.{IsSound, due};
-ghost use Rattle.heap_core.specs.Place.{IsFree, IsPlace, block_length, with_live};
-ghost use Rattle.heap_core.specs.Quarantine.{IsShadow, freed_of, with_epoch, with_waiting, without_due, without_epoch, without_waiting};
+ghost use Rattle.heap_model.specs.Blocks.{bytes_in, lies_in};
+ghost use Rattle.heap_model.specs.Claim.{IsClaim};
+ghost use Rattle.heap_model.specs.Heap.{IsSound, due};
+ghost use Rattle.heap_model.specs.Place.{IsFree, IsPlace, block_length, with_live};
+ghost use Rattle.heap_model.specs.Quarantine.{IsShadow, freed_of, with_epoch, with_waiting, without_due, without_epoch, without_waiting};
 
-use crate::block::{Block, Claim, Freed};
 use crate::fault::HeapFault;
 use crate::heap::Heap;
-use crate::shadow::Shadow;
 use granule_rows::{row_bit, set_run};
+use heap_model::{Block, Claim, Freed, Shadow};
 use std::alloc::Global;
 use tag_memory::GRANULE;
 
@@ -29,7 +28,7 @@ impl Heap {
         let Some(start) = self.table.block_at(self.base, base, top) else {
             return Ok(Freed::NotBlock);
         };
-        if self.table.is_held_at(start) {
+        if self.table.is_due_at(start) {
             return Ok(Freed::AlreadyHeld);
         }
         if row_bit(&self.late, start) {
@@ -41,8 +40,8 @@ impl Heap {
             set_run(&mut self.late, start, start + 1);
             self.late_granules += granules;
         } else {
-            self.table.hold(start);
-            self.held_granules += granules;
+            self.table.make_due(start);
+            self.due_granules += granules;
         }
         Ok(Freed::Held)
     }
@@ -54,7 +53,7 @@ impl Heap {
         let Some(first) = self.table.block_at(self.base, base, top) else {
             return Freed::NotBlock;
         };
-        if self.table.is_held_at(first) {
+        if self.table.is_due_at(first) {
             return Freed::AlreadyHeld;
         }
         if row_bit(&self.late, first) {
@@ -84,14 +83,14 @@ impl Heap {
         if granule >= self.table.granules() {
             return false;
         }
-        self.table.is_in_held(granule)
+        self.table.is_in_due_block(granule)
     }
 
     /// The bytes of the blocks that are due now.
     pub fn due_bytes(&self) -> u64
         ensures { result ≡ bytes_in (due self.now) }
     {
-        GRANULE * u64::from(self.held_granules)
+        GRANULE * u64::from(self.due_granules)
     }
 
     /// Which granules lie in blocks that are due now.
@@ -126,7 +125,7 @@ impl Heap {
         ensures free { self.new ≡ without_due self.old }
         ensures sound { IsSound self.new }
     {
-        let bytes = GRANULE * u64::from(self.held_granules);
+        let bytes = GRANULE * u64::from(self.due_granules);
         if self.late_granules == 0 {
             self.drop_due();
         } else {
@@ -140,8 +139,8 @@ impl Heap {
         requires { self.old.is_open ≡ true → bytes_in self.old.waiting ≡ 0 }
         ensures { self.new ≡ without_due self.old }
     {
-        self.table.drop_held();
-        self.held_granules = 0;
+        self.table.free_due();
+        self.due_granules = 0;
         self.is_open = false;
     }
 
@@ -150,10 +149,10 @@ impl Heap {
         requires { self.old.is_open ≡ true }
         ensures { self.new ≡ without_epoch self.old }
     {
-        self.table.drop_held();
-        self.table.hold_starts(&self.late);
+        self.table.free_due();
+        self.table.make_starts_due(&self.late);
         self.late.fill(0);
-        self.held_granules = self.late_granules;
+        self.due_granules = self.late_granules;
         self.late_granules = 0;
         self.is_open = false;
     }
@@ -175,7 +174,7 @@ impl Heap {
         ensures live { IfOk result (λ done. IfSome done.0 (λ block. self.new ≡ with_live (without_waiting self.old) size block.base)) }
         ensures sound { IsSound self.new }
     {
-        let waiting = GRANULE * u64::from(self.held_granules);
+        let waiting = GRANULE * u64::from(self.due_granules);
         self.drop_due();
         let found = self.reserve(size)?;
         Ok((found, waiting))
@@ -188,7 +187,7 @@ impl Heap {
         ensures claim { IsClaim self.old (without_waiting self.old) base top result self.new }
         ensures sound { IsSound self.new }
     {
-        self.whole();
+        self.invariant();
         let (first, granules) = match self.granules_of(base, top) {
             Ok(place) => place,
             Err(reason) => return reason,

@@ -2,18 +2,18 @@
 
 ghost use Rattle.std.specs.Prelude.{◌≡◌, ◌≢◌, IfErr, IfOk, IfSome, IsOk};
 ghost use Rattle.trace_text.specs.Command.{IsValid};
-ghost use Rattle.heap_machine.specs.Dirty.{IsDirtied, dirty_after};
+ghost use Rattle.machine_steps.specs.Dirty.{IsDirtied, dirty_after};
 ghost use Rattle.heap_machine.specs.Followed.{FollowsFreely, IsFollowed};
-ghost use Rattle.heap_machine.specs.Parts.{AreParts};
+ghost use Rattle.heap_machine.specs.Storage.{IsStorage};
 ghost use Rattle.heap_machine.specs.Passes.{FindsTags, IsFound};
-ghost use Rattle.heap_machine.specs.Safety.{IsSafe, IsUnused, LeavesInUse};
+ghost use Rattle.machine_steps.specs.Safety.{IsSafe, IsUnused, LeavesInUse};
 
 use crate::fault::MachineFault;
 use crate::followed::Followed;
-use crate::laws::answers;
 use crate::machine::Machine;
-use crate::parts::{Found, Parts};
+use crate::storage::{Found, Storage};
 use heap_reply::Reply;
+use machine_steps::any_placement_law;
 use std::alloc::Global;
 use std::thread::Threads;
 use sweep_pool::Gate;
@@ -46,14 +46,26 @@ impl Machine {
         self.followed(
             command,
             answer,
-            &|parts: &Parts| -> Option<Found>
-                ensures { AreParts parts.now → IfSome result (IsFound parts.now) }
-            { parts.found_by_workers(rt, alloc, cutting, gate) },
+            &|storage: &Storage| -> Option<Found>
+                ensures { IsStorage storage.now → IfSome result (IsFound storage.now) }
+            { storage.found_by_workers(rt, alloc, cutting, gate) },
         )
     }
 
     /// Does one command as it was answered, as `follow` does, by the calling thread alone, so without a runtime. `gate`
     /// is told as by `step`.
+    ///
+    /// ```rust
+    /// use heap_machine::{Followed, Machine, Reply};
+    /// use sweep_pool::{Cutting, Open};
+    /// use trace_text::Command;
+    ///
+    /// let mut machine = Machine::new(alloc, 0x4000_0000, 1, Cutting::new(1, 16)?)?;
+    /// // An allocator may place its block anywhere.
+    /// let malloc = Command::Malloc { rd: 1, size: 20 };
+    /// let answer = Reply::Block { base: 0x4000_0100, top: 0x4000_0120 };
+    /// assert!(rt; machine.follow_alone(alloc, malloc, answer, &Open)? == Followed::Agrees);
+    /// ```
     pub fn follow_alone<G: Gate>(
         &mut self,
         alloc: Global,
@@ -77,14 +89,14 @@ impl Machine {
         self.followed(
             command,
             answer,
-            &|parts: &Parts| -> Option<Found>
-                ensures { AreParts parts.now → IfSome result (IsFound parts.now) }
-            { parts.found_alone(alloc, cutting, gate) },
+            &|storage: &Storage| -> Option<Found>
+                ensures { IsStorage storage.now → IfSome result (IsFound storage.now) }
+            { storage.found_alone(alloc, cutting, gate) },
         )
     }
 
     // Does one command as it was answered, whoever makes its passes.
-    fn followed<P: Fn(&Parts) -> Option<Found>>(
+    fn followed<P: Fn(&Storage) -> Option<Found>>(
         &mut self,
         command: Command,
         answer: Reply,
@@ -104,8 +116,8 @@ impl Machine {
         ensures dirty { result ≡ Ok Followed.Agrees → self.new.dirty ≡ dirty_after self.old.state command self.old.dirty }
         ensures dirtied { IsDirtied self.new.state self.new.dirty }
     {
-        answers();
-        self.parts.memory.whole();
-        self.parts.follow(command, answer, pass)
+        any_placement_law();
+        self.storage.memory.invariant();
+        self.storage.follow(command, answer, pass)
     }
 }

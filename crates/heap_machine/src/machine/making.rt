@@ -1,23 +1,23 @@
-//! A machine of given parts.
+//! A machine of a heap, a memory and registers that are given.
 
 ghost use Rattle.std.specs.Prelude.{◌≡◌, ◌<◌, ◌≤◌, ◌+◌, ◌*◌, ◌/◌, ◌%◌, ℕ, All, IfErr, IfOk, MatchOption, false, length, true};
 ghost use Rattle.cap_codec.specs.Words.{base_of};
-ghost use Rattle.heap_core.specs.Blocks.{lies_in};
-ghost use Rattle.sweep_pool.specs.Sweep.{AreInDirtyPages};
+ghost use Rattle.heap_model.specs.Blocks.{lies_in};
+ghost use Rattle.heap_model.specs.Sweep.{AreInDirtyPages};
 ghost use Rattle.tag_memory.specs.Cells.{register_count};
 ghost use Rattle.tag_memory.specs.Extent.{page_granules};
 ghost use Rattle.tag_memory.specs.Tags.{is_set, is_tagged};
-ghost use Rattle.heap_machine.specs.Making.{FirstLacks, HasGuarded, HasGuardedAt, IsFlaw, IsMakeable, LieTogether, StandsDirty, made};
-ghost use Rattle.heap_machine.specs.Safety.{HoldsGuarded, IsGuarded};
+ghost use Rattle.heap_machine.specs.Making.{FirstLacks, HasGuarded, HasGuardedAt, IsFlaw, IsMakeable, LieTogether, StandsDirty, machine_of_fields};
+ghost use Rattle.machine_steps.specs.Safety.{HoldsGuarded, IsGuarded};
 
 use crate::machine::Machine;
-use crate::parts::Parts;
+use crate::storage::Storage;
 use cap_codec::{Word, bounds};
 use heap_core::Heap;
 use sweep_pool::Cutting;
 use tag_memory::{Memory, PAGE_GRANULES, REGISTERS, Registers, WORD_GRANULES, lowest_bit};
 
-/// Why parts are no machine: the first of these that is true, of registers and granules the first by its number.
+/// Why they are no machine: the first of these that is true, of registers and granules the first by its number.
 #[derive(Debug, Clone, Copy, PartialEq, Eq)]
 pub enum Flaw {
     /// The memory doesn't lie where the heap does.
@@ -31,7 +31,7 @@ pub enum Flaw {
 }
 
 impl Machine {
-    /// The machine of these parts, where its state is safe, and what the painted blocks have in memory stands in dirty
+    /// The machine of these, where its state is safe, and what the painted blocks have in memory stands in dirty
     /// pages; else the first flaw.
     pub fn of(
         store: Heap,
@@ -39,13 +39,13 @@ impl Machine {
         registers: Registers,
         cutting: Cutting,
     ) -> Result<Machine, Flaw>
-        ensures made { IfOk result (λ machine. machine ≡ made store memory registers cutting) }
+        ensures made { IfOk result (λ machine. machine ≡ machine_of_fields store memory registers cutting) }
         ensures may { IfOk result (λ machine. IsMakeable store memory registers cutting) }
         ensures flaw { IfErr result (IsFlaw store memory registers) }
     {
-        store.whole();
-        memory.whole();
-        registers.whole();
+        store.invariant();
+        memory.invariant();
+        registers.invariant();
         if !lie_together(&store, &memory) {
             return Err(Flaw::Elsewhere);
         }
@@ -58,12 +58,12 @@ impl Machine {
         if let Some(granule) = first_in_clean_page(&store, &memory) {
             return Err(Flaw::Clean(granule));
         }
-        let parts = Parts {
+        let storage = Storage {
             heap: store,
             memory,
             registers,
         };
-        Ok(Machine { parts, cutting })
+        Ok(Machine { storage, cutting })
     }
 }
 
@@ -94,7 +94,7 @@ fn is_guarded(heap: &Heap, word: Word, tag: bool) -> bool
 fn first_unguarded_register(heap: &Heap, registers: &Registers) -> Option<u8>
     ensures { MatchOption result (All (IsGuarded heap.now) registers.now) (λ r. (r < register_count) × FirstLacks (HasGuarded heap.now registers.now) r) }
 {
-    registers.whole();
+    registers.invariant();
     for r in 0..REGISTERS {
         let (word, tag) = registers.get(r);
         if !is_guarded(heap, word, tag) {
@@ -118,9 +118,9 @@ fn lowest_from(word: u64, first: usize) -> Option<usize>
 
 // The first of the granules `from` to `end - 1` that is tagged. They are passed over by whole words of tags where these are 0.
 fn first_tagged(memory: &Memory, from: usize, end: usize) -> Option<usize>
-    requires within { end ≤ length memory.now.cells }
+    requires within { end ≤ length memory.now.granules }
     requires words { end % 64 ≡ 0 }
-    ensures { MatchOption result ((k : ℕ) → from ≤ k → k < end → is_tagged memory.now.cells k ≡ false) (λ i. (from ≤ i) × (i < end) × (is_tagged memory.now.cells i ≡ true) × ((k : ℕ) → from ≤ k → k < i → is_tagged memory.now.cells k ≡ false)) }
+    ensures { MatchOption result ((k : ℕ) → from ≤ k → k < end → is_tagged memory.now.granules k ≡ false) (λ i. (from ≤ i) × (i < end) × (is_tagged memory.now.granules i ≡ true) × ((k : ℕ) → from ≤ k → k < i → is_tagged memory.now.granules k ≡ false)) }
 {
     if end <= from {
         return None;
@@ -139,9 +139,9 @@ fn first_tagged(memory: &Memory, from: usize, end: usize) -> Option<usize>
 
 // The first granule that isn't guarded. One without a tag always is.
 fn first_unguarded_granule(heap: &Heap, memory: &Memory) -> Option<usize>
-    ensures { MatchOption result (All (HoldsGuarded heap.now) memory.now.cells) (λ i. (i < length memory.now.cells) × FirstLacks (HasGuardedAt heap.now memory.now) i) }
+    ensures { MatchOption result (All (HoldsGuarded heap.now) memory.now.granules) (λ i. (i < length memory.now.granules) × FirstLacks (HasGuardedAt heap.now memory.now) i) }
 {
-    memory.whole();
+    memory.invariant();
     let end = memory.granules();
     let mut from = 0;
     while let Some(i) = first_tagged(memory, from, end) {
@@ -158,13 +158,13 @@ fn first_unguarded_granule(heap: &Heap, memory: &Memory) -> Option<usize>
 fn is_painted(heap: &Heap, word: Word) -> bool
     ensures { result ≡ lies_in heap.now.painted (base_of word) }
 {
-    heap.whole();
+    heap.invariant();
     heap.is_open() && heap.is_due(bounds(word).base)
 }
 
 // The first granule of a page that is tagged, with a base in a painted block: none, where the page is dirty.
 fn first_in_page(heap: &Heap, memory: &Memory, page: u32) -> Option<usize>
-    requires { page_granules * page + page_granules ≤ length memory.now.cells }
+    requires { page_granules * page + page_granules ≤ length memory.now.granules }
     ensures { MatchOption result ((k : ℕ) → k / page_granules ≡ page → StandsDirty heap.now memory.now k) (λ i. (i / page_granules ≡ page) × (¬ StandsDirty heap.now memory.now i) × ((k : ℕ) → k < i → k / page_granules ≡ page → StandsDirty heap.now memory.now k)) }
 {
     if memory.dirty(page) {
@@ -185,7 +185,7 @@ fn first_in_page(heap: &Heap, memory: &Memory, page: u32) -> Option<usize>
 
 // The first granule that is tagged, with a base in a painted block, in a clean page.
 fn first_in_clean_page(heap: &Heap, memory: &Memory) -> Option<usize>
-    ensures { MatchOption result (AreInDirtyPages memory.now.cells memory.now.dirty heap.now.painted) (λ i. (i < length memory.now.cells) × FirstLacks (StandsDirty heap.now memory.now) i) }
+    ensures { MatchOption result (AreInDirtyPages memory.now.granules memory.now.dirty heap.now.painted) (λ i. (i < length memory.now.granules) × FirstLacks (StandsDirty heap.now memory.now) i) }
 {
     for page in 0..memory.pages() {
         if let Some(i) = first_in_page(heap, memory, page) {

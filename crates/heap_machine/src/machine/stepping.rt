@@ -2,17 +2,17 @@
 
 ghost use Rattle.std.specs.Prelude.{◌≡◌, IfErr, IfOk, IfSome, IsOk, OnErr, OnOk};
 ghost use Rattle.trace_text.specs.Command.{IsValid};
-ghost use Rattle.heap_machine.specs.Dirty.{IsDirtied, dirty_after};
-ghost use Rattle.heap_machine.specs.Parts.{AreParts};
+ghost use Rattle.machine_steps.specs.Dirty.{IsDirtied, dirty_after};
+ghost use Rattle.heap_machine.specs.Storage.{IsStorage};
 ghost use Rattle.heap_machine.specs.Passes.{FindsTags, IsFound};
-ghost use Rattle.heap_machine.specs.Safety.{IsSafe, IsUnused, LeavesInUse};
-ghost use Rattle.heap_machine.specs.Step.{Step, TakesNoMemory};
+ghost use Rattle.machine_steps.specs.Safety.{IsSafe, IsUnused, LeavesInUse};
+ghost use Rattle.machine_steps.specs.Step.{Step, NeedsNoMemory};
 
 use crate::fault::MachineFault;
-use crate::laws::answers;
 use crate::machine::Machine;
-use crate::parts::{Found, Parts};
+use crate::storage::{Found, Storage};
 use heap_reply::Reply;
+use machine_steps::any_placement_law;
 use std::alloc::Global;
 use std::thread::Threads;
 use sweep_pool::Gate;
@@ -32,7 +32,7 @@ impl Machine {
         ensures step { IfOk result (λ reply. Step self.old.state command reply self.new.state) }
         ensures err { OnErr result (self.new ≡ self.old) }
         ensures memory { IfErr result (λ fault. fault ≡ MachineFault.Memory) }
-        ensures ok { TakesNoMemory self.old.state command → IsOk result }
+        ensures ok { NeedsNoMemory self.old.state command → IsOk result }
         ensures cutting { self.new.cutting ≡ self.old.cutting }
         ensures safe { IsSafe self.new.state }
         ensures unused { IfOk result (λ reply. IsUnused self.old.state command reply) }
@@ -45,9 +45,9 @@ impl Machine {
         let cutting = self.cutting;
         self.done(
             command,
-            &|parts: &Parts| -> Option<Found>
-                ensures { AreParts parts.now → IfSome result (IsFound parts.now) }
-            { parts.found_by_workers(rt, alloc, cutting, gate) },
+            &|storage: &Storage| -> Option<Found>
+                ensures { IsStorage storage.now → IfSome result (IsFound storage.now) }
+            { storage.found_by_workers(rt, alloc, cutting, gate) },
         )
     }
 
@@ -62,7 +62,7 @@ impl Machine {
         ensures step { IfOk result (λ reply. Step self.old.state command reply self.new.state) }
         ensures err { OnErr result (self.new ≡ self.old) }
         ensures memory { IfErr result (λ fault. fault ≡ MachineFault.Memory) }
-        ensures ok { TakesNoMemory self.old.state command → IsOk result }
+        ensures ok { NeedsNoMemory self.old.state command → IsOk result }
         ensures cutting { self.new.cutting ≡ self.old.cutting }
         ensures safe { IsSafe self.new.state }
         ensures unused { IfOk result (λ reply. IsUnused self.old.state command reply) }
@@ -75,14 +75,14 @@ impl Machine {
         let cutting = self.cutting;
         self.done(
             command,
-            &|parts: &Parts| -> Option<Found>
-                ensures { AreParts parts.now → IfSome result (IsFound parts.now) }
-            { parts.found_alone(alloc, cutting, gate) },
+            &|storage: &Storage| -> Option<Found>
+                ensures { IsStorage storage.now → IfSome result (IsFound storage.now) }
+            { storage.found_alone(alloc, cutting, gate) },
         )
     }
 
     // Does one command, whoever makes its passes.
-    fn done<P: Fn(&Parts) -> Option<Found>>(
+    fn done<P: Fn(&Storage) -> Option<Found>>(
         &mut self,
         command: Command,
         pass: &P,
@@ -93,7 +93,7 @@ impl Machine {
         ensures step { IfOk result (λ reply. Step self.old.state command reply self.new.state) }
         ensures err { OnErr result (self.new ≡ self.old) }
         ensures memory { IfErr result (λ fault. fault ≡ MachineFault.Memory) }
-        ensures ok { TakesNoMemory self.old.state command → IsOk result }
+        ensures ok { NeedsNoMemory self.old.state command → IsOk result }
         ensures cutting { self.new.cutting ≡ self.old.cutting }
         ensures safe { IsSafe self.new.state }
         ensures unused { IfOk result (λ reply. IsUnused self.old.state command reply) }
@@ -102,8 +102,8 @@ impl Machine {
         ensures dirtied { IsDirtied self.new.state self.new.dirty }
     {
         // From a sound state each step leads to one.
-        answers();
-        self.parts.memory.whole();
-        self.parts.serve(command, pass)
+        any_placement_law();
+        self.storage.memory.invariant();
+        self.storage.serve(command, pass)
     }
 }

@@ -5,4 +5,4 @@ use Rattle.speed_sweep.proofs.full_memory.Goals as goal
 
 pub loop-granule-preserved : goal.loop-granule-preserved
 loop-granule-preserved c =
-    ap (λ (m : MemoryState). length m.cells) c.put.ensures ∙ (length-set _ _ _ ∙ c.loop-granule.invariant)
+    ap (λ (m : MemoryState). length m.granules) c.put.ensures ∙ (length-set _ _ _ ∙ c.loop-granule.invariant)

@@ -2,7 +2,7 @@
 
 use super::{BASE, after, first_state, record, with_block};
 use byte_machine::{
-    CallFault, CommandRecord, WordRecord, granule, put_whole, register, run_report, run_states,
+    CallFault, CommandRecord, WordRecord, granule, put_all, register, run_report, run_states,
     state_length,
 };
 use heap_machine::Reply;
@@ -102,10 +102,10 @@ fn faults_of_texts_are_told(rt: HostRuntime) {
 #[test]
 fn texts_are_copied_whole(rt: HostRuntime) {
     let mut out = [b'.'; 4];
-    assert_eq!(rt; put_whole(b"abcde", &mut out), Err(5));
+    assert_eq!(rt; put_all(b"abcde", &mut out), Err(5));
     assert_eq!(rt; out, *b"....");
-    assert_eq!(rt; put_whole(b"abc", &mut out), Ok(3));
+    assert_eq!(rt; put_all(b"abc", &mut out), Ok(3));
     assert_eq!(rt; out, *b"abc.");
-    assert_eq!(rt; put_whole(b"defg", &mut out), Ok(4));
+    assert_eq!(rt; put_all(b"defg", &mut out), Ok(4));
     assert_eq!(rt; out, *b"defg");
 }

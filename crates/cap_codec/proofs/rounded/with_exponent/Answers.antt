@@ -4,7 +4,7 @@ use Rattle.cap_codec.specs.Bounds.{bounds_of}
 use Rattle.cap_codec.specs.Fields.{bits_with, fields_of}
 use Rattle.cap_codec.specs.Mantissas.{exponent_of}
 use Rattle.cap_codec.specs.Rounding.{IsExponent, exponent_for}
-use Rattle.cap_codec.specs.Words.{narrowed}
+use Rattle.cap_codec.specs.Words.{narrowed_word}
 use Rattle.cap_codec.proofs.EncodeLaws.{bounds_of-with_bounds_of, exponent_of-with_bounds_of}
 use Rattle.cap_codec.proofs.RoundingLaws.{IsExponent-exponent_for, IsNearExponent-from}
 use Rattle.cap_codec.proofs.WordLaws.{is_exact-flag}
@@ -14,7 +14,7 @@ pub returns-clause-fields : goal.returns-clause-fields
 returns-clause-fields c = search rules
 
 pub returns-clause-word : goal.returns-clause-word
-unfolding narrowed
+unfolding narrowed_word
 returns-clause-word c =
     ap (λ b. let w : Word = record { bits = b } in w) (c.word_of.ensures.value ∙ ap bits_with (sym c.word_of.ensures.fields ∙ returns-clause-fields c))
 

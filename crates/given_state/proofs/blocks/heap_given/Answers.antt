@@ -1,5 +1,5 @@
 use Rattle.std.proofs.Common.{ap}
-use Rattle.heap_core.specs.Heap.{HeapState}
+use Rattle.heap_model.specs.Heap.{HeapState}
 use Rattle.given_state.proofs.PlaceLaws.{closed_before, given_heap-made}
 use Rattle.given_state.proofs.TurnLaws.{painted_in_turn, waiting_in_turn}
 use Rattle.given_state.proofs.blocks.heap_given.Goals as goal

@@ -1,6 +1,6 @@
 use Rattle.std.proofs.lemmas.List.Elements.{All-more}
 use Rattle.given_state.specs.Given.{MayHold, with_given_granule, with_given_register}
-use Rattle.given_state.proofs.FitLaws.{FitHeap-more, base_more, cells_more}
+use Rattle.given_state.proofs.FitLaws.{FitHeap-more, base_more, granules_more}
 use Rattle.given_state.proofs.LineLaws.{LacksHoldFirst-at, fold_next}
 use Rattle.given_state.proofs.words.hold_all.Goals as goal
 
@@ -14,8 +14,8 @@ loop-line-preserved c =
     record {
       may = All-more (λ line. MayHold c.args.heap.now line.1) c.args.givens.now c.loop-line.line-index _ c.loop-line-test.true c.loop-line.invariant.may c.in_default.ensures.may;
       base = base_more c.loop-line.memory c.hold_given.new.memory base _ c.loop-line.invariant.base c.in_default.ensures.memory;
-      cells = fold_next (λ old line. with_given_granule base old line.1) c.args.memory.now.cells c.args.givens.now c.loop-line.line-index _ c.loop-line.memory.cells c.hold_given.new.memory.cells
-          c.loop-line-test.true c.loop-line.invariant.cells (cells_more c.loop-line.memory c.hold_given.new.memory base _ c.loop-line.invariant.base c.in_default.ensures.memory);
+      granules = fold_next (λ old line. with_given_granule base old line.1) c.args.memory.now.granules c.args.givens.now c.loop-line.line-index _ c.loop-line.memory.granules c.hold_given.new.memory.granules
+          c.loop-line-test.true c.loop-line.invariant.granules (granules_more c.loop-line.memory c.hold_given.new.memory base _ c.loop-line.invariant.base c.in_default.ensures.memory);
       registers = fold_next (λ old line. with_given_register old line.1) c.args.registers.now c.args.givens.now c.loop-line.line-index _ c.loop-line.registers c.hold_given.new.registers
           c.loop-line-test.true c.loop-line.invariant.registers c.in_default.ensures.registers;
       fit = FitHeap-more c.args.heap.now c.loop-line.memory c.hold_given.new.memory c.loop-line.registers c.hold_given.new.registers _ c.loop-line.invariant.fit

@@ -1,7 +1,7 @@
 use Rattle.std.proofs.Common.{◌≡◌, Err, IfOk, subst}
-use Rattle.heap_trace.specs.Outcome.{Answers}
-use Rattle.trace_program.specs.Answer.{line_of_fault}
-use Rattle.heap_command.proofs.AnswerLaws.{IsRunAnswer-fault, IsRunAnswer-report}
+use Rattle.trace_report.specs.Outcome.{HasOutcome}
+use Rattle.program_devices.specs.Answer.{line_of_fault}
+use Rattle.heap_command.proofs.RunLaws.{IsRunAnswer-fault, IsRunAnswer-report}
 use Rattle.heap_command.proofs.program.run_answer.Goals as goal
 
 pub returns-in-Ok-clause-ok : goal.returns-in-Ok-clause-ok
@@ -11,6 +11,6 @@ returns-in-Ok-clause-ok g c =
 
 pub returns-in-Err-Trace-clause-ok : goal.returns-in-Err-Trace-clause-ok
 returns-in-Err-Trace-clause-ok g c =
-    let answers = subst (λ e. Answers c.args.text.now (Err e)) c.in-Err-Trace.field-0-is c.in-Err-Trace.ensures.answer in
+    let answers = subst (λ e. HasOutcome c.args.text.now (Err e)) c.in-Err-Trace.field-0-is c.in-Err-Trace.ensures.answer in
     let told = subst (λ f. IfOk c.fault_answer.result (λ answer. (answer.status ≡ 3) × (answer.text.items ≡ line_of_fault f))) c.in-Err-Trace.fault-is c.fault_answer.ensures.ok in
     IsRunAnswer-fault c.args.text.now c.args.options c.in-Err-Trace.fault c.fault_answer.result answers told

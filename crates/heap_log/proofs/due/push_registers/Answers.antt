@@ -1,6 +1,6 @@
 use Rattle.std.proofs.Common.{◌++◌, ◌∙◌, Option, ap, sym}
 use Rattle.std.proofs.lemmas.List.{append_assoc, append-nil}
-use Rattle.heap_core.specs.Heap.{due}
+use Rattle.heap_model.specs.Heap.{due}
 use Rattle.heap_log.specs.declared.due.DueWord.{DueWord}
 use Rattle.heap_log.specs.Due.{as_list, due_registers}
 use Rattle.heap_log.proofs.DueLaws.{due_registers-more}

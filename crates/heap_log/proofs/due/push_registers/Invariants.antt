@@ -1,5 +1,5 @@
 use Rattle.std.proofs.Common.{◌≡◌, ◌++◌}
-use Rattle.heap_core.specs.Heap.{due}
+use Rattle.heap_model.specs.Heap.{due}
 use Rattle.heap_log.specs.Due.{due_registers}
 use Rattle.heap_log.proofs.due.push_registers.Given as goal
 

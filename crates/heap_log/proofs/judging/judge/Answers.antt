@@ -3,7 +3,7 @@ use Rattle.std.specs.Prelude.{All}
 use Rattle.std.proofs.lemmas.List.{take_all}
 use Rattle.std.proofs.lemmas.Result.{err_from_is_err_and}
 use Rattle.log_text.specs.declared.log.Event.{Event}
-use Rattle.heap_machine.specs.Parts.{MachineState}
+use Rattle.heap_machine.specs.Storage.{MachineState}
 use Rattle.heap_log.specs.Judged.{AllFollow, FitsListed}
 use Rattle.heap_log.proofs.FollowLaws.{AllFit-more, AllFollow-more, DiffersAt-found, HasBegun-still}
 use Rattle.heap_log.proofs.judging.judge.Goals as goal
@@ -33,5 +33,5 @@ returns-clause-unused g c =
     let last = c.loop-count.machine.state in
     let whole = take_all c.loop-count.count c.args.events.now (omega (arith, c.loop-count-test.false)) in
     λ safe.
-    c.logs.ensures.unused first c.args.events.now last safe
+    c.safe_log_law.ensures.unused first c.args.events.now last safe
     (subst (All FitsListed) whole c.loop-count.invariant.fits) (subst (λ (xs : List (ℕ × Event)). AllFollow first xs last) whole c.loop-count.invariant.follow)

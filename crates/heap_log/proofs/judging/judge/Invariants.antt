@@ -1,7 +1,7 @@
 -- The events so far follow, and the machine is as they leave it.
 use Rattle.std.proofs.Common.{take}
 use Rattle.std.specs.Prelude.{All}
-use Rattle.heap_machine.specs.Safety.{IsSafe}
+use Rattle.machine_steps.specs.Safety.{IsSafe}
 use Rattle.heap_log.specs.Judged.{AllFollow, FitsListed}
 use Rattle.heap_log.proofs.judging.judge.Given as goal
 

@@ -10,7 +10,7 @@ loop-line-init g c = record { follow = refl; last = IsLastFree.none }
 
 pub loop-line-preserved : goal.loop-line-preserved
 loop-line-preserved g c =
-    KnowsLastFree-more c.logs.ensures.one c.args.machine.now.state c.args.block c.args.events.now c.requires.follow.0 c.loop-line.line-index _ c.frees.result
+    KnowsLastFree-more c.safe_log_law.ensures.one c.args.machine.now.state c.args.block c.args.events.now c.requires.follow.0 c.loop-line.line-index _ c.frees.result
     c.loop-line.found c.noted-found.result c.loop-line.machine.state c.follow_event.new.machine.state c.in_ok-follow_event.field-0 c.loop-line-test.true
     c.requires.follow.1 c.loop-line.invariant c.frees.ensures c.noted-found.ensures c.in_ok-follow_event.ensures.found
 

@@ -1,6 +1,6 @@
 use Rattle.std.proofs.Common.{arith}
-use Rattle.heap_log.specs.Judged.{blocks_told, one_told, passes_told, tags_told}
-use Rattle.heap_log.proofs.TallyLaws.{sum_told-more}
+use Rattle.heap_log.specs.Judged.{blocks_of_reply, one_of_reply, passes_of_reply, tags_of_reply}
+use Rattle.heap_log.proofs.TallyLaws.{sum_over-more}
 use Rattle.heap_log.proofs.tallying.tally.Goals as goal
 
 pub overflow_add-tags : goal.overflow_add-tags
@@ -21,10 +21,10 @@ loop-event-preserved c =
     let events = c.args.events.now in
     let i = c.loop-event.event-index in
     let here = c.loop-event-test.true in
-    let tags = sum_told-more tags_told events i _ c.tags_in.result here c.tags_in.ensures.value in
-    let commands = sum_told-more one_told events i _ c.commands_in-commands.result here c.commands_in-commands.ensures.value in
-    let blocks = sum_told-more blocks_told events i _ c.blocks_in-blocks.result here c.blocks_in-blocks.ensures.value in
-    let passes = sum_told-more passes_told events i _ c.passes_in-passes.result here c.passes_in-passes.ensures.value in
+    let tags = sum_over-more tags_of_reply events i _ c.tags_in.result here c.tags_in.ensures.value in
+    let commands = sum_over-more one_of_reply events i _ c.commands_in-commands.result here c.commands_in-commands.ensures.value in
+    let blocks = sum_over-more blocks_of_reply events i _ c.blocks_in-blocks.result here c.blocks_in-blocks.ensures.value in
+    let passes = sum_over-more passes_of_reply events i _ c.passes_in-passes.result here c.passes_in-passes.ensures.value in
     record {
       tags = omega (arith, before.tags, c.from-tags.ensures, tags);
       commands = omega (arith, before.commands, commands);

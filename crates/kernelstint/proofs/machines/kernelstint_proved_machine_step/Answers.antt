@@ -16,5 +16,5 @@ returns-in-Ok-clause-step c = λ _. record {
   unused = search rules;
   revoked = search rules;
   exact = λ exact.
-      c.exactness.ensures.steps c.take-held.result.value.state c.in-Some.command c.in-Ok.told c.step_alone-answered.new.self.state (search rules) exact (search rules);
+      c.exact_blocks_law.ensures.steps c.take-held.result.value.state c.in-Some.command c.in-Ok.told c.step_alone-answered.new.self.state (search rules) exact (search rules);
 }

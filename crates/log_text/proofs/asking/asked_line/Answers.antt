@@ -8,7 +8,7 @@ use Rattle.log_text.specs.declared.event.Asked.{Asked}
 use Rattle.log_text.specs.declared.fault.LogFault.{LogFault}
 use Rattle.log_text.specs.declared.fault.LogFault.TheVariants.{BadAnswer, Trace}
 use Rattle.log_text.specs.Asking.{IsFaultyLine}
-use Rattle.log_text.specs.Log.{arrow, asked_of, event_at, event_of, on_line, told_of}
+use Rattle.log_text.specs.Log.{arrow, asked_of, event_at, event_of, on_line, event_of_answer}
 use Rattle.log_text.proofs.asking.asked_line.Goals as goal
 
 -- a line whose name and words are no event
@@ -22,7 +22,7 @@ faulty words name rest counts is each = λ number.
 
 -- what is read of a name and its operands, and no arrow after them
 lacks : (number : ℕ) (read : Result Asked LineFault)
-    → (fault : LogFault) × ((on_line number read >>= λ asked. ok_or (option_and_then (λ (both : List (List ℕ) × List (List ℕ)). told_of asked both.1) None) (BadAnswer number)) ≡ Err fault)
+    → (fault : LogFault) × ((on_line number read >>= λ asked. ok_or (option_and_then (λ (both : List (List ℕ) × List (List ℕ)). event_of_answer asked both.1) None) (BadAnswer number)) ≡ Err fault)
 lacks number (Ok asked) = (BadAnswer number, refl)
 lacks number (Err fault) = (Trace (fault_at number fault), refl)
 

@@ -1,6 +1,6 @@
 use Rattle.std.proofs.Common.{[], ◌∷◌, codes}
 use Rattle.std.specs.Fmt.{decimal}
-use Rattle.heap_reply.specs.Display.{bit_text, hexadecimal_text, place_text}
+use Rattle.heap_reply.specs.Display.{bit_text, hexadecimal_text, bounded_address_text}
 use Rattle.reply_text.proofs.JoinedPieces.{onto_joined}
 use Rattle.reply_text.proofs.answers.put_shown.Goals as goal
 
@@ -13,7 +13,7 @@ returns-clause-text c =
       c.from-4.ensures,
       c.flag_number.ensures,
       c.put-4.ensures.text,
-      c.put_place.ensures.text,
+      c.put_bounded_address.ensures.text,
       c.put-3.ensures.text,
       c.put_hexadecimal-2.ensures.text,
       c.from-3.ensures,
@@ -24,5 +24,5 @@ returns-clause-text c =
       c.put_decimal.ensures.text,
       c.from.ensures,
     )
-    (onto_joined (codes "tag " ∷ bit_text s.tag ∷ codes " " ∷ place_text s.address s.base s.top ∷ codes " perms " ∷ hexadecimal_text s.perms
+    (onto_joined (codes "tag " ∷ bit_text s.tag ∷ codes " " ∷ bounded_address_text s.address s.base s.top ∷ codes " perms " ∷ hexadecimal_text s.perms
     ∷ codes " type " ∷ hexadecimal_text s.otype ∷ codes " exponent " ∷ decimal s.exponent ∷ []) c.args.text.now)

@@ -7,4 +7,4 @@ use Rattle.state_bytes.proofs.blocks.number_in.Goals as goal
 pub returns : goal.returns
 returns c m state text inside kind =
     let read = from_place 4 (13 + 21 * c.args.i + 17) (13 + 21 * c.args.i + 17) c.args.bytes.now c.read_u32.result c.read_u32.ensures refl in
-    ap (length_told (kind_number kind)) read ∙ length_read m c.args.bytes.now c.args.i kind state.whole text inside
+    ap (length_told (kind_number kind)) read ∙ length_read m c.args.bytes.now c.args.i kind state.invariant text inside

@@ -1,6 +1,6 @@
 use Rattle.std.proofs.Common.{◌∙◌, refl, sym, ap, arith}
 use Rattle.std.proofs.lemmas.Bool.{true≢false}
-use Rattle.heap_core.specs.Heap.{HeapState}
+use Rattle.heap_model.specs.Heap.{HeapState}
 use Rattle.state_bytes.proofs.ReplayLaws.{reached_first, reached_last}
 use Rattle.state_bytes.proofs.blocks.read_others.Goals as goal
 

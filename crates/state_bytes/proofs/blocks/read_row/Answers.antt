@@ -1,6 +1,6 @@
 use Rattle.std.proofs.Common.{◌∙◌, refl, sym}
 use Rattle.std.proofs.lemmas.Bool.{true≢false}
-use Rattle.heap_core.specs.declared.block.Kind.TheVariants.{Live, Waiting}
+use Rattle.heap_model.specs.declared.block.Kind.TheVariants.{Live, Waiting}
 use Rattle.state_bytes.proofs.ReplayLaws.{live_row, other_row, row_inside, waiting_row}
 use Rattle.state_bytes.proofs.blocks.read_row.Goals as goal
 

@@ -5,4 +5,4 @@ use Rattle.state_bytes.proofs.PieceLaws.{granule_at}
 use Rattle.state_bytes.proofs.comparing.are_granules.Given as goal
 
 abbrev pub invariant-loop-i : goal.invariant-loop-i
-invariant-loop-i l = StandsAt l.bytes 13 (texts_below (granule_at l.heap l.memory.cells) l.i)
+invariant-loop-i l = StandsAt l.bytes 13 (texts_below (granule_at l.heap l.memory.granules) l.i)

@@ -7,42 +7,42 @@ use Rattle.std.proofs.Common.{List}
 pub returns-then-bytes-text_length-clause-no : goal.returns-then-bytes-text_length-clause-no
 returns-then-bytes-text_length-clause-no c = λ text.
     let m = c.args.machine.now in
-    let room = room_of m c.memory-memory.result.now.cells c.pages.result c.text_length.result c.tell_whole.ensures c.memory-memory.ensures.cells c.pages.ensures c.text_length.ensures in
-    absurd (c.if-bytes-text_length.true (ap (λ (l : List ℕ). length l) (sym text) ∙ (text_long m c.tell_whole.ensures ∙ sym room)))
+    let room = room_of m c.memory-memory.result.now.granules c.pages.result c.text_length.result c.tell_all.ensures c.memory-memory.ensures.granules c.pages.ensures c.text_length.ensures in
+    absurd (c.if-bytes-text_length.true (ap (λ (l : List ℕ). length l) (sym text) ∙ (text_long m c.tell_all.ensures ∙ sym room)))
 
 pub returns-then-not-is_head-clause-no : goal.returns-then-not-is_head-clause-no
 returns-then-not-is_head-clause-no c = λ text.
     let m = c.args.machine.now in
     let memory = c.memory-memory.ensures in
     let all = pieces_of_text m c.args.bytes.now _ _ _ _ _ _ (own_pieces m) text in
-    sym c.if-not-is_head.true ∙ c.is_head.ensures.no (stands_as c.args.bytes.now _ _ 0 0 refl (head_same_as m c.heap-heap.result.now c.memory-memory.result.now.cells c.base.result c.pages-2.result c.is_open.result c.tell_whole.ensures c.heap-heap.ensures memory.cells c.base.ensures c.pages-2.ensures c.is_open.ensures) all.head)
+    sym c.if-not-is_head.true ∙ c.is_head.ensures.no (stands_as c.args.bytes.now _ _ 0 0 refl (head_same_as m c.heap-heap.result.now c.memory-memory.result.now.granules c.base.result c.pages-2.result c.is_open.result c.tell_all.ensures c.heap-heap.ensures memory.granules c.base.ensures c.pages-2.ensures c.is_open.ensures) all.head)
 
 pub returns-then-not-are_granules-clause-no : goal.returns-then-not-are_granules-clause-no
 returns-then-not-are_granules-clause-no c = λ text.
     let m = c.args.machine.now in
     let memory = c.memory-memory.ensures in
     let all = pieces_of_text m c.args.bytes.now _ _ _ _ _ _ (own_pieces m) text in
-    sym c.if-not-are_granules.true ∙ c.are_granules.ensures.no (stands_as c.args.bytes.now _ _ 13 13 refl (granules_same_as m c.heap-heap.result.now c.memory-memory.result.now.cells c.heap-heap.ensures memory.cells) all.granules)
+    sym c.if-not-are_granules.true ∙ c.are_granules.ensures.no (stands_as c.args.bytes.now _ _ 13 13 refl (granules_same_as m c.heap-heap.result.now c.memory-memory.result.now.granules c.heap-heap.ensures memory.granules) all.granules)
 
 pub returns-then-not-are_registers-clause-no : goal.returns-then-not-are_registers-clause-no
 returns-then-not-are_registers-clause-no c = λ text.
     let m = c.args.machine.now in
     let memory = c.memory-memory.ensures in
     let all = pieces_of_text m c.args.bytes.now _ _ _ _ _ _ (own_pieces m) text in
-    sym c.if-not-are_registers.true ∙ c.are_registers.ensures.no (stands_as c.args.bytes.now _ _ _ _ (place_of m c.memory-memory.result.now.cells c.granules.result memory.cells c.granules.ensures) (registers_same_as m c.registers.result.now c.registers.ensures) all.registers)
+    sym c.if-not-are_registers.true ∙ c.are_registers.ensures.no (stands_as c.args.bytes.now _ _ _ _ (place_of m c.memory-memory.result.now.granules c.granules.result memory.granules c.granules.ensures) (registers_same_as m c.registers.result.now c.registers.ensures) all.registers)
 
 pub returns-clause-yes : goal.returns-clause-yes
 returns-clause-yes c = λ yes.
     let m = c.args.machine.now in
     let memory = c.memory-memory.ensures in
-    let room = room_of m c.memory-memory.result.now.cells c.pages.result c.text_length.result c.tell_whole.ensures memory.cells c.pages.ensures c.text_length.ensures in
-    text_of_pieces m c.args.bytes.now _ _ _ _ (13 + 21 * c.granules.result) (13 + 21 * c.granules.result + 17 * 32) c.tell_whole.ensures
+    let room = room_of m c.memory-memory.result.now.granules c.pages.result c.text_length.result c.tell_all.ensures memory.granules c.pages.ensures c.text_length.ensures in
+    text_of_pieces m c.args.bytes.now _ _ _ _ (13 + 21 * c.granules.result) (13 + 21 * c.granules.result + 17 * 32) c.tell_all.ensures
     (record {
-      head_is = head_same_as m c.heap-heap.result.now c.memory-memory.result.now.cells c.base.result c.pages-2.result c.is_open.result c.tell_whole.ensures c.heap-heap.ensures memory.cells c.base.ensures c.pages-2.ensures c.is_open.ensures;
-      granules_are = granules_same_as m c.heap-heap.result.now c.memory-memory.result.now.cells c.heap-heap.ensures memory.cells;
+      head_is = head_same_as m c.heap-heap.result.now c.memory-memory.result.now.granules c.base.result c.pages-2.result c.is_open.result c.tell_all.ensures c.heap-heap.ensures memory.granules c.base.ensures c.pages-2.ensures c.is_open.ensures;
+      granules_are = granules_same_as m c.heap-heap.result.now c.memory-memory.result.now.granules c.heap-heap.ensures memory.granules;
       registers_are = registers_same_as m c.registers.result.now c.registers.ensures;
       pages_are = pages_same_as m c.memory-memory.result.now.dirty memory.dirty;
-      at_is = place_of m c.memory-memory.result.now.cells c.granules.result memory.cells c.granules.ensures;
+      at_is = place_of m c.memory-memory.result.now.granules c.granules.result memory.granules c.granules.ensures;
       last_is = refl;
     })
     (c.if-bytes-text_length.false ∙ room)
@@ -58,4 +58,4 @@ returns-clause-no c = λ text.
     let m = c.args.machine.now in
     let memory = c.memory-memory.ensures in
     let all = pieces_of_text m c.args.bytes.now _ _ _ _ _ _ (own_pieces m) text in
-    c.are_dirty.ensures.no (stands_as c.args.bytes.now _ _ _ _ (ap (λ (k : ℕ). k + 17 * 32) (place_of m c.memory-memory.result.now.cells c.granules.result memory.cells c.granules.ensures)) (pages_same_as m c.memory-memory.result.now.dirty memory.dirty) all.pages)
+    c.are_dirty.ensures.no (stands_as c.args.bytes.now _ _ _ _ (ap (λ (k : ℕ). k + 17 * 32) (place_of m c.memory-memory.result.now.granules c.granules.result memory.granules c.granules.ensures)) (pages_same_as m c.memory-memory.result.now.dirty memory.dirty) all.pages)

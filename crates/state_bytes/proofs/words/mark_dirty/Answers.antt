@@ -3,11 +3,11 @@ use Rattle.tag_memory.specs.Cells.{MemoryState, marks_after}
 use Rattle.state_bytes.proofs.DirtyPut.{two_marks, two_puts}
 use Rattle.state_bytes.proofs.words.mark_dirty.Goals as goal
 
-pub returns-clause-cells : goal.returns-clause-cells
-returns-clause-cells c =
-    ap (λ (s : MemoryState). s.cells) c.put-2.ensures
-    ∙ (ap (λ (s : MemoryState). set s.cells (256 * c.args.page) c.cell-bits.result) c.put.ensures
-    ∙ two_puts c.args.memory.now.cells (256 * c.args.page) (c.cell-bits.result.0, true) c.cell-bits.result c.cell-bits.ensures)
+pub returns-clause-granules : goal.returns-clause-granules
+returns-clause-granules c =
+    ap (λ (s : MemoryState). s.granules) c.put-2.ensures
+    ∙ (ap (λ (s : MemoryState). set s.granules (256 * c.args.page) c.cell-bits.result) c.put.ensures
+    ∙ two_puts c.args.memory.now.granules (256 * c.args.page) (c.cell-bits.result.0, true) c.cell-bits.result c.cell-bits.ensures)
 
 pub returns-clause-dirty : goal.returns-clause-dirty
 returns-clause-dirty c =

@@ -7,7 +7,7 @@ use Rattle.state_bytes.proofs.words.read_dirty.Goals as goal
 
 pub loop-page-init : goal.loop-page-init
 loop-page-init c = record {
-  cells = ap (λ (s : MemoryState). s.cells) c.mark_clean.ensures;
+  granules = ap (λ (s : MemoryState). s.granules) c.mark_clean.ensures;
   base = ap (λ (s : MemoryState). s.base) c.mark_clean.ensures;
   count = ap (λ (s : MemoryState). length s.dirty) c.mark_clean.ensures ∙ length-replicate (length c.args.memory.now.dirty) false;
   rest = λ k from. ap (λ (s : MemoryState). is_dirty_at s.dirty k) c.mark_clean.ensures ∙ clean_at (length c.args.memory.now.dirty) k;
@@ -18,12 +18,12 @@ pub loop-page-preserved : goal.loop-page-preserved
 loop-page-preserved c =
     let flag = get_or c.args.bytes.now (c.args.start + c.loop-page.page) 0 == 1 in
     record {
-      cells = c.mark_if.ensures.cells ∙ c.loop-page.invariant.cells;
+      granules = c.mark_if.ensures.granules ∙ c.loop-page.invariant.granules;
       base = c.mark_if.ensures.base ∙ c.loop-page.invariant.base;
       count = marks_count c.loop-page.memory.dirty _ c.loop-page.page (get_or c.args.bytes.now (c.args.start + c.loop-page.page) 0 == 1) c.mark_if.ensures.dirty ∙ c.loop-page.invariant.count;
       rest = marks_rest c.loop-page.memory.dirty _ c.loop-page.page (get_or c.args.bytes.now (c.args.start + c.loop-page.page) 0 == 1) c.mark_if.ensures.dirty c.loop-page.invariant.rest;
       marks = λ m state text pages start.
-          marks_more m c.args.bytes.now c.loop-page.memory.dirty _ c.loop-page.page c.args.start (get_or c.args.bytes.now (c.args.start + c.loop-page.page) 0 == 1) state.whole text
+          marks_more m c.args.bytes.now c.loop-page.memory.dirty _ c.loop-page.page c.args.start (get_or c.args.bytes.now (c.args.start + c.loop-page.page) 0 == 1) state.invariant text
           (pages ∙ sym c.loop-page.invariant.count) (search rules) start refl c.mark_if.ensures.dirty (c.loop-page.invariant.marks m state text pages start) c.loop-page.invariant.rest;
     }
 

@@ -1,6 +1,6 @@
 -- The pages so far are the machine's, and those behind are clean.
 use Rattle.std.proofs.Common.{◌≡◌, ◌<◌, ◌≤◌, ◌+◌, ◌*◌, ℕ, false, length}
-use Rattle.heap_machine.specs.Parts.{MachineState}
+use Rattle.heap_machine.specs.Storage.{MachineState}
 use Rattle.tag_memory.specs.Cells.{is_dirty_at}
 use Rattle.state_bytes.specs.State.{IsState}
 use Rattle.state_bytes.specs.Text.{text_of}
@@ -8,7 +8,7 @@ use Rattle.state_bytes.proofs.words.read_dirty.Given as goal
 
 abbrev pub invariant-loop-page : goal.invariant-loop-page
 invariant-loop-page l = record {
-  cells : l.memory.cells ≡ l.fn.memory.cells;
+  granules : l.memory.granules ≡ l.fn.memory.granules;
   base : l.memory.base ≡ l.fn.memory.base;
   count : length l.memory.dirty ≡ length l.fn.memory.dirty;
   rest : (k : ℕ) → l.page ≤ k → is_dirty_at l.memory.dirty k ≡ false;

@@ -1,5 +1,5 @@
 use Rattle.std.proofs.Common.{rules, ◌≡◌, ◌≤◌, ◌+◌, ◌++◌, ◌∷◌, [], ℕ, ap, arith, length, subst, sym, ◌∙◌}
-use Rattle.heap_core.specs.Heap.{due}
+use Rattle.heap_model.specs.Heap.{due}
 use Rattle.sweep_pool.specs.Painting.{HasPainted, IsPaintedShare, share_start}
 use Rattle.sweep_pool.proofs.PaintLaws.{each_prefix, one_longer, painted-join, share_last, share_limit, share_order}
 use Rattle.sweep_pool.proofs.painting.joined.Goals as goal

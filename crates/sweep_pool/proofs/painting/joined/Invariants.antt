@@ -1,5 +1,5 @@
 use Rattle.std.proofs.Common.{◌≡◌, ◌≤◌, ◌+◌, length}
-use Rattle.heap_core.specs.Heap.{due}
+use Rattle.heap_model.specs.Heap.{due}
 use Rattle.sweep_pool.specs.Painting.{EachAt, HasPainted, IsPaintedShare, share_start}
 use Rattle.sweep_pool.proofs.painting.joined.Given as goal
 

@@ -1,5 +1,5 @@
 use Rattle.std.proofs.Common.{◌∙◌, length, subst}
-use Rattle.heap_core.specs.Heap.{due}
+use Rattle.heap_model.specs.Heap.{due}
 use Rattle.sweep_pool.specs.Painting.{HasPainted, share_start}
 use Rattle.sweep_pool.proofs.PaintLaws.{painted-share}
 use Rattle.sweep_pool.proofs.painting.painted_by.Goals as goal

@@ -1,7 +1,7 @@
 -- The lines so far have events that follow, and the machine is as they leave it.
 use Rattle.std.proofs.Common.{◌<◌, ◌+◌, ◌^◌, length}
 use Rattle.trace_text.specs.Lines.{lines_of}
-use Rattle.heap_machine.specs.Safety.{IsSafe}
+use Rattle.machine_steps.specs.Safety.{IsSafe}
 use Rattle.agreed_log.specs.Agreed.{AreFew, HaveAgreed}
 use Rattle.agreed_log.proofs.judge.Judge.lines.Given as goal
 

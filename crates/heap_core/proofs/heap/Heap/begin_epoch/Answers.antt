@@ -1,6 +1,6 @@
 use Rattle.std.proofs.Common.{◌≡◌, ◌∙◌, ap, false, true}
-use Rattle.heap_core.specs.Heap.{HeapState}
-use Rattle.heap_core.specs.Shadow.{bits_of}
+use Rattle.heap_model.specs.Heap.{HeapState}
+use Rattle.heap_model.specs.Shadow.{bits_of}
 use Rattle.heap_core.proofs.HeapLaws.{heap_state-begun}
 use Rattle.heap_core.proofs.LateLaws.{AreLate-none}
 use Rattle.heap_core.proofs.SoundLaws.{IsSound-from_table}

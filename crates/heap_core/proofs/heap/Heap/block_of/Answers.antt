@@ -1,7 +1,7 @@
 use Rattle.std.proofs.Common.{◌≡◌, ◌≤◌, ◌+◌, ◌-◌, ◌*◌, ◌/◌, inl, inr, length, get_or, ap, arith}
 use Rattle.std.proofs.lemmas.Bool.{cases_lt}
 use Rattle.heap_core.proofs.FoundLaws.{IsFound-kind, IsInNoBlock-ends, IsInNoBlock-outside, LiesAt}
-use Rattle.heap_core.proofs.ShadowLaws.{length-bits_of}
+use Rattle.heap_model.specs.ShadowLaws.{length-bits_of}
 use Rattle.heap_core.proofs.heap.Heap.block_of.Goals as goal
 
 pub returns-then-address-self-clause-none : goal.returns-then-address-self-clause-none

@@ -1,6 +1,6 @@
 use Rattle.std.proofs.Common.{◌≡◌, ◌+◌, ◌*◌, get_or, length, ap, arith}
 use Rattle.heap_core.proofs.FoundLaws.{IsFound-kind, LiesAt, none_start}
-use Rattle.heap_core.proofs.ShadowLaws.{length-bits_of}
+use Rattle.heap_model.specs.ShadowLaws.{length-bits_of}
 use Rattle.heap_core.proofs.heap.Heap.block_starting_at.Goals as goal
 
 pub returns-then-length_at-eq0-clause-none : goal.returns-then-length_at-eq0-clause-none

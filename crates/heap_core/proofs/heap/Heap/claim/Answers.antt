@@ -1,8 +1,8 @@
 use Rattle.std.proofs.Common.{◌≡◌, ◌+◌, ◌*◌, refl, arith}
-use Rattle.heap_core.specs.Blocks.{Span}
+use Rattle.heap_model.specs.Blocks.{Span}
 use Rattle.heap_core.specs.Consistent.{either_mark}
-use Rattle.heap_core.specs.Shadow.{bits_of}
-use Rattle.heap_core.specs.Table.{blocks_of, is_live}
+use Rattle.heap_model.specs.Shadow.{bits_of}
+use Rattle.heap_core.specs.Table.{blocks_of, is_unmarked}
 use Rattle.heap_core.proofs.ClaimLaws.{AreGranules-fit, IsClaim-refused, IsClaimable-gap, IsGap-unused, heap_state-claimed}
 use Rattle.heap_core.proofs.ExtentLaws.{LiesWithin-table}
 use Rattle.heap_core.proofs.HeapLaws.{granules_of_all, late_blocks-set, live_blocks-put}
@@ -33,7 +33,7 @@ pub overflow_add-self : goal.overflow_add-self
 overflow_add-self c =
     let h = c.self.invariant in
     let run = c.put_at.ensures.gap c.if-not-put_at.false in
-    omega (arith, granules_of_all _ _ _ _ _ _ _ _ h.table h.lates h.live h.held h.late, run.end, h.table.count, (LiesWithin-table _ _ _ h.table).limit)
+    omega (arith, granules_of_all _ _ _ _ _ _ _ _ h.table h.lates h.live h.due h.late, run.end, h.table.count, (LiesWithin-table _ _ _ h.table).limit)
 
 pub invariant_of-self-2 : goal.invariant_of-self-2
 invariant_of-self-2 c =
@@ -45,12 +45,12 @@ invariant_of-self-2 c =
     let p = c.in-Ok.place.0 in
     let n = c.in-Ok.place.1 in
     let block : Span = (c.self.inside.base + 16 * c.in-Ok.place.0, 16 * c.in-Ok.place.1) in
-    let live = blocks_of is_live c.self.inside.base 0 c.self.inside.table.lengths (either_mark c.self.inside.table.marks (bits_of c.self.inside.late.items)) in
+    let live = blocks_of is_unmarked c.self.inside.base 0 c.self.inside.table.lengths (either_mark c.self.inside.table.marks (bits_of c.self.inside.late.items)) in
     record {
       table = rw (lengths, marks) (IsTable-set _ _ _ p n h.table run);
       lates = rw (lengths, marks) (AreLate-put _ _ _ _ p n h.lates run);
       live = rw (lengths, marks, live_blocks-put _ _ _ _ _ p n h.table.same h.lates run) (omega (arith, bytes_in-blocks_with block live, h.live));
-      held = rw (lengths, marks, held_blocks-set _ _ _ p n run) h.held;
+      due = rw (lengths, marks, held_blocks-set _ _ _ p n run) h.due;
       late = rw (lengths, late_blocks-set _ _ _ _ _ p n h.lates run) h.late;
     }
 

@@ -1,5 +1,5 @@
 use Rattle.std.proofs.Common.{◌≡◌, ◌∙◌, ℕ, false, get_or, refl, sym}
-use Rattle.heap_core.specs.Shadow.{bits_of}
+use Rattle.heap_model.specs.Shadow.{bits_of}
 use Rattle.heap_core.proofs.HeapLaws.{heap_state-dropped}
 use Rattle.heap_core.proofs.KeptLaws.{IsTable-kept, held_blocks-kept, length-kept_lengths}
 use Rattle.heap_core.proofs.LateLaws.{AreLate-none, either-none_left, late_blocks-dropped, live_blocks-dropped, none_late}
@@ -9,7 +9,7 @@ pub invariant_of-self : goal.invariant_of-self
 invariant_of-self c =
     let inside = c.self.inside in
     let h = c.self.invariant in
-    let dropped = c.drop_held.ensures in
+    let dropped = c.free_due.ensures in
     let lengths = c.self.inside.table.lengths in
     let marks = c.self.inside.table.marks in
     let lates = bits_of c.self.inside.late.items in
@@ -19,7 +19,7 @@ invariant_of-self c =
       table = rw (dropped.lengths, dropped.marks) (IsTable-kept _ _ _ h.table);
       lates = rw (dropped.lengths, dropped.marks) (AreLate-none _ _ lates false (h.lates.same ∙ sym (length-kept_lengths _ lengths marks h.table.same)) none_are);
       live = rw (dropped.lengths, dropped.marks, either-none_left _ lates h.lates.same, live_blocks-dropped inside.base 0 lengths marks lates h.table.same h.lates.same) h.live;
-      held = rw (dropped.lengths, dropped.marks, held_blocks-kept inside.base 0 lengths marks h.table.same) refl;
+      due = rw (dropped.lengths, dropped.marks, held_blocks-kept inside.base 0 lengths marks h.table.same) refl;
       late = rw (dropped.lengths, late_blocks-dropped inside.base 0 lengths marks lates h.table.same h.lates.same h.lates.apart) h.late;
     }
 
@@ -27,7 +27,7 @@ pub returns : goal.returns
 returns c =
     let inside = c.self.inside in
     let h = c.self.invariant in
-    let dropped = c.drop_held.ensures in
+    let dropped = c.free_due.ensures in
     let lengths = inside.table.lengths in
     let marks = inside.table.marks in
     let lates = bits_of inside.late.items in

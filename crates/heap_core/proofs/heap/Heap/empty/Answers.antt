@@ -1,6 +1,6 @@
 use Rattle.std.proofs.Common.{◌≡◌, ◌*◌, ◌/◌, ◌∙◌, ap, false, replicate, refl, arith}
 use Rattle.std.proofs.lemmas.Grind.{common_steps}
-use Rattle.heap_core.specs.Shadow.{bits_of}
+use Rattle.heap_model.specs.Shadow.{bits_of}
 use Rattle.heap_core.proofs.EmptyLaws.{AreLate-zeros, IsTable-zeros, bits_of-zeros, blocks_of-zeros, heap_state-zeros, zeros}
 use Rattle.heap_core.proofs.LateLaws.{either-none_left}
 use Rattle.std.proofs.lemmas.List.{length-replicate}
@@ -16,7 +16,7 @@ invariant_of-result c =
       table = rw (made.lengths, made.marks) (IsTable-zeros c.args.base n c.args.pages refl c.requires.size c.requires.place);
       lates = rw (made.lengths, made.marks, lates) (AreLate-zeros n);
       live = rw (made.lengths, made.marks, lates, either-none_left n (replicate n false) (length-replicate n false), blocks_of-zeros) refl;
-      held = rw (made.lengths, made.marks, blocks_of-zeros) refl;
+      due = rw (made.lengths, made.marks, blocks_of-zeros) refl;
       late = rw (made.lengths, lates, blocks_of-zeros) refl;
     }
 

@@ -1,54 +1,54 @@
 use Rattle.std.proofs.Common.{◌≡◌, ◌∙◌, ℕ, List, sym, ap, false, true, length, get_or, replicate, refl, zero, arith}
 use Rattle.std.proofs.lemmas.List.{length-replicate}
 use Rattle.std.specs.Vec.{vec_len}
-use Rattle.heap_core.specs.Heap.{HeapState}
-use Rattle.heap_core.specs.Shadow.{bits_of}
-use Rattle.heap_core.specs.Table.{is_live, kept_lengths}
+use Rattle.heap_model.specs.Heap.{HeapState}
+use Rattle.heap_model.specs.Shadow.{bits_of}
+use Rattle.heap_core.specs.Table.{is_unmarked, kept_lengths}
 use Rattle.heap_core.proofs.EmptyLaws.{is_set-zeros}
 use Rattle.heap_core.proofs.HeapLaws.{heap_state-ended}
 use Rattle.heap_core.proofs.KeptLaws.{IsTable-kept, length-kept_lengths}
-use Rattle.heap_core.proofs.LateLaws.{AreLate-none, bits_of-none, either-none_right, late_blocks-dropped, late_stays, live_blocks-dropped, marks_of_bits, no_held}
-use Rattle.heap_core.proofs.ShadowLaws.{length-bits_of}
+use Rattle.heap_core.proofs.LateLaws.{AreLate-none, bits_of-none, either-none_right, late_blocks-dropped, late_stays, live_blocks-dropped, marks_of_bits, no_due}
+use Rattle.heap_model.specs.ShadowLaws.{length-bits_of}
 use Rattle.heap_core.proofs.SoundLaws.{IsTable-marks}
 use Rattle.heap_core.proofs.ExtentLaws.{LiesWithin-table}
 use Rattle.tag_memory.specs.Tags.{is_set_for}
 use Rattle.heap_core.proofs.heap.Heap.end_epoch.Goals as goal
 
-pub hold_starts-requires-clause-bits : goal.hold_starts-requires-clause-bits
-hold_starts-requires-clause-bits c =
+pub make_starts_due-requires-clause-bits : goal.make_starts_due-requires-clause-bits
+make_starts_due-requires-clause-bits c =
     let inside = c.self.inside in
     let h = c.self.invariant in
-    let dropped = c.drop_held.ensures in
+    let dropped = c.free_due.ensures in
     let lengths = inside.table.lengths in
     let marks = inside.table.marks in
     let lates = bits_of inside.late.items in
-    omega (arith, ap length c.deref.ensures.value, ap length dropped.lengths, length-kept_lengths is_live lengths marks h.table.same, h.lates.same, length-bits_of inside.late.items)
+    omega (arith, ap length c.deref.ensures.value, ap length dropped.lengths, length-kept_lengths is_unmarked lengths marks h.table.same, h.lates.same, length-bits_of inside.late.items)
 
-pub hold_starts-requires-clause-limit : goal.hold_starts-requires-clause-limit
-hold_starts-requires-clause-limit c =
+pub make_starts_due-requires-clause-limit : goal.make_starts_due-requires-clause-limit
+make_starts_due-requires-clause-limit c =
     let inside = c.self.inside in
     let h = c.self.invariant in
-    let dropped = c.drop_held.ensures in
+    let dropped = c.free_due.ensures in
     let lengths = inside.table.lengths in
     let marks = inside.table.marks in
     let lates = bits_of inside.late.items in
-    omega (arith, ap length dropped.lengths, length-kept_lengths is_live lengths marks h.table.same, h.table.count, (LiesWithin-table _ _ _ h.table).limit)
+    omega (arith, ap length dropped.lengths, length-kept_lengths is_unmarked lengths marks h.table.same, h.table.count, (LiesWithin-table _ _ _ h.table).limit)
 
-pub hold_starts-requires-clause-same : goal.hold_starts-requires-clause-same
-hold_starts-requires-clause-same c =
+pub make_starts_due-requires-clause-same : goal.make_starts_due-requires-clause-same
+make_starts_due-requires-clause-same c =
     let inside = c.self.inside in
     let h = c.self.invariant in
-    let dropped = c.drop_held.ensures in
+    let dropped = c.free_due.ensures in
     let lengths = inside.table.lengths in
     let marks = inside.table.marks in
     let lates = bits_of inside.late.items in
-    ap length dropped.marks ∙ (length-replicate (length lengths) false ∙ sym (ap length dropped.lengths ∙ length-kept_lengths is_live lengths marks h.table.same))
+    ap length dropped.marks ∙ (length-replicate (length lengths) false ∙ sym (ap length dropped.lengths ∙ length-kept_lengths is_unmarked lengths marks h.table.same))
 
-pub hold_starts-requires-clause-blocks : goal.hold_starts-requires-clause-blocks
-hold_starts-requires-clause-blocks c =
+pub make_starts_due-requires-clause-blocks : goal.make_starts_due-requires-clause-blocks
+make_starts_due-requires-clause-blocks c =
     let inside = c.self.inside in
     let h = c.self.invariant in
-    let dropped = c.drop_held.ensures in
+    let dropped = c.free_due.ensures in
     let lengths = inside.table.lengths in
     let marks = inside.table.marks in
     let lates = bits_of inside.late.items in
@@ -56,32 +56,32 @@ hold_starts-requires-clause-blocks c =
     let row : is_set_for c.self.inside.late.items k ≡ true = ap (λ (xs : List ℕ). is_set_for xs k) (sym c.deref.ensures.value) ∙ one in
     rw dropped.lengths (late_stays lengths marks inside.late.items inside.is_open h.table.same h.lates k row)
 
-pub hold_starts-requires-clause-end : goal.hold_starts-requires-clause-end
-hold_starts-requires-clause-end c = rw (c.drop_held.ensures.lengths) (IsTable-kept _ _ _ c.self.invariant.table).inside
+pub make_starts_due-requires-clause-end : goal.make_starts_due-requires-clause-end
+make_starts_due-requires-clause-end c = rw (c.free_due.ensures.lengths) (IsTable-kept _ _ _ c.self.invariant.table).inside
 
-pub hold_starts-requires-clause-apart : goal.hold_starts-requires-clause-apart
-hold_starts-requires-clause-apart c = rw (c.drop_held.ensures.lengths) (IsTable-kept _ _ _ c.self.invariant.table).apart
+pub make_starts_due-requires-clause-apart : goal.make_starts_due-requires-clause-apart
+make_starts_due-requires-clause-apart c = rw (c.free_due.ensures.lengths) (IsTable-kept _ _ _ c.self.invariant.table).apart
 
 pub invariant_of-self : goal.invariant_of-self
 invariant_of-self c =
     let inside = c.self.inside in
     let h = c.self.invariant in
-    let dropped = c.drop_held.ensures in
+    let dropped = c.free_due.ensures in
     let lengths = inside.table.lengths in
     let marks = inside.table.marks in
     let lates = bits_of inside.late.items in
-    let kept = kept_lengths is_live lengths marks in
-    let starts = c.hold_starts.ensures in
-    let long : length (kept_lengths is_live c.self.inside.table.lengths c.self.inside.table.marks) ≡ length c.self.inside.table.lengths = length-kept_lengths is_live lengths marks h.table.same in
-    let lengths_are : c.hold_starts.new.self.lengths ≡ kept_lengths is_live c.self.inside.table.lengths c.self.inside.table.marks = starts.lengths ∙ dropped.lengths in
-    let marks_are : c.hold_starts.new.self.marks ≡ bits_of c.self.inside.late.items =
-    marks_of_bits c.hold_starts.new.self.marks inside.late.items
+    let kept = kept_lengths is_unmarked lengths marks in
+    let starts = c.make_starts_due.ensures in
+    let long : length (kept_lengths is_unmarked c.self.inside.table.lengths c.self.inside.table.marks) ≡ length c.self.inside.table.lengths = length-kept_lengths is_unmarked lengths marks h.table.same in
+    let lengths_are : c.make_starts_due.new.self.lengths ≡ kept_lengths is_unmarked c.self.inside.table.lengths c.self.inside.table.marks = starts.lengths ∙ dropped.lengths in
+    let marks_are : c.make_starts_due.new.self.marks ≡ bits_of c.self.inside.late.items =
+    marks_of_bits c.make_starts_due.new.self.marks inside.late.items
     (omega (arith, starts.count, ap length dropped.marks, length-replicate (length lengths) false, h.lates.same, length-bits_of inside.late.items))
     (λ k. starts.marks k ∙ ap (λ (xs : List ℕ). is_set_for xs k) c.deref.ensures.value) in
     let nones = bits_of c.fill.new.self.items in
     let zeros_are : c.fill.new.self.items ≡ replicate (vec_len c.self.inside.late) 0 = c.fill.ensures.items (λ y e. e) in
     let none : (k : ℕ) → get_or (bits_of c.fill.new.self.items) k false ≡ false = bits_of-none c.fill.new.self.items (λ k. ap (λ (xs : List ℕ). is_set_for xs k) zeros_are ∙ is_set-zeros (vec_len inside.late) k) in
-    let width : length (bits_of c.fill.new.self.items) ≡ length (kept_lengths is_live c.self.inside.table.lengths c.self.inside.table.marks) =
+    let width : length (bits_of c.fill.new.self.items) ≡ length (kept_lengths is_unmarked c.self.inside.table.lengths c.self.inside.table.marks) =
     omega (
       arith,
       length-bits_of c.fill.new.self.items,
@@ -97,24 +97,24 @@ invariant_of-self c =
       table = rw (lengths_are, marks_are) (IsTable-marks inside.base kept _ lates (h.lates.same ∙ sym long) (IsTable-kept inside.base lengths marks h.table));
       lates = rw (lengths_are, marks_are) (AreLate-none kept lates nones false width none);
       live = rw (lengths_are, marks_are, either-none_right lates nones none, live_blocks-dropped inside.base 0 lengths marks lates h.table.same h.lates.same) h.live;
-      held = rw (lengths_are, marks_are, late_blocks-dropped inside.base 0 lengths marks lates h.table.same h.lates.same h.lates.apart) h.late;
-      late = rw (lengths_are, no_held inside.base 0 kept nones none) refl;
+      due = rw (lengths_are, marks_are, late_blocks-dropped inside.base 0 lengths marks lates h.table.same h.lates.same h.lates.apart) h.late;
+      late = rw (lengths_are, no_due inside.base 0 kept nones none) refl;
     }
 
 pub returns : goal.returns
 returns c =
     let inside = c.self.inside in
     let h = c.self.invariant in
-    let dropped = c.drop_held.ensures in
+    let dropped = c.free_due.ensures in
     let lengths = inside.table.lengths in
     let marks = inside.table.marks in
     let lates = bits_of inside.late.items in
-    let kept = kept_lengths is_live lengths marks in
-    let starts = c.hold_starts.ensures in
-    let long : length (kept_lengths is_live c.self.inside.table.lengths c.self.inside.table.marks) ≡ length c.self.inside.table.lengths = length-kept_lengths is_live lengths marks h.table.same in
-    let lengths_are : c.hold_starts.new.self.lengths ≡ kept_lengths is_live c.self.inside.table.lengths c.self.inside.table.marks = starts.lengths ∙ dropped.lengths in
-    let marks_are : c.hold_starts.new.self.marks ≡ bits_of c.self.inside.late.items =
-    marks_of_bits c.hold_starts.new.self.marks inside.late.items
+    let kept = kept_lengths is_unmarked lengths marks in
+    let starts = c.make_starts_due.ensures in
+    let long : length (kept_lengths is_unmarked c.self.inside.table.lengths c.self.inside.table.marks) ≡ length c.self.inside.table.lengths = length-kept_lengths is_unmarked lengths marks h.table.same in
+    let lengths_are : c.make_starts_due.new.self.lengths ≡ kept_lengths is_unmarked c.self.inside.table.lengths c.self.inside.table.marks = starts.lengths ∙ dropped.lengths in
+    let marks_are : c.make_starts_due.new.self.marks ≡ bits_of c.self.inside.late.items =
+    marks_of_bits c.make_starts_due.new.self.marks inside.late.items
     (omega (arith, starts.count, ap length dropped.marks, length-replicate (length lengths) false, h.lates.same, length-bits_of inside.late.items))
     (λ k. starts.marks k ∙ ap (λ (xs : List ℕ). is_set_for xs k) c.deref.ensures.value) in
     let nones = bits_of c.fill.new.self.items in

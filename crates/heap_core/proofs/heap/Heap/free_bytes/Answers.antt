@@ -1,13 +1,13 @@
 use Rattle.std.proofs.Common.{arith}
-use Rattle.heap_core.specs.Shadow.{bits_of}
+use Rattle.heap_model.specs.Shadow.{bits_of}
 use Rattle.heap_core.proofs.HeapLaws.{granules_of_all, held_bytes-state}
 use Rattle.heap_core.proofs.heap.Heap.free_bytes.Goals as goal
 
 pub overflow_sub-result : goal.overflow_sub-result
-overflow_sub-result c = let h = c.self.invariant in omega (arith, granules_of_all _ _ _ _ _ _ _ _ h.table h.lates h.live h.held h.late)
+overflow_sub-result c = let h = c.self.invariant in omega (arith, granules_of_all _ _ _ _ _ _ _ _ h.table h.lates h.live h.due h.late)
 
 pub overflow_sub-result-2 : goal.overflow_sub-result-2
-overflow_sub-result-2 c = let h = c.self.invariant in omega (arith, granules_of_all _ _ _ _ _ _ _ _ h.table h.lates h.live h.held h.late)
+overflow_sub-result-2 c = let h = c.self.invariant in omega (arith, granules_of_all _ _ _ _ _ _ _ _ h.table h.lates h.live h.due h.late)
 
 pub returns : goal.returns
 returns c =
@@ -15,9 +15,9 @@ returns c =
     let inside = c.self.inside in
     rw (← c.self.view_is) (omega (
       arith,
-      granules_of_all _ _ _ _ _ _ _ _ h.table h.lates h.live h.held h.late,
+      granules_of_all _ _ _ _ _ _ _ _ h.table h.lates h.live h.due h.late,
       h.live,
-      h.held,
+      h.due,
       h.late,
       held_bytes-state inside.base inside.table.lengths inside.table.marks (bits_of inside.late.items) inside.is_open h.lates,
     ))

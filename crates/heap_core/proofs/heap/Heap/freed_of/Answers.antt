@@ -1,21 +1,21 @@
 use Rattle.std.proofs.Common.{◌≡◌, ◌∙◌, ◌<◌, ◌*◌, sym, ap, false, length, get_or, arith}
-use Rattle.heap_core.specs.Shadow.{bits_of}
+use Rattle.heap_model.specs.Shadow.{bits_of}
 use Rattle.heap_core.proofs.LateLaws.{read_late}
 use Rattle.heap_core.proofs.QuarantineLaws.{freed_of-due, freed_of-late, freed_of-live, freed_of-none, live_mark}
-use Rattle.heap_core.proofs.ShadowLaws.{length-bits_of}
+use Rattle.heap_model.specs.ShadowLaws.{length-bits_of}
 use Rattle.heap_core.proofs.heap.Heap.freed_of.Goals as goal
 
 pub returns-in_default : goal.returns-in_default
 returns-in_default c =
     rw (← c.self.view_is) (sym (freed_of-none _ _ _ _ _ c.args.base c.args.top (c.block_at.ensures.none c.in_default.is)))
 
-pub is_held_at-requires : goal.is_held_at-requires
-is_held_at-requires c = (c.block_at.ensures.some c.in-Some.first c.in-Some.is).within
+pub is_due_at-requires : goal.is_due_at-requires
+is_due_at-requires c = (c.block_at.ensures.some c.in-Some.first c.in-Some.is).within
 
-pub returns-then-is_held_at : goal.returns-then-is_held_at
-returns-then-is_held_at c =
+pub returns-then-is_due_at : goal.returns-then-is_due_at
+returns-then-is_due_at c =
     let at = c.block_at.ensures.some c.in-Some.first c.in-Some.is in
-    let held = sym c.is_held_at.ensures ∙ c.if-is_held_at.true in
+    let held = sym c.is_due_at.ensures ∙ c.if-is_due_at.true in
     rw (← c.self.view_is) (sym (freed_of-due _ _ _ _ _ c.args.base c.args.top c.in-Some.first c.self.invariant.table.same c.self.invariant.lates at held))
 
 pub row_bit-requires : goal.row_bit-requires
@@ -40,7 +40,7 @@ returns c =
     let marks = inside.table.marks in
     let lates = bits_of inside.late.items in
     let at = c.block_at.ensures.some c.in-Some.first c.in-Some.is in
-    let not_due : get_or c.self.inside.table.marks c.in-Some.first false ≡ false = sym c.is_held_at.ensures ∙ c.if-is_held_at.false in
+    let not_due : get_or c.self.inside.table.marks c.in-Some.first false ≡ false = sym c.is_due_at.ensures ∙ c.if-is_due_at.false in
     let within : c.in-Some.first < 64 * length c.self.inside.late.items = omega (arith, at.within, h.lates.same, length-bits_of inside.late.items) in
     let not_late : get_or (bits_of c.self.inside.late.items) c.in-Some.first false ≡ false = read_late inside.late.items c.deref.result.now c.in-Some.first c.row_bit.result within c.deref.ensures.value c.row_bit.ensures ∙ c.if-row_bit.false in
     let live = live_mark lengths marks lates inside.is_open c.in-Some.first h.table.same h.lates not_due not_late in

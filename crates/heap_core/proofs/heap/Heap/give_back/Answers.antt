@@ -1,10 +1,10 @@
 use Rattle.std.proofs.Common.{◌≡◌, ◌∙◌, sym, true, arith}
-use Rattle.heap_core.specs.Heap.{IsSound}
-use Rattle.heap_core.specs.Laws.{without_due-open}
+use Rattle.heap_model.specs.Heap.{IsSound}
+use Rattle.heap_model.specs.Laws.{without_due-open}
 use Rattle.heap_core.proofs.LateLaws.{is_open-late}
 use Rattle.heap_core.proofs.ShadowLaws.{due-heap_state}
 use Rattle.heap_core.proofs.SoundLaws.{IsSound-from_table}
-use Rattle.heap_core.proofs.StateLaws.{IsSound-due, IsSound-ended}
+use Rattle.heap_model.specs.StateLaws.{IsSound-due, IsSound-ended}
 use Rattle.heap_core.proofs.heap.Heap.give_back.Goals as goal
 
 pub drop_due-requires : goal.drop_due-requires
@@ -15,7 +15,7 @@ end_epoch-requires c = rw (← c.self.view_is) (is_open-late _ _ _ _ _ c.self.in
 
 pub returns-then-self-eq0-clause-bytes : goal.returns-then-self-eq0-clause-bytes
 returns-then-self-eq0-clause-bytes c =
-    rw (← c.self.view_is, due-heap_state) (omega (arith, c.self.invariant.held, c.from-bytes.ensures))
+    rw (← c.self.view_is, due-heap_state) (omega (arith, c.self.invariant.due, c.from-bytes.ensures))
 
 pub returns-then-self-eq0-clause-sound : goal.returns-then-self-eq0-clause-sound
 returns-then-self-eq0-clause-sound c =
@@ -24,7 +24,7 @@ returns-then-self-eq0-clause-sound c =
 
 pub returns-else-self-eq0-clause-bytes : goal.returns-else-self-eq0-clause-bytes
 returns-else-self-eq0-clause-bytes c =
-    rw (← c.self.view_is, due-heap_state) (omega (arith, c.self.invariant.held, c.from-bytes.ensures))
+    rw (← c.self.view_is, due-heap_state) (omega (arith, c.self.invariant.due, c.from-bytes.ensures))
 
 pub returns-else-self-eq0-clause-free : goal.returns-else-self-eq0-clause-free
 returns-else-self-eq0-clause-free c =

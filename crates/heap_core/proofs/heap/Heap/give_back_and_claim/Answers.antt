@@ -1,6 +1,6 @@
 use Rattle.std.proofs.Common.{◌≡◌, ◌∙◌, refl}
-use Rattle.heap_core.specs.Laws.{without_due-closed}
-use Rattle.heap_core.specs.Quarantine.{without_waiting}
+use Rattle.heap_model.specs.Laws.{without_due-closed}
+use Rattle.heap_model.specs.Quarantine.{without_waiting}
 use Rattle.heap_core.proofs.ClaimLaws.{IsClaim-again, IsClaim-refused, IsClaimable-dropped}
 use Rattle.heap_core.proofs.heap.Heap.give_back_and_claim.Goals as goal
 
@@ -13,5 +13,5 @@ returns-clause-claim c =
     let s = c.args.self.now in
     let dropped : c.drop_due.new.self ≡ without_waiting c.args.self.now = c.drop_due.ensures ∙ without_due-closed s c.requires in
     let claim = rw dropped at c.claim.ensures.claim in
-    let may = IsClaimable-dropped s c.args.base c.args.top c.in-Ok.place.0 c.in-Ok.place.1 c.requires c.whole.ensures c.in-Ok.ensures.fit c.in_default.ensures in
+    let may = IsClaimable-dropped s c.args.base c.args.top c.in-Ok.place.0 c.in-Ok.place.1 c.requires c.invariant.ensures c.in-Ok.ensures.fit c.in_default.ensures in
     IsClaim-again s (without_waiting s) c.args.base c.args.top c.claim.result c.claim.new.self may claim

@@ -1,7 +1,7 @@
 use Rattle.std.proofs.Common.{◌≡◌, ◌↔◌, ◌∙◌, ℕ, None, Ok, ap, rules}
-use Rattle.heap_core.specs.Place.{IsFree}
-use Rattle.heap_core.specs.Laws.{without_due-closed}
-use Rattle.heap_core.specs.Quarantine.{without_waiting}
+use Rattle.heap_model.specs.Place.{IsFree}
+use Rattle.heap_model.specs.Laws.{without_due-closed}
+use Rattle.heap_model.specs.Quarantine.{without_waiting}
 use Rattle.heap_core.proofs.heap.Heap.give_back_and_reserve.Goals as goal
 
 pub returns-clause-none : goal.returns-clause-none

@@ -1,5 +1,5 @@
 use Rattle.std.proofs.Common.{◌≡◌, ◌+◌, ◌*◌, arith}
-use Rattle.heap_core.proofs.ClaimLaws.{some_held}
+use Rattle.heap_core.proofs.ClaimLaws.{some_due}
 use Rattle.heap_core.proofs.heap.Heap.in_the_way.Goals as goal
 
 pub unwrap-requires : goal.unwrap-requires
@@ -9,7 +9,7 @@ unwrap-requires c =
     let end : s.base + 16 * (c.args.first + c.args.granules) ≡ c.args.top = omega (arith, c.requires.fit.at, c.requires.fit.length, c.requires.fit.could.order) in
     let live = rw (at, end) at c.in_default.ensures in
     let held = rw (at, end) at c.held_over.ensures in
-    some_held s c.args.base c.args.top c.held_over.result c.requires.fit.could c.requires.taken live held
+    some_due s c.args.base c.args.top c.held_over.result c.requires.fit.could c.requires.taken live held
 
 pub returns : goal.returns
 returns c =

@@ -1,7 +1,7 @@
 use Rattle.std.proofs.Common.{◌∙◌, ◌<◌, ◌≤◌, ◌+◌, ◌-◌, ◌/◌, inl, inr, length, sym, arith}
-use Rattle.heap_core.specs.Heap.{IsSound}
-use Rattle.heap_core.specs.Table.{is_held}
-use Rattle.heap_core.specs.Laws.{lies_in-outside}
+use Rattle.heap_model.specs.Heap.{IsSound}
+use Rattle.heap_core.specs.Table.{is_marked}
+use Rattle.heap_model.specs.Laws.{lies_in-outside}
 use Rattle.heap_core.proofs.KeptLaws.{lies_in-blocks_of}
 use Rattle.heap_core.proofs.ShadowLaws.{due-heap_state}
 use Rattle.heap_core.proofs.SoundLaws.{IsSound-from_table}
@@ -27,5 +27,5 @@ returns c =
     let table = c.self.invariant.table in
     let from : h.base ≤ c.args.address = omega (arith, c.if-address-self.false) in
     let inside : (c.args.address - h.base) / 16 < length h.table.lengths = omega (arith, c.if-granule-granules.false, c.granules.ensures) in
-    rw (← c.self.view_is, due-heap_state) (c.is_in_held.ensures
-    ∙ sym (lies_in-blocks_of is_held h.base c.args.address ((c.args.address - h.base) / 16) h.table.lengths h.table.marks table.same (omega (arith, from)) (omega (arith, from)) inside))
+    rw (← c.self.view_is, due-heap_state) (c.is_in_due_block.ensures
+    ∙ sym (lies_in-blocks_of is_marked h.base c.args.address ((c.args.address - h.base) / 16) h.table.lengths h.table.marks table.same (omega (arith, from)) (omega (arith, from)) inside))

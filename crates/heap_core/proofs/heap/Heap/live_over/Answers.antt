@@ -1,9 +1,9 @@
 use Rattle.std.proofs.Common.{◌≤◌, ◌+◌, ◌*◌, length, refl, ap, arith}
 use Rattle.heap_core.specs.Consistent.{either_mark}
-use Rattle.heap_core.specs.Shadow.{bits_of}
-use Rattle.heap_core.specs.Table.{is_live}
+use Rattle.heap_model.specs.Shadow.{bits_of}
+use Rattle.heap_core.specs.Table.{is_unmarked}
 use Rattle.heap_core.proofs.OverLaws.{live_first, none_over}
-use Rattle.heap_core.proofs.ShadowLaws.{length-bits_of}
+use Rattle.heap_model.specs.ShadowLaws.{length-bits_of}
 use Rattle.heap_core.proofs.heap.Heap.live_over.Goals as goal
 
 pub first_past-requires-clause-bits : goal.first_past-requires-clause-bits
@@ -15,7 +15,7 @@ pub returns-in_err-start : goal.returns-in_err-start
 returns-in_err-start c =
     let none = rw c.deref.ensures.value at c.in_err-start.ensures in
     let inside = c.self.inside in
-    rw (← c.self.view_is, c.from_residual.ensures) (none_over is_live inside.base inside.table.lengths (either_mark inside.table.marks (bits_of inside.late.items)) c.args.first (c.args.first + c.args.granules)
+    rw (← c.self.view_is, c.from_residual.ensures) (none_over is_unmarked inside.base inside.table.lengths (either_mark inside.table.marks (bits_of inside.late.items)) c.args.first (c.args.first + c.args.granules)
     (inside.base + 16 * c.args.first) (inside.base + 16 * (c.args.first + c.args.granules)) refl refl none (omega (arith, c.requires.some)))
 
 pub returns : goal.returns

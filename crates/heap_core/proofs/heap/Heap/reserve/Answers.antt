@@ -1,17 +1,18 @@
 use Rattle.std.proofs.Common.{◌≡◌, ◌≤◌, ◌+◌, ◌*◌, ◌%◌, ◌^◌, refl, subst, arith}
 use Rattle.cap_codec.specs.Rounding.{IsExact, length_for, unit_for}
-use Rattle.heap_core.specs.Blocks.{Span}
+use Rattle.heap_model.specs.Blocks.{Span}
 use Rattle.heap_core.specs.Consistent.{either_mark}
-use Rattle.heap_core.specs.Heap.{IsSound}
-use Rattle.heap_core.specs.Shadow.{bits_of}
-use Rattle.heap_core.specs.Table.{blocks_of, is_live}
+use Rattle.heap_model.specs.Heap.{IsSound}
+use Rattle.heap_model.specs.Shadow.{bits_of}
+use Rattle.heap_core.specs.Table.{blocks_of, is_unmarked}
 use Rattle.heap_core.proofs.HeapLaws.{granules_of_all, heap_state-set, late_blocks-set, live_blocks-put}
 use Rattle.heap_core.proofs.LateLaws.{AreLate-put}
 use Rattle.heap_core.proofs.PlaceLaws.{IsPlace-from_run, IsGap-from_free, multiple-from_free, too_long}
 use Rattle.heap_core.proofs.RunLaws.{IsTable-set, held_blocks-set}
-use Rattle.heap_core.proofs.SizeLaws.{HasShape-shape}
+use Rattle.heap_model.specs.SizeLaws.{HasShape-shape}
 use Rattle.heap_core.proofs.SoundLaws.{IsSound-from_table}
-use Rattle.heap_core.proofs.ExtentLaws.{LiesWithin-span, LiesWithin-table}
+use Rattle.heap_core.proofs.ExtentLaws.{LiesWithin-table}
+use Rattle.heap_model.specs.ExtentLaws.{LiesWithin-span}
 use Rattle.heap_core.proofs.SumLaws.{bytes_in-blocks_with}
 use Rattle.heap_core.proofs.heap.Heap.reserve.Goals as goal
 
@@ -41,7 +42,7 @@ pub overflow_add-self : goal.overflow_add-self
 overflow_add-self c =
     let h = c.self.invariant in
     let run = c.in-Some.ensures.first.run in
-    omega (arith, granules_of_all _ _ _ _ _ _ _ _ h.table h.lates h.live h.held h.late, run.end, h.table.count, (LiesWithin-table _ _ _ h.table).limit)
+    omega (arith, granules_of_all _ _ _ _ _ _ _ _ h.table h.lates h.live h.due h.late, run.end, h.table.count, (LiesWithin-table _ _ _ h.table).limit)
 
 pub invariant_of-self-2 : goal.invariant_of-self-2
 invariant_of-self-2 c =
@@ -50,12 +51,12 @@ invariant_of-self-2 c =
     let n = c.shape_for-shape.result.granules in
     let run = put.first.run in
     let block : Span = (c.self.inside.base + 16 * c.in-Some.start, 16 * n) in
-    let live = blocks_of is_live c.self.inside.base 0 c.self.inside.table.lengths (either_mark c.self.inside.table.marks (bits_of c.self.inside.late.items)) in
+    let live = blocks_of is_unmarked c.self.inside.base 0 c.self.inside.table.lengths (either_mark c.self.inside.table.marks (bits_of c.self.inside.late.items)) in
     record {
       table = rw (put.lengths, put.marks) (IsTable-set _ _ _ c.in-Some.start n h.table run);
       lates = rw (put.lengths, put.marks) (AreLate-put _ _ _ _ c.in-Some.start n h.lates run);
       live = rw (put.lengths, put.marks, live_blocks-put _ _ _ _ _ c.in-Some.start n h.table.same h.lates run) (omega (arith, bytes_in-blocks_with block live, h.live));
-      held = rw (put.lengths, put.marks, held_blocks-set _ _ _ c.in-Some.start n run) h.held;
+      due = rw (put.lengths, put.marks, held_blocks-set _ _ _ c.in-Some.start n run) h.due;
       late = rw (put.lengths, late_blocks-set _ _ _ _ _ c.in-Some.start n h.lates run) h.late;
     }
 

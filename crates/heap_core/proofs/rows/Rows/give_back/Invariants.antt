@@ -7,5 +7,5 @@ abbrev pub invariant-loop-w : goal.invariant-loop-w
 invariant-loop-w l = record {
   rows : AreRows l.self;
   given : AreGiven l.initial.self l.self;
-  gone : (page : ℕ) → page / 64 < l.w → is_set_for l.self.held_pages.items page ≡ false;
+  gone : (page : ℕ) → page / 64 < l.w → is_set_for l.self.due_pages.items page ≡ false;
 }

@@ -7,10 +7,10 @@ use Rattle.heap_core.proofs.rows.Rows.give_lowest.Goals as goal
 
 pub give_page-requires-clause-inside : goal.give_page-requires-clause-inside
 give_page-requires-clause-inside c =
-    let marks = c.args.self.now.held_pages.items in
+    let marks = c.args.self.now.due_pages.items in
     let j = c.lowest_bit.result in
     let read = get_or_read_under marks c.args.w (length marks) _ 0 c.index-word.ensures c.requires.inside refl in
-    let marked : is_set_for c.args.self.now.held_pages.items (64 * c.args.w + j) ≡ true =
+    let marked : is_set_for c.args.self.now.due_pages.items (64 * c.args.w + j) ≡ true =
     is_set_for-at marks c.args.w j c.lowest_bit.ensures.within ∙ (ap (λ x. is_set x j) (sym read) ∙ c.lowest_bit.ensures.one) in
     omega (arith, c.requires.rows.inside _ marked, c.requires.rows.whole)
 

@@ -9,4 +9,4 @@ invariant-loop-self l = record {
 }
 
 abbrev pub decreases-loop-self : goal.decreases-loop-self
-decreases-loop-self l = get_or l.self.held_pages.items l.w 0
+decreases-loop-self l = get_or l.self.due_pages.items l.w 0

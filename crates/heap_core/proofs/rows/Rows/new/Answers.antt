@@ -8,11 +8,11 @@ use Rattle.heap_core.proofs.rows.Rows.new.Goals as goal
 pub returns-clause-rows : goal.returns-clause-rows
 returns-clause-rows c =
     let starts : c.in_ok-starts.starts.items ≡ zeros (c.args.granules / 64) = grind (arith, common_steps) in
-    let held : c.in_ok-held.held.items ≡ zeros (c.args.granules / 64) = grind (arith, common_steps) in
-    let held_pages : c.in_ok-held_pages.held_pages.items ≡ zeros c.div_ceil.result = grind (arith, common_steps) in
-    AreRows-new _ c.args.granules c.requires.limit c.requires.whole (omega (arith, c.in_ok-free.ensures.count, c.give.ensures.count))
+    let due : c.in_ok-due.due.items ≡ zeros (c.args.granules / 64) = grind (arith, common_steps) in
+    let due_pages : c.in_ok-due_pages.due_pages.items ≡ zeros c.div_ceil.result = grind (arith, common_steps) in
+    AreRows-new _ c.args.granules c.requires.limit c.requires.whole (omega (arith, c.in_ok-free.ensures.count, c.vacate.ensures.count))
     (ap length starts ∙ length-replicate (c.args.granules / 64) 0)
-    (ap length held ∙ length-replicate (c.args.granules / 64) 0)
-    (ap length held_pages ∙ (length-replicate c.div_ceil.result 0 ∙ omega (arith, c.div_ceil.ensures)))
-    (λ k. no_bits _ _ k held)
-    (λ page. no_bits _ _ page held_pages)
+    (ap length due ∙ length-replicate (c.args.granules / 64) 0)
+    (ap length due_pages ∙ (length-replicate c.div_ceil.result 0 ∙ omega (arith, c.div_ceil.ensures)))
+    (λ k. no_bits _ _ k due)
+    (λ page. no_bits _ _ page due_pages)

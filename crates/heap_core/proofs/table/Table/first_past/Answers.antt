@@ -1,7 +1,7 @@
 use Rattle.std.proofs.Common.{◌≡◌, inl, inr, subst, arith}
 use Rattle.std.proofs.lemmas.Bool.{cases_lt}
 use Rattle.heap_core.specs.Consistent.{either_mark}
-use Rattle.heap_core.specs.Shadow.{bits_of}
+use Rattle.heap_model.specs.Shadow.{bits_of}
 use Rattle.heap_core.specs.Table.{ReachesPast, has_mark}
 use Rattle.heap_core.proofs.table.Table.first_past.Goals as goal
 
@@ -18,7 +18,7 @@ loop-start-preserved c = λ k lt reaches.
       | inr here ↦
           let same : k ≡ c.loop-start.start = omega arith in
           c.is_past.ensures.no c.if-is_past.false
-          (subst (λ i. ReachesPast (has_mark c.args.is_held) c.args.self.now.lengths (either_mark c.args.self.now.marks (bits_of c.args.late.now)) c.args.first i) same reaches)
+          (subst (λ i. ReachesPast (has_mark c.args.wants_held) c.args.self.now.lengths (either_mark c.args.self.now.marks (bits_of c.args.late.now)) c.args.first i) same reaches)
     ]
 
 pub returns : goal.returns

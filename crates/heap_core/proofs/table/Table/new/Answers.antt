@@ -9,7 +9,7 @@ pub invariant_of-result : goal.invariant_of-result
 invariant_of-result c =
     let made = c.in_ok-rows.ensures in
     let lengths : c.in_ok-lengths.lengths.items ≡ zeros c.args.granules = grind (arith, common_steps) in
-    AreStored-new _ c.args.granules lengths made.rows made.count made.free made.starts made.held
+    AreStored-new _ c.args.granules lengths made.rows made.count made.free made.starts made.due
 
 pub returns-clause-lengths : goal.returns-clause-lengths
 returns-clause-lengths c =

@@ -21,16 +21,16 @@ pub invariant_of-self : goal.invariant_of-self
 invariant_of-self c =
     let put = c.put.ensures in
     let gap = rw (← c.self.view_is) at c.requires.gap in
-    AreStored-put c.self.inside c.self.invariant c.put.new.self c.args.start c.args.granules gap put.held put.starts _ refl refl put.rows put.count put.free
+    AreStored-put c.self.inside c.self.invariant c.put.new.self c.args.start c.args.granules gap put.due put.starts _ refl refl put.rows put.count put.free
 
 pub returns-clause-lengths : goal.returns-clause-lengths
 returns-clause-lengths c =
     let put = c.put.ensures in
     let gap = rw (← c.self.view_is) at c.requires.gap in
-    rw (← c.self.view_is) (lengths_put c.self.inside c.self.invariant c.put.new.self c.args.start c.args.granules gap put.held put.starts)
+    rw (← c.self.view_is) (lengths_put c.self.inside c.self.invariant c.put.new.self c.args.start c.args.granules gap put.due put.starts)
 
 pub returns-clause-marks : goal.returns-clause-marks
 returns-clause-marks c =
     let put = c.put.ensures in
     let gap = rw (← c.self.view_is) at c.requires.gap in
-    rw (← c.self.view_is) (marks_put c.self.inside c.self.invariant c.put.new.self c.args.start c.args.granules gap put.held put.starts)
+    rw (← c.self.view_is) (marks_put c.self.inside c.self.invariant c.put.new.self c.args.start c.args.granules gap put.due put.starts)

@@ -1,24 +1,24 @@
 use Rattle.std.proofs.Common.{◌≡◌, ◌*◌, length, subst, arith}
 use Rattle.std.proofs.lemmas.Result.{IfOk-weaker}
 use Rattle.std.specs.Prelude.{IfOk}
-use Rattle.heap_machine.specs.Follow.{Follows}
-use Rattle.heap_machine.specs.Parts.{MachineState, state_of}
-use Rattle.heap_machine.specs.Safety.{IsUnused, LeavesInUse}
-use Rattle.heap_machine.specs.Step.{Step}
-use Rattle.heap_machine.proofs.KeptSizes.{AreParts-after}
+use Rattle.machine_steps.specs.Follow.{Follows}
+use Rattle.heap_machine.specs.Storage.{MachineState, state_of}
+use Rattle.machine_steps.specs.Safety.{IsUnused, LeavesInUse}
+use Rattle.machine_steps.specs.Step.{Step}
+use Rattle.heap_machine.proofs.KeptSizes.{IsStorage-after}
 use Rattle.heap_machine.proofs.machine.Machine.done.Goals as goal
 
 pub invariant_of-self : goal.invariant_of-self
 invariant_of-self g c =
-    let memory = c.whole.ensures in
-    let pages : length c.self.inside.parts.memory.cells ≡ 256 * length c.self.inside.parts.memory.dirty = omega (arith, memory.count, memory.dirty_marks) in
-    let old = state_of c.self.inside.parts in
+    let memory = c.invariant.ensures in
+    let pages : length c.self.inside.storage.memory.granules ≡ 256 * length c.self.inside.storage.memory.dirty = omega (arith, memory.count, memory.dirty_marks) in
+    let old = state_of c.self.inside.storage in
     let new = state_of c.serve.new.self in
     let command = c.args.command in
     let follows : IfOk c.serve.result (λ r. Follows old command r new) =
     IfOk-weaker c.serve.result (λ r. Step old command r new) (λ r. Follows old command r new)
-    (λ r step. c.answers.ensures.steps old command r new c.self.invariant.sound.safe step) c.serve.ensures.step in
-    AreParts-after c.answers.ensures.safe c.answers.ensures.dirtied c.self.inside.parts c.serve.new.self c.args.command c.serve.result c.self.invariant pages
+    (λ r step. c.any_placement_law.ensures.steps old command r new c.self.invariant.sound.safe step) c.serve.ensures.step in
+    IsStorage-after c.any_placement_law.ensures.safe c.any_placement_law.ensures.dirtied c.self.inside.storage c.serve.new.self c.args.command c.serve.result c.self.invariant pages
     c.serve.ensures.fits follows c.serve.ensures.dirty c.serve.ensures.err c.serve.ensures.base
 
 pub returns-clause-safe : goal.returns-clause-safe
@@ -29,18 +29,18 @@ returns-clause-dirtied g c = (invariant_of-self g c).dirtied
 
 pub returns-clause-unused : goal.returns-clause-unused
 returns-clause-unused g c =
-    let old = state_of c.self.inside.parts in
+    let old = state_of c.self.inside.storage in
     let new = state_of c.serve.new.self in
     let command = c.args.command in
     let safe = c.self.invariant.sound.safe in
     IfOk-weaker c.serve.result (λ r. Step old command r new) (λ r. IsUnused c.args.self.now.state command r)
-    (λ r step. subst (λ (m : MachineState). IsUnused m.state command r) c.self.view_is (c.answers.ensures.unused old command r new safe (c.answers.ensures.steps old command r new safe step))) c.serve.ensures.step
+    (λ r step. subst (λ (m : MachineState). IsUnused m.state command r) c.self.view_is (c.any_placement_law.ensures.unused old command r new safe (c.any_placement_law.ensures.steps old command r new safe step))) c.serve.ensures.step
 
 pub returns-clause-revoked : goal.returns-clause-revoked
 returns-clause-revoked g c =
-    let old = state_of c.self.inside.parts in
+    let old = state_of c.self.inside.storage in
     let new = state_of c.serve.new.self in
     let command = c.args.command in
     let safe = c.self.invariant.sound.safe in
     IfOk-weaker c.serve.result (λ r. Step old command r new) (λ r. LeavesInUse command r new)
-    (λ r step. c.answers.ensures.revoked old command r new safe c.serve.ensures.fits (c.answers.ensures.steps old command r new safe step)) c.serve.ensures.step
+    (λ r step. c.any_placement_law.ensures.revoked old command r new safe c.serve.ensures.fits (c.any_placement_law.ensures.steps old command r new safe step)) c.serve.ensures.step

@@ -15,7 +15,7 @@ returns-then-is_painted c =
     let P : ℕ → Type 0 = λ k. k / 256 ≡ page → StandsDirty heap memory k in (
       there,
       not_StandsDirty-painted heap memory i page c.cell-bits.result c.cell-bits.ensures found.2 (sym c.is_painted.ensures ∙ c.if-is_painted.true) there (sym c.dirty.ensures ∙ c.if-dirty.false),
-      holds-before P (is_tagged memory.cells) (λ k none _. StandsDirty-untagged heap memory k none) c.loop-i.next i c.loop-i.invariant.done found.3,
+      holds-before P (is_tagged memory.granules) (λ k none _. StandsDirty-untagged heap memory k none) c.loop-i.next i c.loop-i.invariant.done found.3,
     )
 
 pub loop-i-preserved : goal.loop-i-preserved
@@ -29,5 +29,5 @@ loop-i-preserved c =
     let here = StandsDirty-elsewhere heap memory i c.cell-bits.result c.cell-bits.ensures (sym c.is_painted.ensures ∙ c.if-is_painted.false) in
     record {
       start = omega (arith, found.0, c.loop-i.invariant.start);
-      done = holds-through P (is_tagged memory.cells) (λ k none _. StandsDirty-untagged heap memory k none) c.loop-i.next i c.loop-i.invariant.done found.3 (λ _. here) _ (omega arith);
+      done = holds-through P (is_tagged memory.granules) (λ k none _. StandsDirty-untagged heap memory k none) c.loop-i.next i c.loop-i.invariant.done found.3 (λ _. here) _ (omega arith);
     }

@@ -11,13 +11,13 @@ returns-in-Some c =
       omega (arith, found.0),
       omega (arith, found.1, c.requires.words, c.if-end-from.false),
       sym (c.tag_word.ensures.bits c.in-Some.j found.1) ∙ found.2,
-      λ k from before. untagged-in_word (is_tagged c.args.memory.now.cells) c.tag_word.result w _ c.in-Some.j
+      λ k from before. untagged-in_word (is_tagged c.args.memory.now.granules) c.tag_word.result w _ c.in-Some.j
           c.tag_word.ensures.bits (omega (arith, found.1)) found.3 k (omega (arith, from)) before,
     )
 
 pub loop-w-init : goal.loop-w-init
 loop-w-init c = λ k from before.
-    untagged-in_word (is_tagged c.args.memory.now.cells) c.tag_word.result (c.args.from / 64) _ 64
+    untagged-in_word (is_tagged c.args.memory.now.granules) c.tag_word.result (c.args.from / 64) _ 64
     c.tag_word.ensures.bits (omega arith) (λ j low high. c.in_default.ensures j low) k (omega (arith, from)) (omega (arith, before))
 
 pub returns-in-Some-lowest_from : goal.returns-in-Some-lowest_from
@@ -29,7 +29,7 @@ returns-in-Some-lowest_from c =
       sym (c.tag_word-in-loop-w.ensures.bits c.in-Some-lowest_from.j found.1) ∙ found.2,
       λ k from before. elim (cases_lt k (64 * w)) [
         | inl lt ↦ c.loop-w.invariant k from lt
-        | inr le ↦ untagged-in_word (is_tagged c.args.memory.now.cells) c.tag_word-in-loop-w.result w 0 c.in-Some-lowest_from.j
+        | inr le ↦ untagged-in_word (is_tagged c.args.memory.now.granules) c.tag_word-in-loop-w.result w 0 c.in-Some-lowest_from.j
             c.tag_word-in-loop-w.ensures.bits (omega (arith, found.1)) found.3 k (omega (arith, le)) before
       ],
     )
@@ -37,6 +37,6 @@ returns-in-Some-lowest_from c =
 pub loop-w-preserved : goal.loop-w-preserved
 loop-w-preserved c = λ k from before. elim (cases_lt k (64 * c.loop-w.w)) [
   | inl lt ↦ c.loop-w.invariant k from lt
-  | inr le ↦ untagged-in_word (is_tagged c.args.memory.now.cells) c.tag_word-in-loop-w.result c.loop-w.w 0 64
+  | inr le ↦ untagged-in_word (is_tagged c.args.memory.now.granules) c.tag_word-in-loop-w.result c.loop-w.w 0 64
       c.tag_word-in-loop-w.ensures.bits (omega arith) (λ j low high. c.in_default-lowest_from.ensures j low) k (omega (arith, le)) (omega (arith, before))
 ]

@@ -1,6 +1,6 @@
 use Rattle.std.proofs.Common.{◌<◌, ℕ}
 use Rattle.tag_memory.specs.Cells.{register_at}
-use Rattle.heap_machine.specs.Safety.{IsGuarded}
+use Rattle.machine_steps.specs.Safety.{IsGuarded}
 use Rattle.heap_machine.proofs.machine.making.first_unguarded_register.Given as goal
 
 abbrev pub invariant-loop-r : goal.invariant-loop-r

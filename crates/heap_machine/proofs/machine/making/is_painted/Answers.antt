@@ -1,7 +1,7 @@
 use Rattle.std.proofs.Common.{◌∙◌, List, ap, sym}
 use Rattle.cap_codec.specs.declared.word.Bounds.{Bounds}
-use Rattle.heap_core.specs.Blocks.{Span, lies_in}
-use Rattle.heap_core.specs.Laws.{due-open}
+use Rattle.heap_model.specs.Blocks.{Span, lies_in}
+use Rattle.heap_model.specs.Laws.{due-open}
 use Rattle.heap_machine.proofs.machine.making.is_painted.Goals as goal
 
 pub returns-then-is_open : goal.returns-then-is_open

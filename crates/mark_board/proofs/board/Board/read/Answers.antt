@@ -1,7 +1,7 @@
 use Rattle.std.proofs.Common.{rules, ap, ◌∙◌}
 use Rattle.std.proofs.lemmas.Nat.{or_comm}
 use Rattle.std.proofs.lemmas.Nat.Bits.{bit_at-zero}
-use Rattle.mark_board.specs.Bits.{gains}
+use Rattle.mark_board.specs.Bits.{with_bits}
 use Rattle.mark_board.specs.Laws.{gains-none}
 use Rattle.mark_board.specs.Identity.{board_id, board_id-injective}
 use Rattle.mark_board.proofs.Steps.{marks}
@@ -27,5 +27,5 @@ returns-clause-mine c = ap (λ m. m.0.mine) c.fetch_or.ensures.2.2 ∙ gains-non
 
 pub returns-clause-seen : goal.returns-clause-seen
 returns-clause-seen c = ap (λ m. m.0.seen) c.fetch_or.ensures.2.2
-    ∙ ap (gains c.seat.inside.seat.me.0.seen c.args.word) (or_comm c.fetch_or.result 0)
-    ∙ ap (λ s. gains s.seen c.args.word c.fetch_or.result) c.seat.view_is
+    ∙ ap (with_bits c.seat.inside.seat.me.0.seen c.args.word) (or_comm c.fetch_or.result 0)
+    ∙ ap (λ s. with_bits s.seen c.args.word c.fetch_or.result) c.seat.view_is

@@ -19,10 +19,10 @@ pub returns-clause-near : goal.returns-clause-near
 returns-clause-near c lt =
     let p : Packs c.self.inside c.args.self.now = record { view = c.self.view_is; invariant = c.self.invariant } in
     let is = base_read p c.args.i c.index.result.now c.requires c.index.ensures in
-    (base_granule-near c.args.self.now.base (cell_of (get_or c.args.self.now.cells c.args.i (0, false))).0 (subst (λ (n : ℕ). n < far) is lt)).0
+    (base_granule-near c.args.self.now.base (cell_of (get_or c.args.self.now.granules c.args.i (0, false))).0 (subst (λ (n : ℕ). n < far) is lt)).0
 
 pub returns-clause-place : goal.returns-clause-place
 returns-clause-place c lt =
     let p : Packs c.self.inside c.args.self.now = record { view = c.self.view_is; invariant = c.self.invariant } in
     let is = base_read p c.args.i c.index.result.now c.requires c.index.ensures in
-    (base_granule-near c.args.self.now.base (cell_of (get_or c.args.self.now.cells c.args.i (0, false))).0 (subst (λ (n : ℕ). n < far) is lt)).1 ∙ sym is
+    (base_granule-near c.args.self.now.base (cell_of (get_or c.args.self.now.granules c.args.i (0, false))).0 (subst (λ (n : ℕ). n < far) is lt)).1 ∙ sym is

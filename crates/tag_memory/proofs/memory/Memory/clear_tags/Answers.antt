@@ -33,8 +33,8 @@ invariant_of-self c =
       dirty_marks = ap length l.dirty ∙ (old.dirty_marks ∙ sym l.pages);
     }
 
-pub returns-clause-cells : goal.returns-clause-cells
-returns-clause-cells c =
+pub returns-clause-granules : goal.returns-clause-granules
+returns-clause-granules c =
     let p : Packs c.self.inside c.args.self.now = record { view = c.self.view_is; invariant = c.self.invariant } in
     let taken = c.loop-page.invariant.taken in
     let all : length c.loop-page.self-inside.may_hold.items ≤ c.loop-page.page = omega (arith, c.loop-page-test.false, c.len-page-end.ensures, taken.marks) in

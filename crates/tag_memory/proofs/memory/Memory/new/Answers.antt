@@ -13,10 +13,10 @@ pub returns-clause-made : goal.returns-clause-made
 returns-clause-made c =
     let bits : c.in-Ok.bits.items ≡ replicate (256 * c.args.pages) 0 = search (rules, c.in-Ok.ensures) in
     let tags : c.in-Ok-vec-2.tags.items ≡ replicate (4 * c.args.pages) 0 = search (rules, c.in-Ok-vec-2.ensures) in
-    let cells = (λ k. granules_of (bits k) (tags k)) ∙ granules_of-zeros (256 * c.args.pages) (4 * c.args.pages) in
+    let granules = (λ k. granules_of (bits k) (tags k)) ∙ granules_of-zeros (256 * c.args.pages) (4 * c.args.pages) in
     let marks : c.in-Ok-vec-3.may_hold.items ≡ replicate c.args.pages false = search (rules, c.in-Ok-vec-3.ensures) in
     let dirt : c.in-Ok-vec-4.dirty.items ≡ replicate c.args.pages false = search (rules, c.in-Ok-vec-4.ensures) in
-    λ k. record { base = c.args.base; cells = cells k; may_hold = marks k; dirty = dirt k }
+    λ k. record { base = c.args.base; granules = granules k; may_hold = marks k; dirty = dirt k }
 
 pub invariant_of-result : goal.invariant_of-result
 invariant_of-result c =

@@ -67,12 +67,12 @@ pub returns-then-tag : goal.returns-then-tag
 returns-then-tag c =
     let p : Packs c.self.inside c.args.self.now = record { view = c.self.view_is; invariant = c.self.invariant } in
     let base = ap (λ (m : MemoryState). m.base) c.self.view_is in
-    let cells = written p c.args.i c.args.bits c.index_mut-word.result.now c.with_bit.result c.args.tag c.requires c.index_mut-word.ensures.value c.with_bit.ensures in
-    λ k. record { base = base k; cells = cells k; may_hold = put_mark p c.args.i c.args.tag c.if-tag.true k; dirty = put_dirt p c.args.i c.args.tag c.if-tag.true k }
+    let granules = written p c.args.i c.args.bits c.index_mut-word.result.now c.with_bit.result c.args.tag c.requires c.index_mut-word.ensures.value c.with_bit.ensures in
+    λ k. record { base = base k; granules = granules k; may_hold = put_mark p c.args.i c.args.tag c.if-tag.true k; dirty = put_dirt p c.args.i c.args.tag c.if-tag.true k }
 
 pub returns-else-tag : goal.returns-else-tag
 returns-else-tag c =
     let p : Packs c.self.inside c.args.self.now = record { view = c.self.view_is; invariant = c.self.invariant } in
     let base = ap (λ (m : MemoryState). m.base) c.self.view_is in
-    let cells = written p c.args.i c.args.bits c.index_mut-word.result.now c.with_bit.result c.args.tag c.requires c.index_mut-word.ensures.value c.with_bit.ensures in
-    λ k. record { base = base k; cells = cells k; may_hold = put_no_mark p c.args.i c.args.tag c.if-tag.false k; dirty = put_no_dirt p c.args.i c.args.tag c.if-tag.false k }
+    let granules = written p c.args.i c.args.bits c.index_mut-word.result.now c.with_bit.result c.args.tag c.requires c.index_mut-word.ensures.value c.with_bit.ensures in
+    λ k. record { base = base k; granules = granules k; may_hold = put_no_mark p c.args.i c.args.tag c.if-tag.false k; dirty = put_no_dirt p c.args.i c.args.tag c.if-tag.false k }

@@ -1,0 +1,10 @@
+pub mod Blocks
+pub mod Cells
+pub mod ChangeLaws
+pub mod Changes
+pub mod Line
+pub mod LineLaws
+pub mod ListedBlocks
+pub mod Spans
+pub mod Taken
+pub mod Text

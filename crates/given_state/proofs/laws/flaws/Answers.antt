@@ -1,5 +1,0 @@
-use Rattle.given_state.proofs.FlawLaws.{AreSafe-first}
-use Rattle.given_state.proofs.laws.flaws.Goals as goal
-
-pub returns : goal.returns
-returns c = AreSafe-first

@@ -1,5 +1,0 @@
-use Rattle.heap_core.proofs.SoundLaws.{IsSound-from_table}
-use Rattle.heap_core.proofs.heap.Heap.whole.Goals as goal
-
-pub returns : goal.returns
-returns c = rw (← c.self.view_is) (IsSound-from_table _ _ _ _ _ c.self.invariant.table c.self.invariant.lates)

@@ -1,0 +1,13 @@
+pub mod Blocks
+pub mod Claim
+pub mod ExtentLaws
+pub mod Found
+pub mod Heap
+pub mod Laws
+pub mod Place
+pub mod Quarantine
+pub mod Shadow
+pub mod ShadowLaws
+pub mod SizeLaws
+pub mod StateLaws
+pub mod Sweep

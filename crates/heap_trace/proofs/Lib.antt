@@ -1,5 +1,0 @@
-mod GrammarAnswers
-mod ImageLaws
-mod LongerRuns
-pub mod OneRun
-mod SafeRuns

@@ -1,0 +1,12 @@
+pub mod BlockLists
+pub mod Dirty
+pub mod DirtyLaws
+pub mod Follow
+pub mod FreedBlock
+pub mod GuardLaws
+pub mod Safety
+pub mod Sound
+pub mod SoundLaws
+pub mod State
+pub mod Step
+pub mod SweptState

@@ -1,0 +1,6 @@
+pub mod AfterLaws
+pub mod BlockLaws
+pub mod Did
+pub mod MemoryLaws
+pub mod RecordLaws
+pub mod RegisterLaws

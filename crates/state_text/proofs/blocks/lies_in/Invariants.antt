@@ -1,7 +1,0 @@
-use Rattle.std.proofs.Common.{◌≡◌, false, take}
-use Rattle.heap_core.specs.Blocks.{lies_in}
-use Rattle.state_text.specs.Spans.{spans_of}
-use Rattle.state_text.proofs.blocks.lies_in.Given as goal
-
-abbrev pub invariant-loop-block : goal.invariant-loop-block
-invariant-loop-block l = lies_in (spans_of (take l.block-index l.blocks)) l.address ≡ false

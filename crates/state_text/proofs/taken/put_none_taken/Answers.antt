@@ -1,7 +1,0 @@
-use Rattle.state_text.specs.Told.{none_taken}
-use Rattle.state_text.proofs.LineLaws.{added_four}
-use Rattle.state_text.proofs.taken.put_none_taken.Goals as goal
-
-pub returns : goal.returns
-returns c =
-    added_four _ _ _ _ _ _ _ _ _ _ _ c.in_ok-open_object.ensures c.in_ok-put_empty_list.ensures c.in_ok-put_empty_list-2.ensures c.close.ensures (λ i. none_taken)

@@ -1,9 +1,0 @@
-pub mod Blocks
-pub mod Cells
-pub mod Changes
-pub mod Line
-pub mod Spans
-pub mod States
-pub mod Taken
-pub mod Text
-pub mod Told

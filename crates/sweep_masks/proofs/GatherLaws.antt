@@ -1,0 +1,114 @@
+-- Lists of swept tasks: how often a task stands in one, and where its masks are placed.
+use Rattle.std.proofs.Common.{◌≡◌, ◌≢◌, ℕ, ◌+◌, ◌*◌, ◌<◌, ◌≤◌, ◌⊎◌, inl, inr, All, Bool, true, false, List, [], ◌∷◌, ◌++◌, length, get_or, set, take, cond, Some, refl, ap, sym, ◌∙◌, subst, arith}
+use mathlib.Core.Logic.{dite}
+use Rattle.std.proofs.Math.Decide.{ℕ_discrete, dec_lt}
+use Rattle.std.proofs.lemmas.List.{get_or-set_other, get_or-set_same}
+use Rattle.std.proofs.lemmas.List.Elements.{All-cons, All-head, All-nil, All-push, All-tail}
+use Rattle.std.proofs.lemmas.Nat.{mul-le}
+use Rattle.std.specs.Prelude.{slice_get}
+use Rattle.sweep_masks.specs.ClaimLaws.{times-hit, times-miss, times-push_hit, times-push_miss}
+use Rattle.sweep_masks.specs.Gather.{IsFaultAt, IsFaultOf, IsGathered, IsPlaced, IsSized, times}
+use Rattle.sweep_masks.specs.declared.gathering.GatherFault.{GatherFault}
+use Rattle.sweep_masks.specs.declared.gathering.GatherFault.TheVariants.{Double, Memory, Missing, Stranger, WrongSize}
+use Rattle.sweep_masks.specs.Tasks.{Cut, task_words}
+use Rattle.sweep_masks.specs.declared.task.Swept.{Swept}
+
+-- A task that stands nowhere in a list is no item's.
+pub other_task : (k : ℕ) (s : Swept) (ss : List Swept) → times k (s ∷ ss) ≡ 0 → s.task ≢ k
+other_task k s ss none same = let h = times-hit k s ss same in absurd (omega arith)
+
+pub none_behind : (k : ℕ) (s : Swept) (ss : List Swept) → times k (s ∷ ss) ≡ 0 → times k ss ≡ 0
+none_behind k s ss none = let m = times-miss k s ss (other_task k s ss none) in omega arith
+
+-- An item of a task that stands in a list, with what holds of all items.
+pub found : (P : Swept → Type 0) (k : ℕ) (items : List Swept) → All P items → 1 ≤ times k items → (s : Swept) × (s.task ≡ k) × P s
+found P k [] all some = absurd (omega arith)
+found P k (s ∷ ss) all some = dite (ℕ_discrete s.task k)
+    (λ here. (s, here, All-head P s ss all))
+    (λ other. let m = times-miss k s ss other in found P k ss (All-tail P s ss all) (omega arith))
+
+-- ---- places
+
+-- The pages of a task lie before those of a later one.
+pub pages_before : (p j k : ℕ) → j < k → j * p + p ≤ k * p
+pages_before p j k before = let step : (j + 1) * p ≡ j * p + p = omega arith in let more = mul-le (j + 1) p k p (omega arith) (omega arith) in omega arith
+
+-- Words written for task k are none of another item's.
+apart : (c : Cut) (pages k n j w : ℕ) → j ≢ k → n ≤ task_words c pages k → w < task_words c pages j
+    → ((4 * (j * c.pages_per_task) + w < 4 * (k * c.pages_per_task)) ⊎ (4 * (k * c.pages_per_task) + n ≤ 4 * (j * c.pages_per_task) + w))
+apart c pages k n j w two n_le w_lt =
+    let p : ℕ = c.pages_per_task in
+    dite (dec_lt j k)
+    (λ before. let far = pages_before p j k before in let a : ℕ = j * p in let b : ℕ = k * p in inl (omega arith))
+    (λ after. let far = pages_before p k j (omega arith) in let a : ℕ = j * p in let b : ℕ = k * p in inr (omega arith))
+
+still_there : (c : Cut) (tasks pages k n : ℕ) (masks masks' : List ℕ) (items : List Swept)
+    → n ≤ task_words c pages k
+    → ((w : ℕ) → ((w < 4 * (k * c.pages_per_task)) ⊎ (4 * (k * c.pages_per_task) + n ≤ w)) → get_or masks' w 0 ≡ get_or masks w 0)
+    → times k items ≡ 0 → All (IsSized c tasks pages) items → All (IsPlaced c masks) items → All (IsPlaced c masks') items
+still_there c tasks pages k n masks masks' [] small rest none sized placed = All-nil (IsPlaced c masks')
+still_there c tasks pages k n masks masks' (s ∷ ss) small rest none sized placed =
+    let other = other_task k s ss none in
+    let size = (All-head (IsSized c tasks pages) s ss sized).1 in
+    All-cons (IsPlaced c masks') s ss
+    (λ w lt. rest (4 * (s.task * c.pages_per_task) + w) (apart c pages k n s.task w other small (let z = size in omega arith)) ∙ All-head (IsPlaced c masks) s ss placed w lt)
+    (still_there c tasks pages k n masks masks' ss small rest (none_behind k s ss none) (All-tail (IsSized c tasks pages) s ss sized) (All-tail (IsPlaced c masks) s ss placed))
+
+-- What one more item leaves.
+pub gathered-more : (c : Cut) (tasks pages at : ℕ) (items : List Swept) (s : Swept) (done : List Bool) (masks masks' : List ℕ)
+    → at ≡ 4 * (s.task * c.pages_per_task)
+    → length done ≡ tasks → s.task < tasks → get_or done s.task false ≡ false → length s.masks.items ≡ task_words c pages s.task
+    → ((w : ℕ) → w < length s.masks.items → get_or masks' (at + w) 0 ≡ get_or s.masks.items w 0)
+    → ((w : ℕ) → ((w < at) ⊎ (at + length s.masks.items ≤ w)) → get_or masks' w 0 ≡ get_or masks w 0)
+    → IsGathered c tasks pages items done masks
+    → IsGathered c tasks pages (items ++ s ∷ []) (set done s.task true) masks'
+gathered-more c tasks pages at items s done masks masks' at_is width known fresh sized here rest before =
+    let none : times s.task items ≡ 0 = before.counted s.task known ∙ ap (λ (b : Bool). cond b 1 0) fresh in
+    let here' : (w : ℕ) → w < length s.masks.items → get_or masks' (4 * (s.task * c.pages_per_task) + w) 0 ≡ get_or s.masks.items w 0 =
+    subst (λ (z : ℕ). (w : ℕ) → w < length s.masks.items → get_or masks' (z + w) 0 ≡ get_or s.masks.items w 0) at_is here in
+    let rest' : (w : ℕ) → ((w < 4 * (s.task * c.pages_per_task)) ⊎ (4 * (s.task * c.pages_per_task) + length s.masks.items ≤ w)) → get_or masks' w 0 ≡ get_or masks w 0 =
+    subst (λ (z : ℕ). (w : ℕ) → ((w < z) ⊎ (z + length s.masks.items ≤ w)) → get_or masks' w 0 ≡ get_or masks w 0) at_is rest in
+    record {
+      sound = record {
+        sized = All-push (IsSized c tasks pages) items s before.sound.sized (known, sized);
+        once = λ k. dite (ℕ_discrete s.task k)
+            (λ same. let h = times-push_hit k items s same in let z : times k items ≡ 0 = subst (λ (y : ℕ). times y items ≡ 0) same none in omega arith)
+            (λ other. let m = times-push_miss k items s other in let o = before.sound.once k in omega arith);
+      };
+      counted = λ k lt. dite (ℕ_discrete s.task k)
+          (λ same. subst (λ (y : ℕ). times y (items ++ s ∷ []) ≡ cond (get_or (set done s.task true) y false) 1 0) same
+          (times-push_hit s.task items s refl ∙ ap (λ (y : ℕ). y + 1) none ∙ sym (ap (λ (b : Bool). cond b 1 0) (get_or-set_same done s.task true false (omega arith)))))
+          (λ other. times-push_miss k items s other ∙ before.counted k lt ∙ sym (ap (λ (b : Bool). cond b 1 0) (get_or-set_other done s.task k true false (λ e. other (sym e)))));
+      placed = All-push (IsPlaced c masks') items s
+          (still_there c tasks pages s.task (length s.masks.items) masks masks' items (omega arith) rest' none before.sound.sized before.placed)
+          here';
+    }
+
+-- What is wrong with an item is what is wrong with the list.
+pub fault_told : (c : Cut) (tasks pages place : ℕ) (list : List Swept) (s : Swept) (done : List Bool) (masks : List ℕ) (fault : GatherFault)
+    → length done ≡ tasks → slice_get list place ≡ Some s
+    → IsGathered c tasks pages (take place list) done masks
+    → IsFaultAt c pages done s fault → IsFaultOf c tasks pages list fault
+fault_told c tasks pages place list s done masks Memory width here before at = absurd at
+fault_told c tasks pages place list s done masks (Stranger k) width here before at =
+    (take place list, s, record { place = place; here = here; before_it = refl; sound = before.sound }, at.0, (let z = at.1 in omega arith))
+fault_told c tasks pages place list s done masks (Double k) width here before at =
+    let known : k < tasks = (let z = at.1 in omega arith) in (
+      take place list,
+      s,
+      record { place = place; here = here; before_it = refl; sound = before.sound },
+      at.0,
+      known,
+      before.counted k known ∙ ap (λ (b : Bool). cond b 1 0) at.2,
+    )
+fault_told c tasks pages place list s done masks (WrongSize k) width here before at =
+    let known : k < tasks = (let z = at.1 in omega arith) in (
+      take place list,
+      s,
+      record { place = place; here = here; before_it = refl; sound = before.sound },
+      at.0,
+      known,
+      before.counted k known ∙ ap (λ (b : Bool). cond b 1 0) at.2,
+      at.3,
+    )
+fault_told c tasks pages place list s done masks (Missing k) width here before at = absurd at

@@ -1,0 +1,5 @@
+pub mod CountLaws
+pub mod GatherLaws
+pub mod MarkLaws
+pub mod TaskLaws
+pub mod WholeLaws

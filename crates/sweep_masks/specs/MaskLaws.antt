@@ -1,0 +1,61 @@
+-- Masks, bit by bit.
+use Rattle.std.proofs.Common.{◌≡◌, ◌<◌, ◌≤◌, ◌+◌, ◌*◌, ◌/◌, ◌%◌, ◌^◌, ◌==◌, if◌then◌else◌, inl, inr, refl, ap, ℕ, Bool, true, false, List, length, set, bit_or, w32, sym, ◌∙◌, subst, arith}
+use Rattle.std.proofs.lemmas.Bool.{both_ways, cases_eq, eq-eqb, ne_eqb}
+use Rattle.tag_memory.specs.Cells.{MemoryState}
+use Rattle.tag_memory.specs.Laws.{is_set-other, is_set-same, is_set_for-more}
+use Rattle.tag_memory.specs.Tags.{is_set, is_set_for}
+use Rattle.sweep_masks.specs.Masks.{is_hit_at}
+
+-- One mask more, of 64 granules.
+pub masks-more : (m : MemoryState) (shadow : List Bool) (masks : List ℕ) (w x i : ℕ) → w < length masks
+    → ((j : ℕ) → j < 64 → is_set x j ≡ is_hit_at m shadow (64 * w + j))
+    → ((i : ℕ) → i / 64 < w → is_set_for masks i ≡ is_hit_at m shadow i)
+    → i / 64 < w + 1 → is_set_for (set masks w x) i ≡ is_hit_at m shadow i
+masks-more m shadow = is_set_for-more (is_hit_at m shadow)
+
+-- Tags of 64 granules are looked at one by one: those left are of tagged granules, and for all others the mask is made.
+pub record AreTagsLeft (tagged hit : ℕ → Bool) (rest mask : ℕ) : Type 0 where
+  pub left : (k : ℕ) → k < 64 → is_set rest k ≡ true → tagged k ≡ true
+  pub made : (k : ℕ) → k < 64 → is_set rest k ≡ false → is_set mask k ≡ hit k
+
+-- One of them is looked at.
+pub AreTagsLeft-less : (tagged hit : ℕ → Bool) (rest mask less more j : ℕ) (is_hit : Bool) → AreTagsLeft tagged hit rest mask → j < 64 → is_set rest j ≡ true
+    → ((k : ℕ) → is_set less k ≡ (if k == j then false else is_set rest k))
+    → ((k : ℕ) → k < 64 → is_set more k ≡ (if k == j then is_hit else is_set mask k))
+    → (tagged j ≡ true → is_hit ≡ hit j) → AreTagsLeft tagged hit less more
+AreTagsLeft-less tagged hit rest mask less more j is_hit are below one without with_one is = record {
+  left = λ k lt. elim (cases_eq k j) [
+    | inl same ↦ λ set. absurd (both_ways (is_set less k) (without k ∙ rw (eq-eqb k j same) refl) set)
+    | inr other ↦ λ set. are.left k lt (sym (without k ∙ rw (ne_eqb k j other) refl) ∙ set)
+  ];
+  made = λ k lt. elim (cases_eq k j) [
+    | inl same ↦ λ unset. with_one k lt ∙ (rw (eq-eqb k j same) (is (are.left j below one)) ∙ ap hit (sym same))
+    | inr other ↦ λ unset. with_one k lt ∙ (rw (ne_eqb k j other) (are.made k lt (sym (without k ∙ rw (ne_eqb k j other) refl) ∙ unset)))
+  ];
+}
+
+-- The bits below r are those of a test, and no others are 1.
+pub record AreBelow (test : ℕ → Bool) (mask r : ℕ) : Type 0 where
+  pub done : (k : ℕ) → k < r → is_set mask k ≡ test k
+  pub rest : (k : ℕ) → r ≤ k → is_set mask k ≡ false
+
+-- One bit more, where the test passes.
+pub AreBelow-set : (test : ℕ → Bool) (mask r : ℕ) → AreBelow test mask r → r < 32 → test r ≡ true
+    → AreBelow test (bit_or mask (1 * 2 ^ r % 2 ^ 32)) (r + 1)
+AreBelow-set test mask r below lt passes = record {
+  done = λ k k_lt. elim (cases_eq k r) [
+    | inl same ↦ (let e : r ≡ k = sym same in subst (λ (i : ℕ). is_set (bit_or mask (1 * 2 ^ r % 2 ^ 32)) i ≡ test i) e (is_set-same w32 mask r lt ∙ sym passes))
+    | inr other ↦ is_set-other w32 mask r lt k other ∙ below.done k (omega arith)
+  ];
+  rest = λ k le. is_set-other w32 mask r lt k (λ e. absurd (omega arith)) ∙ below.rest k (omega arith);
+}
+
+-- And where it doesn't.
+pub AreBelow-kept : (test : ℕ → Bool) (mask r : ℕ) → AreBelow test mask r → test r ≡ false → AreBelow test mask (r + 1)
+AreBelow-kept test mask r below fails = record {
+  done = λ k lt. elim (cases_eq k r) [
+    | inl same ↦ (let e : r ≡ k = sym same in subst (λ (i : ℕ). is_set mask i ≡ test i) e (below.rest r (omega arith) ∙ sym fails))
+    | inr other ↦ below.done k (omega arith)
+  ];
+  rest = λ k le. below.rest k (omega arith);
+}

@@ -1,0 +1,9 @@
+//! The program over any devices, and over any way of running a trace: words and bytes in, an exit status and bytes out.
+#![tactic(auto)]
+
+mod lines;
+mod program;
+
+pub use crate::program::{Runner, refuse, tool_by};
+pub use command_line::{Options, Refusal};
+pub use program_devices::{Answer, Failed, FromRead, FromWrite, Sink, Source};

@@ -1,0 +1,99 @@
+//! The program over any devices.
+
+ghost use Rattle.std.specs.Prelude.{◌≡◌, ◌≢◌, ◌↔◌, ◌||◌, ◌++◌, IfErr, IfOk, false, true};
+ghost use Rattle.std.specs.Io.KnownBytes.{Appends};
+ghost use Rattle.cap_codec.specs.declared.word.Word.{Word};
+ghost use Rattle.command_line.specs.declared.asked.Options.{Options as TheOptions};
+ghost use Rattle.command_line.specs.Asked.{AreWithinLimits, NamesRun, texts};
+ghost use Rattle.program_devices.specs.Answer.{BeginsAnswer, HasAnswered, refusal_line, refusal_status};
+ghost use Rattle.program_devices.specs.Device.{AppendsBeginning, ReadsFew, most_read};
+ghost use Rattle.tool_program.specs.Answer.{IsAnswer, IsRunAnswer};
+ghost use Rattle.tool_program.specs.Text.{usage_line, word_line};
+ghost use Rattle.tool_program.specs.Hex.{IsTextOf};
+
+use crate::lines::line_of;
+use cap_codec::from_bytes;
+use command_line::{Asked, Options, Refusal, asked_by};
+use hex::FromHex;
+use program_devices::{Answer, ReadFault, Sink, Source, give, read_text};
+use std::alloc::{AllocError, Global};
+use trace_text::LONGEST_TEXT;
+
+const USAGE: &[u8] =
+    b"usage: heap_tool run [--workers N] [--cut N] [--image] or heap_tool word HEX\n";
+
+/// Runs the text of a trace, and answers with its report.
+pub trait Runner {
+    /// What a call asks besides: of threads, that they may share the handle.
+    ghost ready: { Type 0 };
+
+    /// The report of the trace that this text is, and the image if asked for, or the line of its fault.
+    fn run_answer(&self, alloc: Global, text: &[u8], options: Options) -> Result<Answer, Refusal>
+        requires ready { ready }
+        requires limits { AreWithinLimits options }
+        ensures ok { IfOk result (λ answer. IsRunAnswer text.now options answer.status answer.text.items) }
+        ensures err { IfErr result (λ refusal. refusal ≡ Refusal.Memory) };
+}
+
+/// Runs the program on these words, of which the first is its name, traces by this runner, and answers the exit status: 0
+/// where it is done, 1 for want of memory, 2 where the words are refused, 3 where the trace is faulty,
+/// and 4 where a device failed. The words are judged before the first read, and nothing is written
+/// before the last. No more than 4,194,305 bytes are read, whatever the status.
+pub fn tool_by<'a, Q: Runner, I: Source, O: Sink>(
+    runner: &Q,
+    alloc: Global,
+    words: &'a [&'a str],
+    reader: &mut I,
+    writer: &mut O,
+) -> u8
+    requires ready { Q.ready }
+    requires reader { I.failed reader.old ≡ false }
+    requires writer { O.failed writer.old ≡ false }
+    ensures complete { result ≢ 4 → HasAnswered (IsAnswer (texts words.entry.now) (I.remaining reader.old) (I.remaining reader.new))
+        result (O.contents writer.old) (O.contents writer.new) }
+    ensures part { result ≡ 4 → BeginsAnswer (IsAnswer (texts words.entry.now) (I.remaining reader.old) (I.remaining reader.new))
+        (O.contents writer.old) (O.contents writer.new) }
+    ensures failed { (result ≡ 4) ↔ ((I.failed reader.new || O.failed writer.new) ≡ true) }
+    ensures consumed { ReadsFew most_read 0 (I.remaining reader.old) (I.remaining reader.new) }
+    ensures unread { ((options : TheOptions) → NamesRun (texts words.entry.now) options → ⊥) → reader.new ≡ reader.old }
+    // Where a read failed nothing is written.
+    ensures unwritten { I.failed reader.new ≡ true → writer.new ≡ writer.old }
+{
+    match asked_by(alloc, words) {
+        Ok(Asked::Word(hex)) => give(writer, word_answer(alloc, hex), USAGE),
+        Ok(Asked::Run(options)) => match read_text(alloc, reader, LONGEST_TEXT) {
+            Ok(text) => give(writer, runner.run_answer(alloc, &text, options), USAGE),
+            Err(ReadFault::Memory) => refuse(writer, Refusal::Memory),
+            Err(ReadFault::Failed) => 4,
+        },
+        Err(refusal) => refuse(writer, refusal),
+    }
+}
+
+/// Writes the line of a refusal, and answers its status, or 4 where a write failed.
+pub fn refuse<O: Sink>(writer: &mut O, refusal: Refusal) -> u8
+    requires { O.failed writer.old ≡ false }
+    ensures complete { result ≢ 4 → (result ≡ refusal_status refusal) × Appends (O.contents writer.old) (O.contents writer.new) (refusal_line usage_line refusal) }
+    ensures part { result ≡ 4 → AppendsBeginning (O.contents writer.old) (O.contents writer.new) (refusal_line usage_line refusal) }
+    ensures failed { (result ≡ 4) ↔ (O.failed writer.new ≡ true) }
+{
+    program_devices::refuse(writer, refusal, USAGE)
+}
+
+// The line of the word that this text is.
+fn word_answer(alloc: Global, hex: &str) -> Result<Answer, Refusal>
+    ensures status { IfOk result (λ answer. answer.status ≡ 0) }
+    ensures ok { IfOk result (λ answer. (w : Word) × IsTextOf hex.now w × (answer.text.items ≡ word_line w)) }
+    ensures refused { result ≡ Err Refusal.Words → (w : Word) → IsTextOf hex.now w → ⊥ }
+{
+    let Ok(bytes) = <[u8; 16] as FromHex>::from_hex(hex) else {
+        return Err(Refusal::Words);
+    };
+    match line_of(alloc, from_bytes(bytes)) {
+        Ok(line) => Ok(Answer {
+            status: 0,
+            text: line.into_bytes(),
+        }),
+        Err(AllocError) => Err(Refusal::Memory),
+    }
+}

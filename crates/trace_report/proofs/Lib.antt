@@ -1,0 +1,4 @@
+pub mod GrammarAnswers
+pub mod ImageLaws
+pub mod OneRun
+pub mod SafeRuns

@@ -1,0 +1,12 @@
+//! What a run of a trace leaves: its report, its image, and the law that a trace has one outcome.
+#![tactic(auto)]
+
+mod image;
+mod laws;
+mod outcome;
+mod report;
+
+pub use crate::image::image_lines;
+pub use crate::laws::one_run_law;
+pub use crate::outcome::{Outcome, RunFault};
+pub use crate::report::{Report, Sums};

@@ -1,0 +1,45 @@
+// The address tells what is shown, and opens there again: #step=5&side=before&pick=c2&row=32.
+
+let addressDue = null;
+
+function addressShown() {
+  const pick = view.follow || !view.chosen ? null : { register: place => 'c' + place, granule: place => hex(addressOf(place)) }[view.chosen.kind];
+  const parts = { step: view.step, side: view.side === 'after' ? null : view.side, pick: pick ? pick(view.chosen.place) : null,
+    row: view.columns === run.columns ? null : view.columns };
+  return '#' + Object.entries(parts).filter(([, value]) => value !== null).map(part => part.join('=')).join('&');
+}
+
+// A browser takes few changes of the address in a time, so it is told once the steps have come to rest.
+function keepAddress() {
+  clearTimeout(addressDue);
+  addressDue = setTimeout(writeAddress, 200);
+}
+
+function writeAddress() {
+  const shown = addressShown();
+  if (location.hash === shown || !location.hash && shown === '#step=0') return;
+  try {
+    history.replaceState(null, '', shown);
+  } catch { /* inside of another page there may be no address to keep */ }
+}
+
+// What is no step, side, place or row of this page is passed over.
+function openAddress() {
+  const told = new URLSearchParams(location.hash.slice(1)), step = told.get('step') || '', row = told.get('row');
+  const pick = pickOf(told.get('pick') || ''), old = view.columns;
+  if ([...byId('columns').options].some(option => option.value === row)) view.columns = Number(row);
+  byId('columns').value = view.columns;
+  if (view.columns !== old) remakeMap();
+  view.follow = pick === null;
+  view.chosen = pick;
+  view.probe = null;
+  go(/^[0-9]{1,9}$/.test(step) ? Number(step) : 0);
+  const side = told.get('side');
+  if (sidesOf(run.steps[view.step]).some(([name]) => name === side)) show(side);
+}
+
+function pickOf(text) {
+  if (/^c[0-9]{1,2}$/.test(text) && Number(text.slice(1)) < 32) return { kind: 'register', place: Number(text.slice(1)) };
+  const address = /^0x[0-9a-f]{1,16}$/i.test(text) ? BigInt(text) : null;
+  return address !== null && isInHeap(address) && address % 16n === 0n ? { kind: 'granule', place: granulesTo(address) } : null;
+}
