@@ -31,6 +31,10 @@ class Function:
         """The names of what it ensures; '' where that has none."""
         return re.findall(r"^ *ensures(?: (\w+))? \{", self.contract, re.M)
 
+    def only_reads(self):
+        """Whether it takes a value alone, and ensures no more than what it answers of it."""
+        return self.clauses() == [""] and re.match(r" *(?:pub )?fn \w+\(&?self\)", self.contract) is not None
+
     def promise(self):
         """What it requires and ensures, word for word."""
         clauses = re.search(r"^ *(requires|ensures) .*", self.contract, re.M | re.S)
@@ -120,11 +124,11 @@ class Code:
         return [] if self.calls(crate, call) else [it for it in self.functions(crate) if (it.owner, it.name) == (owner, name)]
 
     def promising(self, crate):
-        """The calls that a crate itself exports and that promise something, each with the name to call it by."""
+        """The calls that a crate itself exports and that promise more than to read a value, each with the name to call it by."""
         for name, (of, module) in self.exports(crate).items():
             for it in self.functions(of) if of == crate else []:
                 is_it = (it.module, it.owner, it.name) == (module, "", name.split("::")[-1])
-                if it.clauses() and (is_it or it.owner == name and it.is_public):
+                if it.clauses() and not it.only_reads() and (is_it or it.owner == name and it.is_public):
                     yield name if is_it else f"{name}::{it.name}", it
 
     @functools.lru_cache(maxsize=None)
