@@ -1,12 +1,13 @@
-// The address tells what is shown, and opens there again: #step=5&side=before&pick=c2&row=32.
+// The address tells what is shown, and opens there again: #step=5&side=before&pick=c2&row=32&with=3. With #embed the page is to stand in
+// another one.
 
 let addressDue = null;
 
 function addressShown() {
-  const pick = view.follow || !view.chosen ? null : { register: place => 'c' + place, granule: place => hex(addressOf(place)) }[view.chosen.kind];
+  const pick = view.follow || !view.chosen ? null : NAMES_OF_PLACES[view.chosen.kind];
   const parts = { step: view.step, side: view.side === 'after' ? null : view.side, pick: pick ? pick(view.chosen.place) : null,
-    row: view.columns === run.columns ? null : view.columns };
-  return '#' + Object.entries(parts).filter(([, value]) => value !== null).map(part => part.join('=')).join('&');
+    row: view.columns === run.columns ? null : view.columns, with: comparedWith };
+  return (view.embed ? '#embed&' : '#') + Object.entries(parts).filter(([, value]) => value !== null).map(part => part.join('=')).join('&');
 }
 
 // A browser takes few changes of the address in a time, so it is told once the steps have come to rest.
@@ -26,7 +27,8 @@ function writeAddress() {
 // What is no step, side, place or row of this page is passed over.
 function openAddress() {
   const told = new URLSearchParams(location.hash.slice(1)), step = told.get('step') || '', row = told.get('row');
-  const pick = pickOf(told.get('pick') || ''), old = view.columns;
+  const pick = pickOf(told.get('pick') || ''), other = told.get('with') || '', old = view.columns;
+  if (told.has('embed') !== view.embed) embed();
   if ([...byId('columns').options].some(option => option.value === row)) view.columns = Number(row);
   byId('columns').value = view.columns;
   if (view.columns !== old) remakeMap();
@@ -36,6 +38,7 @@ function openAddress() {
   go(/^[0-9]{1,9}$/.test(step) ? Number(step) : 0);
   const side = told.get('side');
   if (sidesOf(run.steps[view.step]).some(([name]) => name === side)) show(side);
+  compareWith(/^[0-9]{1,9}$/.test(other) && Number(other) < run.steps.length ? Number(other) : null);
 }
 
 function pickOf(text) {

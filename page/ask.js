@@ -22,9 +22,6 @@ function hideLater() {
   byId('lines').querySelector('.end').classList.toggle('later', from < count);
 }
 
-const taggedPlaces = () => [...state.registers.keys()].filter(place => place && state.registers[place].tag).map(place => 'c' + place)
-  .concat([...state.granules.keys()].filter(place => state.granules[place].tag).map(place => hex(addressOf(place))));
-
 function drawAsk() {
   hideLater();
   const next = view.step + 1, asks = view.ask && view.side === 'after' && next < run.steps.length && run.steps[next].taken;
@@ -36,7 +33,7 @@ function drawAsk() {
 
 function question(next) {
   if (!ticks.has(next)) ticks.set(next, new Set());
-  const chosen = ticks.get(next), places = taggedPlaces(), more = places.length - TOLD_TAGS;
+  const chosen = ticks.get(next), places = taggedRows().map(row => row.name), more = places.length - TOLD_TAGS;
   const box = name => element('label', {}, element('input', { type: 'checkbox', 'data-tick': name, checked: chosen.has(name),
     onchange: event => { chosen[event.target.checked ? 'add' : 'delete'](name); } }), ' ', code(name));
   if (!places.length) return [element('p', {}, 'The next line is a pass, and nothing is tagged.')];

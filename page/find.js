@@ -51,13 +51,17 @@ function goInList(by) {
   if (items.length) go(items.at((by < 0 ? here - 1 : isHere ? here + 1 : here) % items.length));
 }
 
-// The first step on this line or after it, else the last one.
+// The first step on this line or after it, else the last one; null where the text is no number.
+function stepOfLine(text) {
+  if (!/^[0-9]{1,9}$/.test(text.trim())) return null;
+  const index = run.steps.findIndex(step => step.line >= Number(text));
+  return index < 0 ? run.steps.length - 1 : index;
+}
+
 function goToLine(text) {
-  const line = Number(text), isNumber = /^[0-9]{1,9}$/.test(text.trim());
-  byId('line').setAttribute('aria-invalid', String(!isNumber));
-  if (!isNumber) return;
-  const index = run.steps.findIndex(step => step.line >= line);
-  go(index < 0 ? run.steps.length - 1 : index);
+  const index = stepOfLine(text);
+  byId('line').setAttribute('aria-invalid', String(index === null));
+  if (index !== null) go(index);
 }
 
 function listenToFind() {

@@ -19,7 +19,15 @@ const HISTORY = { wrote: ['w', 'last change'], earlier: ['[', 'change before'], 
 const SHIFTED = { w: 'W', '[': '{', ']': '}' };
 
 const placesInTime = subject => ({ wrote: changeFrom(subject, view.step, -1), earlier: changeFrom(subject, view.step - 1, -1),
-  later: changeFrom(subject, view.step + 1, 1) });
+  later: view.ask ? null : changeFrom(subject, view.step + 1, 1) }); // what comes is not told to who wants to be asked first
+
+// Of a granule's block, the tagged words that have their base in it.
+function pointersInto(place) {
+  const block = state.owners[place], names = block ? taggedRows().filter(row => ownerOf(row.cell.meaning.base) === block).map(row => row.name) : [];
+  const more = names.length - 20;
+  if (!block) return '';
+  return ` Tagged words with their base in it: ${names.slice(0, 20).join(', ') || 'none'}${more > 0 ? ` and ${grouped(more)} more` : ''}.`;
+}
 
 // There, and what is chosen stays so.
 function goInHistory(index) {
@@ -42,7 +50,7 @@ function historyOf(subject) {
     title: `Key ${subject.kind === 'block' ? SHIFTED[key] : key}`, onclick: () => goInHistory(to[name]) }, text);
   const told = step ? [': changed last by line ', String(step.line), ', ', code(step.text), '.'] : [': no step up to here changed it.'];
   return element('div', { class: 'bar', 'data-about': subject.kind === 'block' ? 'block' : 'own' },
-    element('span', {}, element('b', {}, subject.name), ...told), ...Object.entries(HISTORY).map(button));
+    element('span', {}, element('b', {}, subject.name), ...told, subject.kind === 'block' ? pointersInto(subject.place) : ''), ...Object.entries(HISTORY).map(button));
 }
 
 function keyOfHistory(event) {

@@ -1,6 +1,6 @@
 // What the keys do. A key that writes into a field is that field's own.
 
-const LETTERS = { p: togglePresent, a: toggleAsk, b: otherSide, '/': goToSearch, '?': () => byId('keys').showModal() };
+const LETTERS = { p: togglePresent, a: toggleAsk, b: otherSide, t: togglePointers, '/': goToSearch, '?': () => byId('keys').showModal() };
 
 // From side to side of a pass.
 function otherSide() {

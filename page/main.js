@@ -1,7 +1,7 @@
 // What the reader looks at, the controls, and how the page begins.
 
 const view = { step: 0, side: 'after', chosen: null, follow: true, probe: null, cursor: null,
-  columns: 32, cell: 0, whole: false, present: false, ask: false, letter: 20, mapWidth: 600, mapHeight: 600, windowWidth: 600, timer: null };
+  columns: 32, cell: 0, whole: false, present: false, embed: false, ask: false, pointers: false, letter: 20, mapWidth: 600, mapHeight: 600, windowWidth: 600, timer: null };
 
 function go(to) {
   view.step = clamp(to, 0, run.steps.length - 1);
@@ -64,6 +64,7 @@ function draw(scroll) {
   drawMap(scroll);
   drawInspector();
   drawHistory();
+  drawComparison();
   drawSums();
   drawPosition();
   drawThree();
@@ -127,8 +128,7 @@ function keyOnMap(event) {
     view.chosen = null;
     return draw(false);
   }
-  const y = spotOf(map.shape, view.cursor)[1] + map.top, box = byId('map');
-  if (y < box.scrollTop || y + map.shape.height > box.scrollTop + box.clientHeight) box.scrollTop = y - box.clientHeight / 2;
+  bringPlaceIntoView(map.shape, view.cursor, byId('map'));
   byId('detail').setAttribute('aria-live', 'polite'); // only the part in use speaks
   placeCursor();
 }
@@ -171,7 +171,9 @@ function listenToMap() {
   box.addEventListener('pointerleave', () => move(null));
   box.addEventListener('click', event => {
     const place = placeUnder(event);
-    if (place !== null) choose('granule', place);
+    if (place === null) return;
+    move(place); // a finger has not moved there before
+    choose('granule', place);
   });
   byId('columns').addEventListener('change', () => {
     view.columns = Number(byId('columns').value);
@@ -188,7 +190,7 @@ function listenToMap() {
 
 function listen() {
   const actions = { first: () => go(0), back: () => go(view.step - 1), next: () => go(view.step + 1),
-    last: () => go(run.steps.length - 1), play, present: togglePresent, ask: toggleAsk, help: LETTERS['?'],
+    last: () => go(run.steps.length - 1), play, present: togglePresent, ask: toggleAsk, pointers: togglePointers, help: LETTERS['?'],
     close: () => byId('keys').close() };
   for (const [name, action] of Object.entries(actions)) byId(name).onclick = action;
   byId('slider').addEventListener('input', () => go(Number(byId('slider').value)));
@@ -199,7 +201,7 @@ function listen() {
   byId('typed').addEventListener('input', takeTyped);
   listenToMap();
   listenToWindow();
-  for (const listenTo of [listenToFind, listenToBlocks, listenToPaper, listenToSave]) listenTo();
+  for (const listenTo of [listenToFind, listenToBlocks, listenToComparison, listenToPaper, listenToHandout, listenToSave, listenToWhole]) listenTo();
   for (const onKey of [keyOnPage, keyOfFind, keyOfHistory]) document.addEventListener('keydown', onKey);
   addEventListener('resize', refit);
   addEventListener('hashchange', openAddress);
@@ -216,7 +218,7 @@ function refit() {
 
 function measure() {
   const own = (name, pixels) => document.documentElement.style.setProperty(name, `${pixels}px`);
-  view.letter = Math.max(20, Math.floor(20 * Math.min(innerWidth / 1280, innerHeight / 720)));
+  view.letter = view.embed ? 13 : Math.max(20, Math.floor(20 * Math.min(innerWidth / 1280, innerHeight / 720)));
   own('--letter', view.letter);
   own('--head', document.querySelector('header').offsetHeight);
   view.mapWidth = byId('map').clientWidth;

@@ -154,7 +154,9 @@ function drawOverlays(L) {
   if (view.side !== 'before') changes.append(...together(step.granules).map(those => ringsOf(L, those.map(change => change.place))));
   drawDirty(L);
   // A malloc may hand out the blocks to which the lines go, so it has none once that is done.
-  const chips = step.taken && (view.side === 'before' || view.side === passedSide(step)) ? drawReasons(L, step.taken) : 0;
+  const isPass = step.taken && (view.side === 'before' || view.side === passedSide(step));
+  const chips = isPass ? drawLines(L, step.taken.rows, row => reasonOf(step.taken, row), view.side === 'before')
+    : view.pointers ? drawLines(L, pointersShown(), row => ownerOf(row.cell.meaning.base), true) : 0;
   const bands = Math.max(Math.ceil(chips / L.chipsInRow), run.most ? 1 : 0); // one is kept, so that the map stays in its place
   placeBody(L, (bands ? CHIP.height * L.scale * bands + 8 : 0) + L.head);
   const shown = chosenCell();
@@ -176,21 +178,34 @@ function ringsOf(L, places) {
   return shape('g', { 'data-changed': places.join(' ') }, shape('path', { class: 'casing', d }), shape('path', { class: 'changed', d }));
 }
 
-// A line from each word whose tag went, a chip for a register, to its base in the block that is the reason.
+// The tagged words whose base lies in a block: in that of the granule that the reader has chosen, or else in any.
+function pointersShown() {
+  const block = !view.follow && view.chosen && view.chosen.kind === 'granule' ? state.owners[view.chosen.place] : null;
+  const ownerOfRow = row => ownerOf(row.cell.meaning.base);
+  return taggedRows().filter(row => (block ? ownerOfRow(row) === block : ownerOfRow(row) !== null));
+}
+
+function togglePointers() {
+  view.pointers = !view.pointers;
+  byId('pointers').setAttribute('aria-pressed', String(view.pointers));
+  draw(false);
+}
+
+// A line from each word, a chip for a register, to its base in a block: of words whose tag went, in the block that is the reason.
 // Answers how many chips there are.
-function drawReasons(L, taken) {
-  const shown = taken.rows.slice(0, DRAWN_REASONS), chipCount = shown.filter(row => row.kind === 'register').length;
+function drawLines(L, rows, blockOf, isTagged) {
+  const shown = rows.slice(0, DRAWN_REASONS), chipCount = shown.filter(row => row.kind === 'register').length;
   const top = Math.ceil(chipCount / L.chipsInRow) * CHIP.height * L.scale + 8 + L.head;
   let chips = 0;
   for (const row of shown) {
-    const block = reasonOf(taken, row);
+    const block = blockOf(row);
     if (!block) continue;
     const [bx, by] = spotOf(L, granulesTo(row.cell.meaning.base)), end = [bx + 1, by + 2];
     let start, bend;
     if (row.kind === 'register') {
       const x = L.gutter + (chips % L.chipsInRow) * CHIP.width * L.scale, y = 2 + Math.floor(chips / L.chipsInRow) * CHIP.height * L.scale;
       chips++;
-      map.chips.append(chipOf(row, x, y, L.scale));
+      map.chips.append(chipOf(row, x, y, L.scale, isTagged));
       start = [x + 27 * L.scale, y + 24 * L.scale - top];
       bend = [start[0], start[1] + 26, end[0], end[1] - 40];
     } else {
@@ -204,10 +219,10 @@ function drawReasons(L, taken) {
   return chipCount;
 }
 
-function chipOf(row, x, y, scale) {
+function chipOf(row, x, y, scale, isTagged) {
   return shape('g', { 'data-taken': row.name }, shape('rect', { class: 'chip', x, y, width: 54 * scale, height: 24 * scale, rx: 6 }),
     shape('text', { class: 'name', x: x + 7 * scale, y: y + 16 * scale }, row.name),
-    tagMark(x + 41 * scale, y + 12 * scale, 5 * scale, view.side === 'before'));
+    tagMark(x + 41 * scale, y + 12 * scale, 5 * scale, isTagged));
 }
 
 // The bounds of the word that is chosen, with its base and its address: broken lines where it has no tag. Null has no bounds
@@ -241,8 +256,14 @@ function drawChosen(L, { tag, meaning, isNull }) {
 function scrollMap(L) {
   const step = run.steps[view.step], box = byId('map');
   const place = step.granules.length ? step.granules[0].place : step.blocks.length ? step.blocks[0].block.start : null;
-  if (place === null || L.bottom + map.top < view.mapHeight) return;
-  const y = spotOf(L, place)[1] + map.top;
+  if (place !== null) bringPlaceIntoView(L, place, box);
+}
+
+// Each way only where the map is larger than its box: to ask where it is scrolled to costs a layout.
+function bringPlaceIntoView(L, place, box) {
+  const [x, up] = spotOf(L, place), y = up + map.top;
+  if (L.full > view.mapWidth && (x < box.scrollLeft || x + L.width > box.scrollLeft + box.clientWidth)) box.scrollLeft = x - box.clientWidth / 3;
+  if (L.bottom + map.top < view.mapHeight) return;
   if (y < box.scrollTop || y + L.height > box.scrollTop + box.clientHeight) box.scrollTop = y - box.clientHeight / 3;
 }
 

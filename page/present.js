@@ -1,6 +1,7 @@
 // One screen for a class: the lines around the step, its sentence, the map and the registers in large letters, and nothing else.
 
 function togglePresent() {
+  if (view.embed) return; // there it is all that the page shows
   view.present = !view.present;
   document.body.classList.toggle('present', view.present);
   byId('present').setAttribute('aria-pressed', String(view.present));
@@ -21,4 +22,17 @@ function drawThree() {
       element('code', { class: step.words[0] === 'write' ? 'data' : null }, step.text), reply, side ? ` (${side[1]})` : null);
   };
   byId('three').replaceChildren(...(view.present ? [-1, 0, 1].map((by, place) => line(view.step + by, place)) : []));
+}
+
+// The same screen in small letters, with the steps above it, for a frame of 900 by 520 in another page; and back.
+function embed() {
+  view.present = view.embed = !view.embed;
+  for (const name of ['present', 'embed']) document.body.classList.toggle(name, view.embed);
+  byId('whole').hidden = !view.embed;
+  refit();
+}
+
+// The page itself, at what is shown.
+function listenToWhole() {
+  byId('whole').onclick = () => { byId('whole').href = addressShown().replace('#embed&', '#'); };
 }

@@ -24,13 +24,14 @@ function styledMap() {
   return new XMLSerializer().serializeToString(copy);
 }
 
-// The registers and granules that aren't null, each with its meaning, and the blocks, by rising place.
+// The registers and granules that aren't null, each with its meaning, the blocks and the dirty pages, by rising place.
 function shownState() {
   const step = run.steps[view.step], cells = (list, name) => list.flatMap((cell, place) => (cell.isNull ? [] : [{ [name]: place, tag: cell.tag,
     word: cell.word, address: hex(cell.meaning.address), base: hex(cell.meaning.base), top: hex(cell.meaning.top) }]));
   return { heap: { base: hex(run.base), pages: run.pages }, step: view.step, line: step.line, text: step.text, reply: step.reply,
     side: view.side, open: state.open, registers: cells(state.registers, 'r'), granules: cells(state.granules, 'i'),
-    blocks: sortedBlocks().map(block => ({ base: hex(block.base), top: hex(block.top), state: block.state })) };
+    blocks: sortedBlocks().map(block => ({ base: hex(block.base), top: hex(block.top), state: block.state })),
+    dirty: [...state.dirty].sort((one, other) => one - other) };
 }
 
 function listenToSave() {

@@ -32,6 +32,11 @@ const granulesTo = address => Number(address - run.base) / 16; // only for addre
 const ownerOf = address => (isInHeap(address) ? state.owners[Math.floor(granulesTo(address))] : null);
 const rangeOf = block => `${hex(block.base)} to ${hex(block.top)}`;
 const pageOf = granule => Math.floor(granule / 256);
+const NAMES_OF_PLACES = { register: place => 'c' + place, granule: place => hex(addressOf(place)) };
+const rowAt = (kind, place) => ({ kind, place, name: NAMES_OF_PLACES[kind](place), cell: state[kind + 's'][place] });
+// The words that are tagged, registers first.
+const taggedRows = () => ['register', 'granule'].flatMap(kind => [...state[kind + 's'].keys()].filter(place => state[kind + 's'][place].tag)
+  .map(place => rowAt(kind, place)));
 // A block by the malloc that it came from, as it was asked for.
 const bornAs = ({ line, size }) => `line ${line} (${plural(size, 'byte')})`;
 const nameOf = block => bornAs(block.born);
@@ -126,14 +131,13 @@ const lookedAt = step => (step.words[0] === 'end' && step.taken ? [...state.dirt
 
 // The tags that a pass took, each with its cell before; and the blocks that were due, in quarantine before, by rising start.
 function takenOf(taken, step) {
-  const rows = (kind, places, cells, nameOf) => places.map(place => {
-    need(cells[place] !== undefined, 'a tag was taken from a place that there is not');
-    return { kind, place, name: nameOf(place), cell: cells[place] };
+  const rows = (kind, places) => places.map(place => {
+    need(state[kind + 's'][place] !== undefined, 'a tag was taken from a place that there is not');
+    return rowAt(kind, place);
   });
   const due = step.blocks.filter(change => change.was !== null && change.was !== 'live').map(change => change.block);
   return { due: due.sort((one, other) => one.start - other.start), born: new Map(due.map(block => [block, block.born])),
-    rows: [...rows('register', taken.registers, state.registers, place => 'c' + place),
-      ...rows('granule', taken.granules, state.granules, place => hex(addressOf(place)))] };
+    rows: [...rows('register', taken.registers), ...rows('granule', taken.granules)] };
 }
 
 // The block that is the reason why a tag was taken: the one that was due and has the word's base.

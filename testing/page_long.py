@@ -8,7 +8,7 @@ import xml.etree.ElementTree
 
 import page_look
 import page_model
-from page_model import NULL_WORD, Word, block_key, grouped, hexadecimal
+from page_model import NAMES, NULL_WORD, Word, block_key, grouped, hexadecimal
 
 # What a page takes at most on a box with nothing else to do, in milliseconds, and how much more is let pass on a busy one.
 OPENS, JUMPS, STEPS, BUSY = 1500, 150, 50, 3
@@ -253,6 +253,107 @@ class LongTests:
                     self.browser.run(f"go({start}); document.querySelector('[data-history=\"{about} {name_of}\"]').click()")
                     self.check(f"{name}: by its button", self.browser.run("view.step"), wanted[plain])
 
+    # Two steps side by side, and who points where
+
+    def compared(self, root):
+        """All that differs between two steps, from either one, for pairs of steps of random and of worked traces."""
+        for number, raw in enumerate([page_model.random_trace(120, 1, 11), *("\n".join(page_model.TRACES[name]).encode() for name in ("again", "epochs"))]):
+            run, chance = page_model.Run(raw, self.data(raw)), random.Random(number)
+            self.open(self.page(root, raw, f"compared_{number}"))
+            self.browser.run("byId('compare').open = true")
+            last = len(run.values) - 1
+            for one, other in [(0, last), (last, 0), (last, last), *((chance.randrange(last + 1), chance.randrange(last + 1)) for _ in range(25))]:
+                line = run.trace.counted[other][0]
+                self.browser.run(f"go({one}); byId('other').value = '{line}'; byId('other').dispatchEvent(new Event('change'))")
+                told, *rows = json.loads(self.browser.run(page_look.COMPARED))
+                wanted = self.differing(run, min(one, other), max(one, other))
+                self.check(f"steps {one} and {other} side by side", rows, wanted[:200])
+                if not wanted:
+                    self.check(f"steps {one} and {other}: it is said", told, f"Nothing differs between line {line} and line {run.trace.counted[one][0]}.")
+            self.browser.run("go(2); if (!view.ask) toggleAsk()")
+            self.check("what comes is hidden from who wants to be asked first", json.loads(self.browser.run("compareWith(5); " + page_look.COMPARED)),
+                       ["What comes later is hidden while you are asked first."])
+            self.browser.run("toggleAsk(); go(4); byId('other').value = 'x'; byId('other').dispatchEvent(new Event('change'))")
+            self.check("no line", self.browser.run("byId('other').getAttribute('aria-invalid')"), "true")
+            self.browser.run("compareWith(3)")
+            self.settle()
+            self.check("the address has it", self.browser.run("location.hash.endsWith('&with=3')"), True)
+            self.no_noise("compared")
+
+    @staticmethod
+    def differing(run, first, last):
+        old, new, rows = run.states[first], run.states[last], []
+        for kind, name in (("registers", lambda place: f"c{place}"), ("granules", lambda place: hexadecimal(run.base + 16 * place))):
+            was, now = getattr(old, kind), getattr(new, kind)
+            for place in sorted({*was, *now}):
+                cells = [cells.get(place, (False, NULL_WORD)) for cells in (was, now)]
+                if cells[0] != cells[1]:
+                    rows.append([name(place), *(page_look.cell_in_words(kind, *cell) for cell in cells)])
+        for block in sorted({*old.blocks, *new.blocks}):
+            told = [f"{NAMES[state.blocks[block]]}, of {state.name(block)}" if block in state.blocks else "free" for state in (old, new)]
+            if told[0] != told[1]:
+                rows.append([f"block {hexadecimal(block[0])} to {hexadecimal(block[1])}", *told])
+        return rows
+
+    def pointers(self, root):
+        """Lines from all tagged words whose base lies in a block, or from those into the block of the granule that is chosen."""
+        for name, raw in (("random", page_model.random_trace(80, 1, 3)), ("epochs", "\n".join(page_model.TRACES["epochs"]).encode())):
+            run = page_model.Run(raw, self.data(raw))
+            self.open(self.page(root, raw, "pointers"))
+            self.browser.key("t")
+            for index, state in enumerate(run.states):
+                if run.taken(index) is not None:
+                    continue
+                rows = [(f"c{place}", word) for place, (tag, word) in sorted(state.registers.items()) if tag]
+                rows += [(hexadecimal(run.base + 16 * place), word) for place, (tag, word) in sorted(state.granules.items()) if tag]
+                into = [(place, block_key(block), block) for place, word in rows for block in [state.block_of(Word(word).base)] if block]
+                self.browser.run(f"go({index})")
+                self.check(f"pointers of {name}, step {index}", json.loads(self.browser.run(page_look.REASONS)), [f"{place} {key}" for place, key, _ in into][:64])
+                for base, top in list(state.blocks)[:3]:
+                    wanted = [place for place, _, block in into if block == (base, top)]
+                    self.browser.run(f"view.chosen = null; choose('granule', {(base - run.base) // 16})")
+                    shown = [row.split()[0] for row in json.loads(self.browser.run(page_look.REASONS))]
+                    self.check(f"pointers of {name} into {base:#x}, step {index}", shown, wanted[:64])
+                    told = ", ".join(wanted[:20]) or "none"
+                    text = self.browser.run("document.querySelector('[data-about=block] span').textContent")
+                    self.check(f"they are told, of {name} into {base:#x}, step {index}", f"Tagged words with their base in it: {told}" in text, True)
+                    self.browser.run("byId('follow').click()")
+            self.browser.key("t")
+            self.check("and none once they are not asked for", json.loads(self.browser.run("go(1); " + page_look.REASONS)), [])
+            self.no_noise(f"pointers of {name}")
+
+    # A handout
+
+    def handout(self, root):
+        """Its steps, each with what the page shows of it; the page is as before; on paper there is nothing else."""
+        lesson = self.root / "examples/lesson_an_epoch_with_a_store/stdin"
+        model = page_model.Run(lesson.read_bytes(), self.data(lesson.read_bytes()))
+        self.open(self.page(root, lesson.read_bytes(), "handout"))
+        run, check, lines = self.browser.run, self.check, [line for line, *_ in model.trace.counted]
+        for text, wanted in (("4", [4]), ("4, 7-10", [4, 7, 8, 10]), (" 10 - 7", []), ("1-9999", lines), ("10,4", [4, 10]), ("7–8", [7, 8]), ("", None), ("x", None), ("4,", None)):
+            steps = None if wanted is None else [index for index, line in enumerate(lines) if line in wanted]
+            check(f"the handout of {text!r}", json.loads(run(f"JSON.stringify(stepsOfLines({json.dumps(text)}))")), steps)
+        run("go(6); show('before'); choose('register', 1)")
+        before = self.look()
+        run("byId('printed').value = '4, 7-10'; makeHandout(stepsOfLines(byId('printed').value))")
+        check("the page is as before", self.look(), before)
+        told = json.loads(run(page_look.HANDOUT))
+        for at, index in enumerate(index for index, line in enumerate(lines) if line in (4, 7, 8, 10)):
+            run(f"go({index}); view.follow = true; go({index})")
+            seen = self.look()
+            check(f"the handout, step {index}", told[at], [f"Line {lines[index]}", seen["notes"], seen["command"], seen["sentence"],
+                  [row[:2] for row in seen["blocks"]], [row[0] for row in seen["registers"]], len(seen["taken"])])
+        self.browser.media("print")
+        check("on paper it is alone", json.loads(run("JSON.stringify([getComputedStyle(byId('main')).visibility, byId('main').offsetHeight, byId('handout').offsetHeight > 900])")),
+              ["hidden", 0, True])
+        self.browser.media("")
+        check("and nothing of it is seen on the screen", run("byId('handout').offsetHeight"), 0)
+        run("dispatchEvent(new Event('afterprint'))")
+        check("and it goes", [run("byId('handout').childNodes.length"), run("document.body.className")], [0, ""])
+        run("byId('printed').value = 'x'; byId('print').click()")
+        check("no lines", run("byId('printed').getAttribute('aria-invalid')"), "true")
+        self.no_noise("handout")
+
     # The band
 
     def band(self, root):
@@ -296,6 +397,7 @@ class LongTests:
                     for place, (tag, text) in sorted(cells.items()) if tag or text != NULL_WORD])
             self.check(f"the file of step {index} {side}: blocks", told["blocks"], [
                 {"base": hexadecimal(base), "top": hexadecimal(top), "state": of} for (base, top), of in sorted(state.blocks.items())])
+            self.check(f"the file of step {index} {side}: dirty pages", told["dirty"], sorted(state.dirty))
             self.picture_file(self.saved("save-map", f"map_{index}.svg"), f"the map of step {index} {side}", state)
         self.no_noise("files")
 

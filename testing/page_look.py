@@ -90,6 +90,50 @@ ROWS_AT = r"""(async () => {
   return JSON.stringify([...steps]);
 })()"""
 
+# Of a page in a frame: what reaches past it, the parts that are in sight, and how large its letters are.
+EMBEDDED = r"""(() => {
+  const box = name => document.querySelector(name).getBoundingClientRect(), root = document.documentElement;
+  const isSeen = name => { const { width, height } = box(name); return width > 0 && height > 0; };
+  const names = ['.name', '.controls', '.track', '#trace', '#three', '#told', '#map', '#registers', '#inspector', '#glossary', '#legend', '#compare', '#ask'];
+  return JSON.stringify({ past: ['#map', '#registers', '#told', '.controls'].filter(name => box(name).bottom > innerHeight + 1 || box(name).right > innerWidth + 1)
+    .concat(root.scrollWidth > innerWidth || root.scrollHeight > innerHeight ? ['page'] : []),
+    parts: names.filter(isSeen).map(name => name.slice(1)).sort(), letter: view.letter });
+})()"""
+
+# On a phone: where the steps end, and whether the button for the next one is what a finger there would touch.
+BOTTOM = r"""(() => {
+  const { x, y, width, height } = byId('next').getBoundingClientRect();
+  return JSON.stringify([document.querySelector('.controls').getBoundingClientRect().bottom, document.elementFromPoint(x + width / 2, y + height / 2) === byId('next')]);
+})()"""
+SMALL_TARGETS = r"""JSON.stringify([...document.querySelectorAll('button, select, summary, input[type=text], label:has(input[type=checkbox])')].filter(node => {
+  const { width, height } = node.getBoundingClientRect();
+  return width && (height < 44 || width < 44);
+}).map(node => node.id || node.textContent))"""
+PLACE_IN_SIGHT = r"""(() => {
+  const box = byId('map'), x = map.shape.gutter + (%s % map.shape.columns) * map.shape.width;
+  return x >= box.scrollLeft && x + map.shape.width <= box.scrollLeft + box.clientWidth;
+})()""".replace("%s %", "%s %%")
+
+# What is said of two steps, and the rows of their differences; the lines of the map; and the handout, an article for each step.
+COMPARED = "JSON.stringify([byId('differences').textContent, ...[...document.querySelectorAll('#differences tbody tr')].map(row => [...row.cells].map(cell => cell.textContent))])"
+REASONS = "JSON.stringify([...document.querySelectorAll('#map [data-reason]')].map(path => path.dataset.reason))"
+HANDOUT = r"""JSON.stringify([...document.querySelectorAll('#handout article')].map(article => {
+  const all = selector => [...article.querySelectorAll(selector)], text = node => node.textContent, [command, sentence] = all('p:not(.note)');
+  return [text(article.querySelector('h2')), all('.note').map(text), text(command), text(sentence), all('.map [data-block]').map(node => [node.dataset.block, node.dataset.state]),
+    all('.rows tr').map(row => row.dataset.register), all('td:nth-child(4)').length];
+}))"""
+
+
+def cell_in_words(kind, tag, text):
+    """A register or a granule where two steps stand side by side."""
+    word = Word(text)
+    if not tag and text == NULL_WORD:
+        return "null"
+    if kind == "granules" and not tag:
+        return "no tag, bytes " + " ".join(text[at:at + 8] for at in range(0, 32, 8))
+    return f"{'tagged' if tag else 'no tag'}, {hexadecimal(word.address)} in {hexadecimal(word.base)} to {hexadecimal(word.top)}"
+
+
 FILTER = "byId('kind').value = %s; byId('kind').dispatchEvent(new Event('change')); byId('asked').value = %s; byId('asked').dispatchEvent(new Event('input'))"
 STEPS_LISTED = "JSON.stringify([...document.querySelectorAll('#lines [data-step]')].map(row => Number(row.dataset.step)))"
 

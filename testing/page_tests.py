@@ -580,6 +580,71 @@ class Tests(page_long.LongTests):
         self.check("on paper", len(self.browser.call("Page.printToPDF", printBackground=True)["data"]) > 10000, True)
         self.no_noise("on paper")
 
+    def kept_pages(self, root):
+        """The pages in docs/lessons are those that ./heap_page makes, and their index leads to each of them."""
+        told = subprocess.run([root / "docs/lessons/make", "--check"], capture_output=True, text=True)
+        self.check("docs/lessons is as it would be made", (told.returncode, told.stdout, told.stderr), (0, "", ""))
+        self.browser.call("Page.navigate", url=(root / "docs/lessons/index.html").as_uri())
+        self.settle()
+        names = json.loads(self.browser.run("JSON.stringify([...document.querySelectorAll('li a')].map(link => link.getAttribute('href')))"))
+        self.check("the index leads to each page", names, [f"{folder.name.removeprefix('lesson_')}.html" for folder in self.lessons()])
+        self.check("the five of the lesson are marked", self.browser.run("document.querySelectorAll('li b').length"), 5)
+
+    def embedded(self, root):
+        """In a frame of 900 by 520: all on one screen, in each lesson at each step; it stays so, and a link leads to the page itself."""
+        for folder in self.lessons():
+            name, raw = folder.name, (folder / "stdin").read_bytes()
+            last, run = len(page_model.Trace(raw).counted) - 1, self.browser.run
+            self.open(self.page(root, raw, name), width=900, height=520, at=f"#embed&step={last}")
+            self.check(f"{name} in a frame opens at its step", [run("view.step"), run("view.present"), run("view.embed")], [last, True, True])
+            for index in range(last + 1):
+                run(f"go({index})")
+                seen = json.loads(run(page_look.EMBEDDED))
+                self.check(f"{name} in a frame, step {index}", seen, {"past": [], "parts": ["controls", "map", "registers", "three", "told", "track"], "letter": 13})
+            self.browser.key("p")
+            self.browser.key("Escape")
+            self.settle()
+            self.check(f"{name} in a frame stays so", [run("view.present"), run("location.hash")], [True, f"#embed&step={last}"])
+            run("byId('whole').addEventListener('click', event => event.preventDefault()); byId('whole').click()")
+            self.check(f"{name}: the link leads to the page itself", run("byId('whole').getAttribute('href')"), f"#step={last}")
+            run("location.hash = '#step=1'")
+            self.settle()
+            self.check(f"{name}: an address without it is the page itself", [run("view.embed"), run("view.present"), run("view.step"), run("byId('whole').hidden")], [False, False, 1, True])
+            self.no_noise(f"{name} in a frame")
+
+    def phone(self, root):
+        """At 390 by 844: the steps stay at the bottom, each target has 44 px, and a touched granule's bytes are in sight."""
+        path, run, check = self.page(root, (self.root / "examples" / PICTURED / "stdin").read_bytes(), PICTURED), self.browser.run, self.check
+        self.open(path, width=390, height=844)
+        for at in (0, 700, 99999):
+            run(f"go(3); scrollTo(0, {at})")
+            self.settle()
+            check(f"scrolled to {at}: the steps are at the bottom", json.loads(run(page_look.BOTTOM)), [844, True])
+        check("each target has 44 px", json.loads(run(page_look.SMALL_TARGETS)), [])
+        run("scrollTo(0, byId('map').getBoundingClientRect().bottom + scrollY - 600)")
+        self.settle()
+        x, y = json.loads(run("(() => { const b = document.querySelector('#map [data-block]').getBoundingClientRect(); return JSON.stringify([b.x + 3, b.y + 3]); })()"))
+        self.browser.click(x, y)
+        check("a touched granule's bytes are in sight", run("(() => { const b = byId('detail').getBoundingClientRect(), c = document.querySelector('.controls').getBoundingClientRect();"
+              "return byId('detail').textContent.startsWith('Granule 0 at') && b.top > 0 && b.bottom <= c.top; })()"), True)
+        check("the window's bar lets a page be scrolled", run("getComputedStyle(byId('window')).touchAction"), "pan-y")
+        self.no_noise("phone")
+
+    def sideways(self, root):
+        """A row of 256 granules, wider than its box, follows to what a step changed, and to the cursor."""
+        raw = b"heap 0x40000000 4\nmalloc c1 16\nmalloc c2 3200\nmalloc c3 16\nstorecap c3 c1\nstorecap c1 c1\n"
+        run = self.browser.run
+        self.open(self.page(root, raw, "sideways"), width=700)
+        run("byId('columns').value = 256; byId('columns').dispatchEvent(new Event('change'))")
+        self.check("the row is wider than its box", run("byId('map').scrollWidth > byId('map').clientWidth"), True)
+        for step, place in ((4, 201), (5, 0), (4, 201), (3, 201)):
+            run(f"go({step})")
+            self.check(f"step {step}: its granule is in sight", run(page_look.PLACE_IN_SIGHT % place), True)
+        run("go(5); view.cursor = 254; byId('map').focus()")
+        self.browser.key("ArrowRight")
+        self.check("the cursor is in sight", [run("view.cursor"), run(page_look.PLACE_IN_SIGHT % 255)], [255, True])
+        self.no_noise("sideways")
+
     def all(self):
         for folder in self.lessons():
             self.lesson(self.root, folder.name)
@@ -588,7 +653,8 @@ class Tests(page_long.LongTests):
         for seed in range(1, 7):
             self.lesson(self.root, f"random_{seed}", page_model.random_trace(60, 1, seed))
         for test in (self.words, self.tries, self.controls, self.present, self.ask, self.addresses, self.letters, self.typed, self.colours, self.hostile,
-                     self.quick, self.rows, self.print_all, self.dense, self.find, self.history, self.band, self.files, self.looks):
+                     self.quick, self.rows, self.print_all, self.dense, self.find, self.history, self.compared, self.pointers, self.band, self.files,
+                     self.handout, self.kept_pages, self.embedded, self.phone, self.sideways, self.looks):
             test(self.root)
         self.answers()
         print(f"tried: the page in a browser, with {len(self.lessons())} lessons, {len(page_model.TRACES)} traces of edges and 6 random ones")
