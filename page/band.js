@@ -1,63 +1,52 @@
 // The band above the slider: after each step the bytes that are live, held and free, and the tags; with ticks for passes and traps.
 
-const BAND_HEIGHT = 34, THUMB = 12; // the slider's thumb (style.css), whose middle is the place of the step
-const sums = { live: [0], held: [0], tags: [0] };
+import { element, grouped, plural, shape } from './dom.js';
 
-// From what each step changed. The data tells what they are at the end: another sum is a fault.
-function sumUp() {
-  let live = 0, held = 0, tags = 0;
-  for (const step of run.steps.slice(1)) {
-    for (const { block, was, now } of step.blocks) {
+export function addBand(viewer) {
+  const { run, byId, cursor: state } = viewer;
+
+  const BAND_HEIGHT = 34, THUMB = 12; // the slider's thumb (style.css), whose middle is the place of the step
+
+  // The steps at which the band has a point: one for each pixel at most.
+  function bandSteps(width) {
+    const last = run.steps.length - 1, count = Math.min(last, Math.floor(width));
+    return count ? [...Array(count + 1).keys()].map(point => Math.round(point * last / count)) : [0];
+  }
+
+  function drawBand() {
+    const width = byId('band').clientWidth - THUMB, last = Math.max(run.steps.length - 1, 1), room = 16 * run.used;
+    if (width <= 0) return;
+    const steps = bandSteps(width), most = run.sums.tags.reduce((greatest, tags) => Math.max(greatest, tags), 1);
+    const x = step => Math.round((THUMB / 2 + step * width / last) * 10) / 10;
+    const y = part => Math.round((1 - part) * (BAND_HEIGHT - 8) * 10) / 10 + 4;
+    const line = heightOf => steps.map(step => `H${x(step)}V${y(heightOf(step))}`).join('');
+    const area = heightOf => `M${THUMB / 2} ${y(0)}${line(heightOf)}V${y(0)}Z`;
+    const ticks = (isOne, from, to) => {
+      const places = new Set(run.steps.flatMap((step, index) => (isOne(step) ? [Math.round(x(index))] : [])));
+      return [...places].map(place => `M${place} ${from}V${to}`).join('');
+    };
+    byId('band').replaceChildren(shape('svg', { viewBox: `0 0 ${width + THUMB} ${BAND_HEIGHT}`, preserveAspectRatio: 'none', 'aria-hidden': 'true' },
+      shape('rect', { class: 'band-free', x: THUMB / 2, y: y(1), width, height: y(0) - y(1) }),
+      shape('path', { class: 'band-held', d: area(step => (run.sums.live[step] + run.sums.held[step]) / room) }),
+      shape('path', { class: 'band-live', d: area(step => run.sums.live[step] / room) }),
+      shape('path', { class: 'band-tags', d: `M${THUMB / 2} ${y(0)}` + line(step => run.sums.tags[step] / most) }),
+      shape('path', { class: 'band-passes', d: ticks(viewer.KINDS.passes, 0, BAND_HEIGHT) }),
+      shape('path', { class: 'band-traps', d: ticks(viewer.KINDS.traps, BAND_HEIGHT - 5, BAND_HEIGHT) })));
+  }
+
+  // Of the state that is shown, which may be that before the step.
+  function drawSums() {
+    let live = 0, held = 0;
+    for (const block of state.blocks.values()) {
       const bytes = 16 * (block.end - block.start);
-      live += bytes * ((now === 'live') - (was === 'live'));
-      held += bytes * ((now !== null && now !== 'live') - (was !== null && was !== 'live'));
+      if (block.state === 'live') live += bytes; else held += bytes;
     }
-    for (const { was, now } of [...step.registers, ...step.granules]) tags += now.tag - was.tag;
-    sums.live.push(live);
-    sums.held.push(held);
-    sums.tags.push(tags);
+    const tags = [state.registers, state.granules].reduce((sum, cells) => sum + cells.filter(cell => cell.tag).length, 0);
+    const told = (name, text) => element('span', {}, element('i', { class: 'swatch band-' + name }), text);
+    byId('sums').replaceChildren(told('live', grouped(live) + ' live'), told('held', grouped(held) + ' held'),
+      told('free', plural(4096 * run.pages - live - held, 'byte') + ' free'), told('tags', plural(tags, 'tag')),
+      told('passes', 'pass'), told('traps', 'trap'));
   }
-  const { end } = run;
-  if (end.live !== live || end.held !== held || end.tags !== tags) tellFault('The data ends with other sums than its steps have.');
-}
 
-// The steps at which the band has a point: one for each pixel at most.
-function bandSteps(width) {
-  const last = run.steps.length - 1, count = Math.min(last, Math.floor(width));
-  return count ? [...Array(count + 1).keys()].map(point => Math.round(point * last / count)) : [0];
-}
-
-function drawBand() {
-  const width = byId('band').clientWidth - THUMB, last = Math.max(run.steps.length - 1, 1), room = 16 * run.used;
-  if (width <= 0) return;
-  const steps = bandSteps(width), most = sums.tags.reduce((greatest, tags) => Math.max(greatest, tags), 1);
-  const x = step => Math.round((THUMB / 2 + step * width / last) * 10) / 10;
-  const y = part => Math.round((1 - part) * (BAND_HEIGHT - 8) * 10) / 10 + 4;
-  const line = heightOf => steps.map(step => `H${x(step)}V${y(heightOf(step))}`).join('');
-  const area = heightOf => `M${THUMB / 2} ${y(0)}${line(heightOf)}V${y(0)}Z`;
-  const ticks = (isOne, from, to) => {
-    const places = new Set(run.steps.flatMap((step, index) => (isOne(step) ? [Math.round(x(index))] : [])));
-    return [...places].map(place => `M${place} ${from}V${to}`).join('');
-  };
-  byId('band').replaceChildren(shape('svg', { viewBox: `0 0 ${width + THUMB} ${BAND_HEIGHT}`, preserveAspectRatio: 'none', 'aria-hidden': 'true' },
-    shape('rect', { class: 'band-free', x: THUMB / 2, y: y(1), width, height: y(0) - y(1) }),
-    shape('path', { class: 'band-held', d: area(step => (sums.live[step] + sums.held[step]) / room) }),
-    shape('path', { class: 'band-live', d: area(step => sums.live[step] / room) }),
-    shape('path', { class: 'band-tags', d: `M${THUMB / 2} ${y(0)}` + line(step => sums.tags[step] / most) }),
-    shape('path', { class: 'band-passes', d: ticks(KINDS.passes, 0, BAND_HEIGHT) }),
-    shape('path', { class: 'band-traps', d: ticks(KINDS.traps, BAND_HEIGHT - 5, BAND_HEIGHT) })));
-}
-
-// Of the state that is shown, which may be that before the step.
-function drawSums() {
-  let live = 0, held = 0;
-  for (const block of state.blocks.values()) {
-    const bytes = 16 * (block.end - block.start);
-    if (block.state === 'live') live += bytes; else held += bytes;
-  }
-  const tags = [state.registers, state.granules].reduce((sum, cells) => sum + cells.filter(cell => cell.tag).length, 0);
-  const told = (name, text) => element('span', {}, element('i', { class: 'swatch band-' + name }), text);
-  byId('sums').replaceChildren(told('live', grouped(live) + ' live'), told('held', grouped(held) + ' held'),
-    told('free', plural(4096 * run.pages - live - held, 'byte') + ' free'), told('tags', plural(tags, 'tag')),
-    told('passes', 'pass'), told('traps', 'trap'));
+  Object.assign(viewer, { drawBand, drawSums });
 }

@@ -1,15 +1,16 @@
 // A capability word: fields, mantissas, window and bounds, on plain integers, as docs/DEFINITIONS.md says them.
 
-const power = exponent => 1n << BigInt(exponent);
-const modulo = (number, by) => ((number % by) + by) % by;
-const SPACE = power(64);
-const NULL_METADATA = 0x00001ffffc018004n;
-const NULL_WORD = '0'.repeat(32);
+export const power = exponent => 1n << BigInt(exponent);
+export const modulo = (number, by) => ((number % by) + by) % by;
+export const SPACE = power(64);
+export const NULL_METADATA = 0x00001ffffc018004n;
+export const NULL_WORD = '0'.repeat(32);
+export const PERMISSIONS = { 0: 'GLOBAL', 2: 'LOAD', 3: 'STORE', 4: 'LOAD_CAPABILITY', 5: 'STORE_CAPABILITY' };
 
 // Of 32 digits, the bytes in the order of memory.
-const bitsOf = word => BigInt('0x' + word.match(/../g).reverse().join(''));
+export const bitsOf = word => BigInt('0x' + word.match(/../g).reverse().join(''));
 
-function fieldsOf(bits) {
+export function fieldsOf(bits) {
   const stored = bits >> 64n, metadata = stored ^ NULL_METADATA;
   const part = (lowest, width) => (metadata >> BigInt(lowest)) % power(width);
   return { stored, metadata, permissions: part(48, 16), reserved: part(46, 2), flag: part(45, 1), type: part(27, 18),
@@ -17,7 +18,7 @@ function fieldsOf(bits) {
 }
 
 // What the bits mean at an address, which is their own unless another one is tried.
-function decode(bits, address = bits % SPACE) {
+export function decode(bits, address = bits % SPACE) {
   const word = { address, ...fieldsOf(bits) };
   const inner = word.internal === 1n;
   const told = word.topField % 8n * 8n + word.baseField % 8n;
@@ -36,4 +37,4 @@ function decode(bits, address = bits % SPACE) {
 }
 
 // Whether the word keeps its bounds with another address: the window may wrap around the address space.
-const keepsBounds = (word, address) => word.exponent >= 50 || modulo(address - word.low, SPACE) < word.size;
+export const keepsBounds = (word, address) => word.exponent >= 50 || modulo(address - word.low, SPACE) < word.size;

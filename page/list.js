@@ -1,82 +1,91 @@
 // The trace with its notes and replies: all of its steps, or those that are asked for (find.js). Only the rows that are current
 // change from step to step.
 
-let list = null;
-let currentRow = null; // the button of the step, where the list has it
+import { code, element, grouped, plural } from './dom.js';
+import { Pieces } from './pieces.js';
 
-// What Ask first hides: all but the lines of what comes after the step.
-const isHidden = index => view.ask && index > view.step;
+export function addList(viewer) {
+  const { run, view, byId } = viewer;
 
-const notesOf = notes => notes.filter(note => note !== '').map(note => element('p', { class: 'note' }, note));
+  viewer.list = null;
+  viewer.currentRow = null; // the button of the step, where the list has it
 
-function rowOf(index) {
-  const step = run.steps[index];
-  const button = element('button', { 'data-step': index, tabindex: -1 }, element('span', { class: 'number' }, String(step.line)),
-    code(step.text), step.reply ? element('span', { class: 'reply' }, step.reply) : null);
-  const kinds = [step.reply.startsWith('trap') && 'trap', isHidden(index) && 'later'].filter(Boolean);
-  return element('li', { class: kinds.join(' ') || null }, ...notesOf(step.notes), button);
-}
+  // What Ask first hides: all but the lines of what comes after the step.
+  const isHidden = index => view.ask && index > view.step;
 
-function drawList(own) {
-  const { live, held, free, tags } = run.end, holder = element('div');
-  byId('lines').classList.toggle('long', run.steps[run.steps.length - 1].line > 999);
-  byId('lines').append(holder, element('div', { class: 'end' }, ...notesOf(own.after),
-    `At the end: ${plural(live, 'byte')} live, ${grouped(held)} held, ${grouped(free)} free, ${plural(tags, 'tag')}.`));
-  list = new Pieces(byId('lines'), holder, first => element('ol', { 'aria-label': `Steps from ${first} on` }), rowOf);
-  list.show([...run.steps.keys()]);
-  byId('lines').addEventListener('click', event => {
-    const button = event.target.closest('[data-step]');
-    if (button) go(Number(button.dataset.step));
-  });
-}
+  const notesOf = notes => notes.filter(note => note !== '').map(note => element('p', { class: 'note' }, note));
 
-// Where the list has a step, or else the first one after it; both are its length where there is none.
-function positionOf(step) {
-  let low = 0, high = list.items.length;
-  while (low < high) {
-    const middle = (low + high) >> 1;
-    if (list.items[middle] < step) low = middle + 1; else high = middle;
+  function rowOf(index) {
+    const step = run.steps[index];
+    const button = element('button', { 'data-step': index, tabindex: -1 }, element('span', { class: 'number' }, String(step.line)),
+      code(step.text), step.reply ? element('span', { class: 'reply' }, step.reply) : null);
+    const kinds = [step.reply.startsWith('trap') && 'trap', isHidden(index) && 'later'].filter(Boolean);
+    return element('li', { class: kinds.join(' ') || null }, ...notesOf(step.notes), button);
   }
-  return low;
-}
 
-function drawCurrentRow() {
-  const position = positionOf(view.step), isThere = list.items[position] === view.step;
-  const row = isThere ? list.rowAt(position).lastElementChild : null;
-  if (row === currentRow) return;
-  const hadFocus = document.activeElement && document.activeElement === currentRow;
-  if (currentRow) {
-    currentRow.parentNode.classList.remove('current');
-    currentRow.removeAttribute('aria-current');
-    currentRow.tabIndex = -1;
+  function drawList(own) {
+    const { live, held, free, tags } = run.end, holder = element('div');
+    byId('lines').classList.toggle('long', run.steps[run.steps.length - 1].line > 999);
+    byId('lines').append(holder, element('div', { class: 'end' }, ...notesOf(own.after),
+      `At the end: ${plural(live, 'byte')} live, ${grouped(held)} held, ${grouped(free)} free, ${plural(tags, 'tag')}.`));
+    viewer.list = new Pieces(byId('lines'), holder, first => element('ol', { 'aria-label': `Steps from ${first} on` }), rowOf, viewer.longLists);
+    viewer.list.show([...run.steps.keys()]);
+    byId('lines').addEventListener('click', event => {
+      const button = event.target.closest('[data-step]');
+      if (button) viewer.go(Number(button.dataset.step));
+    });
   }
-  currentRow = row;
-  if (!row) return;
-  row.parentNode.classList.add('current');
-  row.setAttribute('aria-current', 'step');
-  row.tabIndex = 0;
-  if (hadFocus) row.focus({ preventScroll: true });
-  bringIntoView();
-  requestAnimationFrame(bringIntoView); // once more, when the pieces around it have their rows
-}
 
-function drawPosition() {
-  const last = run.steps.length - 1, step = run.steps[view.step];
-  drawCurrentRow();
-  byId('slider').value = view.step;
-  byId('slider').setAttribute('aria-valuetext', `line ${step.line}: ${step.text}, ${step.reply || 'the heap'}`);
-  byId('count').textContent = `step ${grouped(view.step)} of ${grouped(last)}`;
-  for (const name of ['first', 'back']) byId(name).disabled = view.step === 0;
-  for (const name of ['next', 'last']) byId(name).disabled = view.step === last;
-  if (view.step === last) stopPlaying();
-}
+  // Where the list has a step, or else the first one after it; both are its length where there is none.
+  function positionOf(step) {
+    let low = 0, high = viewer.list.items.length;
+    while (low < high) {
+      const middle = (low + high) >> 1;
+      if (viewer.list.items[middle] < step) low = middle + 1; else high = middle;
+    }
+    return low;
+  }
 
-// With its notes above it, and where there is room the line after it.
-function bringIntoView() {
-  if (!currentRow) return;
-  const box = byId('lines'), frame = box.getBoundingClientRect(), item = currentRow.parentNode.getBoundingClientRect();
-  const button = currentRow.getBoundingClientRect(), room = Math.min(40, (frame.height - button.height) / 3);
-  if (item.top >= frame.top && button.bottom + room <= frame.bottom) return;
-  const top = item.height + room <= frame.height ? item.top : button.top;
-  box.scrollTop += top - frame.top - Math.max(0, (frame.height - item.height) / 3);
+  function drawCurrentRow() {
+    const position = positionOf(view.step), isThere = viewer.list.items[position] === view.step;
+    const row = isThere ? viewer.list.rowAt(position).lastElementChild : null;
+    if (row === viewer.currentRow) return;
+    const hadFocus = document.activeElement && document.activeElement === viewer.currentRow;
+    if (viewer.currentRow) {
+      viewer.currentRow.parentNode.classList.remove('current');
+      viewer.currentRow.removeAttribute('aria-current');
+      viewer.currentRow.tabIndex = -1;
+    }
+    viewer.currentRow = row;
+    if (!row) return;
+    row.parentNode.classList.add('current');
+    row.setAttribute('aria-current', 'step');
+    row.tabIndex = 0;
+    if (hadFocus) row.focus({ preventScroll: true });
+    bringIntoView();
+    requestAnimationFrame(bringIntoView); // once more, when the pieces around it have their rows
+  }
+
+  function drawPosition() {
+    const last = run.steps.length - 1, step = run.steps[view.step];
+    drawCurrentRow();
+    byId('slider').value = view.step;
+    byId('slider').setAttribute('aria-valuetext', `line ${step.line}: ${step.text}, ${step.reply || 'the heap'}`);
+    byId('count').textContent = `step ${grouped(view.step)} of ${grouped(last)}`;
+    for (const name of ['first', 'back']) byId(name).disabled = view.step === 0;
+    for (const name of ['next', 'last']) byId(name).disabled = view.step === last;
+    if (view.step === last) viewer.stopPlaying();
+  }
+
+  // With its notes above it, and where there is room the line after it.
+  function bringIntoView() {
+    if (!viewer.currentRow || viewer.signal.aborted) return;
+    const box = byId('lines'), frame = box.getBoundingClientRect(), item = viewer.currentRow.parentNode.getBoundingClientRect();
+    const button = viewer.currentRow.getBoundingClientRect(), room = Math.min(40, (frame.height - button.height) / 3);
+    if (item.top >= frame.top && button.bottom + room <= frame.bottom) return;
+    const top = item.height + room <= frame.height ? item.top : button.top;
+    box.scrollTop += top - frame.top - Math.max(0, (frame.height - item.height) / 3);
+  }
+
+  Object.assign(viewer, { isHidden, notesOf, drawList, positionOf, drawCurrentRow, drawPosition, bringIntoView });
 }

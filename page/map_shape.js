@@ -1,85 +1,94 @@
 // Where things lie on the map: a row has so many granules, and places are counted in granules from the heap's base on.
 
-const CHIP = { width: 62, height: 30 }; // a register beside the map, with the room around it, where letters are small
+import { clamp, element, hex, shape } from './dom.js';
 
-// Beside the rows stand their addresses, and behind them the pages, with so much room for both.
-const gutterOfMap = scale => hex(heapEnd()).length * 6.9 * scale + 10;
-const edgeOfMap = scale => `page ${run.pages - 1}`.length * 6.9 * scale + 22;
+export function addMapShape(viewer) {
+  const { run, view } = viewer;
 
-function shapeOfMap() {
-  const scale = view.present ? view.letter / 11 : 1, gutter = gutterOfMap(scale), edge = edgeOfMap(scale);
-  const room = view.mapWidth - gutter - edge, sizes = view.present ? largestCells(room, scale) : usualCells(room);
-  const { columns, width, height, rowCount } = sizes, right = gutter + columns * width;
-  return { columns, width, height, gutter, rowCount, scale, right, shown: Math.min(rowCount * columns, run.granules),
-    head: Math.round(32 * scale), bottom: rowCount * height, full: right + edge,
-    chipsInRow: Math.max(1, Math.floor(columns * width / (CHIP.width * scale))) };
-}
+  const CHIP = { width: 62, height: 30 }; // a register beside the map, with the room around it, where letters are small
 
-function usualCells(room) {
-  const { columns } = view, width = view.cell || clamp(Math.floor(room / columns), 4, 44);
-  const height = width < 14 ? width : width < 24 ? Math.max(20, Math.round(width * 1.3)) : Math.max(30, Math.round(width * .75));
-  const all = Math.ceil(run.granules / columns);
-  return { columns, width, height, rowCount: view.whole ? all : Math.min(all, Math.max(6, Math.ceil(run.reach / columns) + 2)) };
-}
+  // Beside the rows stand their addresses, and behind them the pages, with so much room for both.
+  const gutterOfMap = scale => hex(run.heapEnd()).length * 6.9 * scale + 10;
+  const edgeOfMap = scale => `page ${run.pages - 1}`.length * 6.9 * scale + 22;
 
-// The part that is used, by the row at which its cells come out largest: no narrower than high, and at most twice as wide.
-function largestCells(room, scale) {
-  const tall = view.mapHeight - (run.most ? CHIP.height * scale + 8 : 0) - Math.ceil((32 + 24) * scale);
-  const sizes = [4, 8, 16, 32, 64, 128, 256].map(columns => {
-    const rowCount = Math.min(Math.ceil(run.reach / columns), run.granules / columns), height = Math.floor(tall / rowCount);
-    const width = Math.min(Math.floor(room / columns), height * 2);
-    return { columns, rowCount, width: Math.max(width, 2), height: clamp(height, 2, Math.max(width, 2)) };
-  });
-  return sizes.reduce((best, size) => (size.width * size.height > best.width * best.height ? size : best));
-}
-
-const spotOf = (L, place) => [L.gutter + (place % L.columns) * L.width, Math.floor(place / L.columns) * L.height];
-
-// The outline from one place to another along the rows of the map.
-function areaOf(L, start, end, inset) {
-  const n = L.columns, first = Math.floor(start / n), last = Math.ceil(end / n) - 1;
-  const y = first * L.height, Y = (last + 1) * L.height;
-  const a = L.gutter + (start - first * n) * L.width + inset, b = L.gutter + (end - last * n) * L.width - inset;
-  if (first === last) return `M${a} ${y + inset}H${Math.max(b, a + 2)}V${Y - inset}H${a}Z`;
-  if (last === first + 1 && b <= a) { // two rows that do not touch: open where they are cut
-    return `M${L.right} ${y + inset}H${a}V${y + L.height - inset}H${L.right}` +
-      `M${L.gutter} ${Y - L.height + inset}H${b}V${Y - inset}H${L.gutter}`;
+  function shapeOfMap() {
+    const scale = view.present ? view.letter / 11 : 1, gutter = gutterOfMap(scale), edge = edgeOfMap(scale);
+    const room = view.mapWidth - gutter - edge, sizes = view.present ? largestCells(room, scale) : usualCells(room);
+    const { columns, width, height, rowCount } = sizes, right = gutter + columns * width;
+    return { columns, width, height, gutter, rowCount, scale, right, shown: Math.min(rowCount * columns, run.granules),
+      head: Math.round(32 * scale), bottom: rowCount * height, full: right + edge,
+      chipsInRow: Math.max(1, Math.floor(columns * width / (CHIP.width * scale))) };
   }
-  const left = L.gutter + inset, right = L.right - inset;
-  return `M${a} ${y + inset}H${right}` + (end % n === 0 ? `V${Y - inset}` : `V${Y - L.height - inset}H${b}V${Y - inset}`) +
-    `H${left}` + (start % n === 0 ? 'Z' : `V${y + L.height + inset}H${a}Z`);
-}
 
-// Bounds in granules, cut to the heap up to an end; null where nothing is left.
-function clippedTo(end, base, top) {
-  const low = base > run.base ? base : run.base, high = top < end ? top : end;
-  return low < high ? [granulesTo(low), granulesTo(high)] : null;
-}
+  function usualCells(room) {
+    const { columns } = view, width = view.cell || clamp(Math.floor(room / columns), 4, 44);
+    const height = width < 14 ? width : width < 24 ? Math.max(20, Math.round(width * 1.3)) : Math.max(30, Math.round(width * .75));
+    const all = Math.ceil(run.granules / columns);
+    return { columns, width, height, rowCount: view.whole ? all : Math.min(all, Math.max(6, Math.ceil(run.reach / columns) + 2)) };
+  }
 
-const DIAMOND = (x, y, size) => `M${x} ${y - size}L${x + size} ${y}L${x} ${y + size}L${x - size} ${y}Z`;
-const STROKE = (x, y, size) => `M${x - size - 1} ${y + size + 1}L${x + size + 1} ${y - size - 1}`;
+  // The part that is used, by the row at which its cells come out largest: no narrower than high, and at most twice as wide.
+  function largestCells(room, scale) {
+    const tall = view.mapHeight - (run.most ? CHIP.height * scale + 8 : 0) - Math.ceil((32 + 24) * scale);
+    const sizes = [4, 8, 16, 32, 64, 128, 256].map(columns => {
+      const rowCount = Math.min(Math.ceil(run.reach / columns), run.granules / columns), height = Math.floor(tall / rowCount);
+      const width = Math.min(Math.floor(room / columns), height * 2);
+      return { columns, rowCount, width: Math.max(width, 2), height: clamp(height, 2, Math.max(width, 2)) };
+    });
+    return sizes.reduce((best, size) => (size.width * size.height > best.width * best.height ? size : best));
+  }
 
-// The four corners of a box: a ring that is told from bounds without its colour.
-function cornersOf(x, y, width, height) {
-  const a = Math.max(Math.min(width, height) * .34, 1), right = x + width, low = y + height;
-  return `M${x} ${y + a}V${y}H${x + a}M${right - a} ${y}H${right}V${y + a}M${right} ${low - a}V${low}H${right - a}M${x + a} ${low}H${x}V${low - a}`;
-}
+  const spotOf = (L, place) => [L.gutter + (place % L.columns) * L.width, Math.floor(place / L.columns) * L.height];
 
-// A tag is a full diamond, and one just taken a hollow one, struck out.
-function tagMark(x, y, size, tag, attributes = {}) {
-  return shape('path', { class: tag ? 'tag' : 'lost', d: DIAMOND(x, y, size) + (tag ? '' : STROKE(x, y, size)), ...attributes });
-}
+  // The outline from one place to another along the rows of the map.
+  function areaOf(L, start, end, inset) {
+    const n = L.columns, first = Math.floor(start / n), last = Math.ceil(end / n) - 1;
+    const y = first * L.height, Y = (last + 1) * L.height;
+    const a = L.gutter + (start - first * n) * L.width + inset, b = L.gutter + (end - last * n) * L.width - inset;
+    if (first === last) return `M${a} ${y + inset}H${Math.max(b, a + 2)}V${Y - inset}H${a}Z`;
+    if (last === first + 1 && b <= a) { // two rows that do not touch: open where they are cut
+      return `M${L.right} ${y + inset}H${a}V${y + L.height - inset}H${L.right}` +
+        `M${L.gutter} ${Y - L.height + inset}H${b}V${Y - inset}H${L.gutter}`;
+    }
+    const left = L.gutter + inset, right = L.right - inset;
+    return `M${a} ${y + inset}H${right}` + (end % n === 0 ? `V${Y - inset}` : `V${Y - L.height - inset}H${b}V${Y - inset}`) +
+      `H${left}` + (start % n === 0 ? 'Z' : `V${y + L.height + inset}H${a}Z`);
+  }
 
-function tagSign(tag, wasTaken) {
-  const mark = wasTaken || tag ? tagMark(9, 8, 5.5, tag) : shape('path', { class: 'lost', d: DIAMOND(9, 8, 5.5) });
-  return element('span', { class: 'sign' }, shape('svg', { width: 18, height: 16, viewBox: '0 0 18 16', 'aria-hidden': 'true' }, mark), tag ? ' 1' : ' 0');
-}
+  // Bounds in granules, cut to the heap up to an end; null where nothing is left.
+  function clippedTo(end, base, top) {
+    const low = base > run.base ? base : run.base, high = top < end ? top : end;
+    return low < high ? [run.granulesTo(low), run.granulesTo(high)] : null;
+  }
 
-function patterns() {
-  const pattern = (name, size, d) => shape('pattern', { id: name, width: size, height: size, patternUnits: 'userSpaceOnUse' },
-    shape('path', { class: name, d }));
-  return shape('defs', {}, pattern('waiting-pattern', 7, 'M-1 8L8 -1M-1 1L1 -1M6 8L8 6'), pattern('painted-pattern', 6, 'M0 0L6 6M6 0L0 6'),
-    pattern('dirty-pattern', 6, 'M0 1H6M0 4H6'),
-    shape('marker', { id: 'arrow', viewBox: '0 0 8 8', refX: 7, refY: 4, markerWidth: 7, markerHeight: 7, orient: 'auto' },
-      shape('path', { class: 'arrow', d: 'M0 0L8 4L0 8Z' })));
+  const DIAMOND = (x, y, size) => `M${x} ${y - size}L${x + size} ${y}L${x} ${y + size}L${x - size} ${y}Z`;
+  const STROKE = (x, y, size) => `M${x - size - 1} ${y + size + 1}L${x + size + 1} ${y - size - 1}`;
+
+  // The four corners of a box: a ring that is told from bounds without its colour.
+  function cornersOf(x, y, width, height) {
+    const a = Math.max(Math.min(width, height) * .34, 1), right = x + width, low = y + height;
+    return `M${x} ${y + a}V${y}H${x + a}M${right - a} ${y}H${right}V${y + a}M${right} ${low - a}V${low}H${right - a}M${x + a} ${low}H${x}V${low - a}`;
+  }
+
+  // A tag is a full diamond, and one just taken a hollow one, struck out.
+  function tagMark(x, y, size, tag, attributes = {}) {
+    return shape('path', { class: tag ? 'tag' : 'lost', d: DIAMOND(x, y, size) + (tag ? '' : STROKE(x, y, size)), ...attributes });
+  }
+
+  function tagSign(tag, wasTaken) {
+    const mark = wasTaken || tag ? tagMark(9, 8, 5.5, tag) : shape('path', { class: 'lost', d: DIAMOND(9, 8, 5.5) });
+    const picture = shape('svg', { width: 18, height: 16, viewBox: '0 0 18 16', 'aria-hidden': 'true' }, mark);
+    return element('span', { class: 'sign' }, picture, tag ? ' 1' : ' 0');
+  }
+
+  function patterns() {
+    const pattern = (name, size, d) => shape('pattern', { id: name, width: size, height: size, patternUnits: 'userSpaceOnUse' },
+      shape('path', { class: name, d }));
+    return shape('defs', {}, pattern('waiting-pattern', 7, 'M-1 8L8 -1M-1 1L1 -1M6 8L8 6'), pattern('painted-pattern', 6, 'M0 0L6 6M6 0L0 6'),
+      pattern('dirty-pattern', 6, 'M0 1H6M0 4H6'),
+      shape('marker', { id: 'arrow', viewBox: '0 0 8 8', refX: 7, refY: 4, markerWidth: 7, markerHeight: 7, orient: 'auto' },
+        shape('path', { class: 'arrow', d: 'M0 0L8 4L0 8Z' })));
+  }
+
+  Object.assign(viewer, { CHIP, edgeOfMap, shapeOfMap, spotOf, areaOf, clippedTo, DIAMOND, STROKE, cornersOf, tagMark, tagSign, patterns });
 }

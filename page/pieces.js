@@ -1,15 +1,17 @@
 // Rows of a long list or table in pieces, of which only those near what is in sight have their rows: every other one is as high
 // as it was, or as it probably is. A short list has all its rows, and so has each on paper.
 
-const PIECE = 50, WHOLE = 400; // rows of a piece; so many rows are no long list
-const longLists = [];
+import { element } from './dom.js';
 
-class Pieces {
-  // The box that scrolls, its child that has the pieces, an empty piece, and the row of an item.
-  constructor(box, holder, makePiece, rowOf) {
+const PIECE = 50; // rows of a piece
+export const WHOLE = 400; // so many rows are no long list
+
+export class Pieces {
+  // The box that scrolls, its child that has the pieces, an empty piece, and the row of an item; and all lists of the page.
+  constructor(box, holder, makePiece, rowOf, lists) {
     Object.assign(this, { box, holder, makePiece, rowOf, heads: [...holder.children], pieces: [], items: [], kept: null, rowHeight: 46 });
     box.addEventListener('scroll', () => this.refill());
-    longLists.push(this);
+    lists.push(this);
   }
 
   show(items) {

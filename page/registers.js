@@ -1,78 +1,86 @@
 // The registers. A row is made anew only where what it tells differs.
 
-const BAR = 165; // the width of a register's small bar
-const registerRows = new Map();
-const barPlace = place => 3 + Math.min(place / run.used, 1) * (BAR - 6);
+import { code, element, hex, shape } from './dom.js';
 
-// What is held, as one outline for all bars, by steps of a pixel: its length does not grow with the blocks.
-function heldBands() {
-  const held = new Uint8Array(BAR);
-  for (const block of state.blocks.values()) {
-    const x = barPlace(block.start);
-    if (block.state !== 'live') held.fill(1, Math.floor(x), Math.max(Math.ceil(barPlace(block.end)), x + 2));
-  }
-  let d = '';
-  for (let x = 0; x < BAR; x++) {
-    if (!held[x] || held[x - 1]) continue;
-    let end = x;
-    while (held[end]) end++;
-    d += `M${x} 2H${end}V16H${x}Z`;
-  }
-  return d;
-}
+export function addRegisters(viewer) {
+  const { run, view, byId, cursor: state } = viewer;
 
-function smallBar(cell, bands, label) {
-  const { base, top, address } = cell.meaning, inside = clippedTo(addressOf(run.used), base, top);
-  const bar = shape('svg', { width: BAR, height: 18, role: 'img', 'aria-label': label },
-    shape('path', { class: 'held-band', d: bands }), shape('path', { class: 'range', d: `M3 9H${BAR - 3}` }));
-  if (inside) {
-    const x = barPlace(inside[0]), width = Math.max(barPlace(inside[1]) - x, 3);
-    bar.append(shape('rect', { class: cell.tag ? 'bound' : 'bound off', x, y: 5.5, width, height: 7 }));
-  }
-  if (isInHeap(address)) bar.append(shape('path', { class: 'tick', d: `M${barPlace(granulesTo(address))} 1V17` }));
-  return bar;
-}
+  const BAR = 165; // the width of a register's small bar
+  const registerRows = new Map();
+  const barPlace = place => 3 + Math.min(place / run.used, 1) * (BAR - 6);
 
-function makeRegisterRows() {
-  for (const register of [...run.written].sort((one, other) => one - other)) {
-    const row = element('tr', { 'data-register': register }, element('td'), element('td'));
-    const button = element('button', { 'data-choose': register, title: 'Show its bounds on the map and in the inspector' }, 'c' + register);
-    button.addEventListener('click', () => choose('register', register));
-    registerRows.set(register, { row, button, drawn: null });
-    byId('rows').append(row);
+  // What is held, as one outline for all bars, by steps of a pixel: its length does not grow with the blocks.
+  function heldBands() {
+    const held = new Uint8Array(BAR);
+    for (const block of state.blocks.values()) {
+      const x = barPlace(block.start);
+      if (block.state !== 'live') held.fill(1, Math.floor(x), Math.max(Math.ceil(barPlace(block.end)), x + 2));
+    }
+    let d = '';
+    for (let x = 0; x < BAR; x++) {
+      if (!held[x] || held[x - 1]) continue;
+      let end = x;
+      while (held[end]) end++;
+      d += `M${x} 2H${end}V16H${x}Z`;
+    }
+    return d;
   }
-  const others = run.written.size < 31 ? ' The other registers stay null.' : '';
-  const part = run.used < run.granules ? ', the part of the heap that is used' : '';
-  byId('idle').textContent = `c0 is always null.${others} The bars go from ${hex(run.base)} to ${hex(addressOf(run.used))}${part}: ` +
-    'shaded is what is held, thick the bounds, and the thin line is the address.';
-}
 
-function drawRegisters() {
-  const step = run.steps[view.step], bands = heldBands();
-  const taken = new Set(view.side !== 'before' && step.taken ? step.taken.rows.filter(row => row.kind === 'register').map(row => row.place) : []);
-  const used = new Set(usedNames(step).map(placeOf));
-  const changed = new Set(view.side === 'after' ? step.registers.map(change => change.place) : view.side === 'between' ? taken : []);
-  for (const [register, kept] of registerRows) {
-    const cell = state.registers[register], chosen = view.chosen && view.chosen.kind === 'register' && view.chosen.place === register;
-    const { base, top } = cell.meaning, told = cell.isNull ? 'null' : `bounds ${hex(base)} to ${hex(top)}, base ${placeOfBase(base)}`;
-    const drawn = [cell.tag, cell.word, changed.has(register), taken.has(register), used.has(register), bands, told].join('\n');
-    kept.button.setAttribute('aria-pressed', String(Boolean(chosen)));
-    if (kept.drawn === drawn) continue;
-    kept.drawn = drawn;
-    fillRow(kept, cell, { changed: changed.has(register), taken: taken.has(register), used: used.has(register), bands, told });
+  function smallBar(cell, bands, label) {
+    const { base, top, address } = cell.meaning, inside = viewer.clippedTo(run.addressOf(run.used), base, top);
+    const bar = shape('svg', { width: BAR, height: 18, role: 'img', 'aria-label': label },
+      shape('path', { class: 'held-band', d: bands }), shape('path', { class: 'range', d: `M3 9H${BAR - 3}` }));
+    if (inside) {
+      const x = barPlace(inside[0]), width = Math.max(barPlace(inside[1]) - x, 3);
+      bar.append(shape('rect', { class: cell.tag ? 'bound' : 'bound off', x, y: 5.5, width, height: 7 }));
+    }
+    if (run.isInHeap(address)) bar.append(shape('path', { class: 'tick', d: `M${barPlace(run.granulesTo(address))} 1V17` }));
+    return bar;
   }
-  const first = view.present && byId('rows').querySelector('.new, .used'); // where a class's screen has not room for all
-  if (first) first.scrollIntoView({ block: 'nearest' });
-}
 
-function fillRow({ row, button }, cell, { changed, taken, used, bands, told }) {
-  const { address, base, top } = cell.meaning, hadFocus = document.activeElement === button;
-  row.className = [changed ? 'new' : null, used ? 'used' : null].filter(Boolean).join(' ');
-  row.dataset.tag = cell.tag ? 1 : 0;
-  row.dataset.word = cell.word;
-  const what = [used ? 'used' : null, taken && !cell.tag ? 'tag taken' : changed ? 'changed' : null].filter(Boolean).join(', ');
-  row.cells[0].replaceChildren(button, ' ', tagSign(cell.tag, taken && !cell.tag), what ? element('div', { class: 'newmark' }, what) : '');
-  row.cells[1].replaceChildren(...(cell.isNull ? [element('span', { class: 'muted' }, 'null')]
-    : [code(hex(address)), element('div', { class: 'bounds' }, hex(base), ' to ', hex(top)), smallBar(cell, bands, told)]));
-  if (hadFocus) button.focus({ preventScroll: true });
+  function makeRegisterRows() {
+    for (const register of [...run.written].sort((one, other) => one - other)) {
+      const row = element('tr', { 'data-register': register }, element('td'), element('td'));
+      const button = element('button', { 'data-choose': register, title: 'Show its bounds on the map and in the inspector' }, 'c' + register);
+      button.addEventListener('click', () => viewer.choose('register', register));
+      registerRows.set(register, { row, button, drawn: null });
+      byId('rows').append(row);
+    }
+    const others = run.written.size < 31 ? ' The other registers stay null.' : '';
+    const part = run.used < run.granules ? ', the part of the heap that is used' : '';
+    byId('idle').textContent = `c0 is always null.${others} The bars go from ${hex(run.base)} to ${hex(run.addressOf(run.used))}${part}: ` +
+      'shaded is what is held, thick the bounds, and the thin line is the address.';
+  }
+
+  function drawRegisters() {
+    const step = run.steps[view.step], bands = heldBands();
+    const taken = new Set(view.side !== 'before' && step.taken ? step.taken.rows.filter(row => row.kind === 'register').map(row => row.place) : []);
+    const used = new Set(viewer.usedNames(step).map(viewer.placeOf));
+    const changed = new Set(view.side === 'after' ? step.registers.map(change => change.place) : view.side === 'between' ? taken : []);
+    for (const [register, kept] of registerRows) {
+      const cell = state.registers[register], chosen = view.chosen && view.chosen.kind === 'register' && view.chosen.place === register;
+      const { base, top } = cell.meaning, told = cell.isNull ? 'null' : `bounds ${hex(base)} to ${hex(top)}, base ${viewer.placeOfBase(base)}`;
+      const drawn = [cell.tag, cell.word, changed.has(register), taken.has(register), used.has(register), bands, told].join('\n');
+      kept.button.setAttribute('aria-pressed', String(Boolean(chosen)));
+      if (kept.drawn === drawn) continue;
+      kept.drawn = drawn;
+      fillRow(kept, cell, { changed: changed.has(register), taken: taken.has(register), used: used.has(register), bands, told });
+    }
+    const first = view.present && byId('rows').querySelector('.new, .used'); // where a class's screen has not room for all
+    if (first) first.scrollIntoView({ block: 'nearest' });
+  }
+
+  function fillRow({ row, button }, cell, { changed, taken, used, bands, told }) {
+    const { address, base, top } = cell.meaning, hadFocus = document.activeElement === button;
+    row.className = [changed ? 'new' : null, used ? 'used' : null].filter(Boolean).join(' ');
+    row.dataset.tag = cell.tag ? 1 : 0;
+    row.dataset.word = cell.word;
+    const what = [used ? 'used' : null, taken && !cell.tag ? 'tag taken' : changed ? 'changed' : null].filter(Boolean).join(', ');
+    row.cells[0].replaceChildren(button, ' ', viewer.tagSign(cell.tag, taken && !cell.tag), what ? element('div', { class: 'newmark' }, what) : '');
+    row.cells[1].replaceChildren(...(cell.isNull ? [element('span', { class: 'muted' }, 'null')]
+      : [code(hex(address)), element('div', { class: 'bounds' }, hex(base), ' to ', hex(top)), smallBar(cell, bands, told)]));
+    if (hadFocus) button.focus({ preventScroll: true });
+  }
+
+  Object.assign(viewer, { makeRegisterRows, drawRegisters });
 }

@@ -1,40 +1,48 @@
 // The map as SVG with its styles inside, and the state that is shown as JSON, as files.
 
-const KEPT = ['fill', 'stroke', 'stroke-width', 'stroke-dasharray', 'stroke-linejoin', 'opacity', 'paint-order', 'text-anchor',
-  'font-family', 'font-size', 'font-weight'];
+import { SHAPES, element, hex, shape } from './dom.js';
 
-function save(name, type, text) {
-  const address = URL.createObjectURL(new Blob([text], { type }));
-  element('a', { href: address, download: name }).click();
-  setTimeout(() => URL.revokeObjectURL(address), 1000);
-}
+export function addSaving(viewer) {
+  const { run, view, byId, cursor: state } = viewer;
 
-// A copy in which each element has the style that the page gives it.
-function styledMap() {
-  const copy = map.box.cloneNode(true), copies = copy.querySelectorAll('*');
-  map.box.querySelectorAll('*').forEach((node, index) => {
-    const style = getComputedStyle(node);
-    for (const name of KEPT) copies[index].setAttribute(name, style.getPropertyValue(name));
-  });
-  copy.querySelectorAll('.cursor').forEach(node => node.remove());
-  const paper = getComputedStyle(byId('stage')).backgroundColor;
-  copy.setAttribute('xmlns', SHAPES);
-  copy.prepend(shape('title', {}, `${document.title}, step ${view.step}: ${run.steps[view.step].text}`),
-    shape('rect', { width: '100%', height: '100%', fill: paper }));
-  return new XMLSerializer().serializeToString(copy);
-}
+  const KEPT = ['fill', 'stroke', 'stroke-width', 'stroke-dasharray', 'stroke-linejoin', 'opacity', 'paint-order', 'text-anchor',
+    'font-family', 'font-size', 'font-weight'];
 
-// The registers and granules that aren't null, each with its meaning, the blocks and the dirty pages, by rising place.
-function shownState() {
-  const step = run.steps[view.step], cells = (list, name) => list.flatMap((cell, place) => (cell.isNull ? [] : [{ [name]: place, tag: cell.tag,
-    word: cell.word, address: hex(cell.meaning.address), base: hex(cell.meaning.base), top: hex(cell.meaning.top) }]));
-  return { heap: { base: hex(run.base), pages: run.pages }, step: view.step, line: step.line, text: step.text, reply: step.reply,
-    side: view.side, open: state.open, registers: cells(state.registers, 'r'), granules: cells(state.granules, 'i'),
-    blocks: sortedBlocks().map(block => ({ base: hex(block.base), top: hex(block.top), state: block.state })),
-    dirty: [...state.dirty].sort((one, other) => one - other) };
-}
+  function save(name, type, text) {
+    const address = URL.createObjectURL(new Blob([text], { type }));
+    element('a', { href: address, download: name }).click();
+    setTimeout(() => URL.revokeObjectURL(address), 1000);
+  }
 
-function listenToSave() {
-  byId('save-map').onclick = () => save(`map_${view.step}.svg`, 'image/svg+xml', styledMap());
-  byId('save-state').onclick = () => save(`state_${view.step}.json`, 'application/json', JSON.stringify(shownState(), null, 1) + '\n');
+  // A copy in which each element has the style that the page gives it.
+  function styledMap() {
+    const copy = viewer.map.box.cloneNode(true), copies = copy.querySelectorAll('*');
+    viewer.map.box.querySelectorAll('*').forEach((node, index) => {
+      const style = getComputedStyle(node);
+      for (const name of KEPT) copies[index].setAttribute(name, style.getPropertyValue(name));
+    });
+    copy.querySelectorAll('.cursor').forEach(node => node.remove());
+    const paper = getComputedStyle(byId('stage')).backgroundColor;
+    copy.setAttribute('xmlns', SHAPES);
+    copy.prepend(shape('title', {}, `${document.title}, step ${view.step}: ${run.steps[view.step].text}`),
+      shape('rect', { width: '100%', height: '100%', fill: paper }));
+    return new XMLSerializer().serializeToString(copy);
+  }
+
+  // The registers and granules that aren't null, each with its meaning, the blocks and the dirty pages, by rising place.
+  function shownState() {
+    const step = run.steps[view.step], cells = (list, name) => list.flatMap((cell, place) => (cell.isNull ? [] : [{ [name]: place, tag: cell.tag,
+      word: cell.word, address: hex(cell.meaning.address), base: hex(cell.meaning.base), top: hex(cell.meaning.top) }]));
+    return { heap: { base: hex(run.base), pages: run.pages }, step: view.step, line: step.line, text: step.text, reply: step.reply,
+      side: view.side, open: state.open, registers: cells(state.registers, 'r'), granules: cells(state.granules, 'i'),
+      blocks: viewer.sortedBlocks().map(block => ({ base: hex(block.base), top: hex(block.top), state: block.state })),
+      dirty: [...state.dirty].sort((one, other) => one - other) };
+  }
+
+  function listenToSave() {
+    byId('save-map').onclick = () => save(`map_${view.step}.svg`, 'image/svg+xml', styledMap());
+    byId('save-state').onclick = () => save(`state_${view.step}.json`, 'application/json', JSON.stringify(shownState(), null, 1) + '\n');
+  }
+
+  Object.assign(viewer, { listenToSave });
 }

@@ -1,7 +1,7 @@
 // The trace's own text: its lines as they were written, and its comments beside the commands that follow them.
 
 // Bytes that are no UTF-8 become U+FFFD, and control characters are shown by their pictures.
-function textOf(encoded) {
+export function textOf(encoded) {
   const bytes = Uint8Array.from(atob(encoded), character => character.charCodeAt(0));
   const text = new TextDecoder('utf-8', { ignoreBOM: true }).decode(bytes);
   const pictureOf = control => String.fromCharCode(0x2400 + control.charCodeAt(0));
@@ -9,10 +9,10 @@ function textOf(encoded) {
 }
 
 const withoutBlanks = text => text.replace(/^[ \t\r]+|[ \t\r]+$/g, '');
-const wordsOf = text => text.split(/[ \t\r]+/).filter(word => word !== '');
+export const wordsOf = text => text.split(/[ \t\r]+/).filter(word => word !== '');
 
 // Lines that count have their text and the notes before them. Comments on lines that follow each other are one note.
-function readTrace(text) {
+export function readTrace(text) {
   const pieces = text.split('\n');
   if (pieces[pieces.length - 1] === '') pieces.pop();
   const own = { counted: [], after: [], title: null };

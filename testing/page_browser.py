@@ -14,6 +14,11 @@ KEYS = {"ArrowLeft": 37, "ArrowUp": 38, "ArrowRight": 39, "ArrowDown": 40, "Home
 OPTIONS = ["--headless", "--no-sandbox", "--disable-gpu", "--remote-debugging-pipe", "--no-first-run", "--disable-background-networking",
            "--disable-component-update", "--disable-dev-shm-usage", "--force-color-profile=srgb", "--hide-scrollbars"]
 SECONDS = 60
+READY = "document.readyState === 'complete' && (!document.querySelector('#fault').hidden || document.querySelector('#main')?.dataset.compared !== undefined)"
+# What the parts of a viewer have for each other is had by its name.
+EXPOSE = """for (const name of Object.keys(heapViewer ?? {})) {
+  if (!Object.hasOwn(globalThis, name)) Object.defineProperty(globalThis, name, { get: () => heapViewer[name], configurable: true });
+}"""
 
 
 def program():
@@ -101,9 +106,8 @@ class Browser:
         self.call("Page.navigate", url=address + at)
         until = time.monotonic() + SECONDS
         while time.monotonic() < until:
-            if self.run(f"document.readyState === 'complete' && location.href.split('#')[0] === {json.dumps(address)} && "
-                        "(!document.querySelector('#fault').hidden || 'compared' in document.querySelector('#main').dataset)"):
-                return
+            if self.run(f"location.href.split('#')[0] === {json.dumps(address)} && {READY}"):
+                return self.run(EXPOSE)
             time.sleep(0.02)
         raise RuntimeError(f"{path} is not ready after {SECONDS} s")
 

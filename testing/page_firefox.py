@@ -88,7 +88,7 @@ class Firefox:
         self.call("WebDriver:Navigate", url=pathlib.Path(path).resolve().as_uri())
         until = time.monotonic() + SECONDS
         while time.monotonic() < until:
-            if self.run("return !document.querySelector('#fault').hidden || 'compared' in document.querySelector('#main').dataset"):
+            if self.run("return !document.querySelector('#fault').hidden || document.querySelector('#main')?.dataset.compared !== undefined"):
                 return
             time.sleep(0.05)
         raise RuntimeError(f"{path} is not ready after {SECONDS} s")

@@ -193,7 +193,7 @@ IN_SIGHT = r"""JSON.stringify(['.reply', '.note'].map(kind => [...document.query
 
 NOTES = "JSON.stringify([...document.querySelectorAll('#lines .note')].map(note => note.textContent))"
 HARM = """JSON.stringify([window.evil ?? null, document.images.length, document.scripts.length,
-  document.querySelectorAll('#title *, #lines :not(ol, li, p, div, button, span, code), #what :not(p, code, b), a, iframe, plaintext').length])"""
+  document.querySelectorAll('#title *, #lines :not(ol, li, p, div, button, span, code), #what :not(p, code, b), a:not(#whole), iframe, plaintext').length])"""
 NO_HARM = "[null,0,3,0]"
 
 PICTURES = [

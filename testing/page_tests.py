@@ -8,6 +8,7 @@ import shutil
 import subprocess
 import time
 
+import page_browser
 import page_long
 import page_look
 import page_model
@@ -370,8 +371,9 @@ class Tests(page_long.LongTests):
 
     def open_again(self):
         until = time.monotonic() + 20
-        while time.monotonic() < until and not self.browser.run("document.readyState === 'complete' && 'compared' in document.querySelector('#main').dataset"):
+        while time.monotonic() < until and not self.browser.run(page_browser.READY):
             time.sleep(0.02)
+        self.browser.run(page_browser.EXPOSE)
 
     def letters(self, root):
         """The keys that are letters and signs, the search, and the table of keys."""
@@ -479,7 +481,7 @@ class Tests(page_long.LongTests):
         path = self.scratch / "faulty.html"
         path.write_text(head + 'id="states">' + "\n".join(lines).replace("<", "\\u003c") + "</script>" + tail)
         self.open(path)
-        self.check(f"faulty data, {name}: the page says so", self.browser.run("byId('fault').hidden"), not is_told)
+        self.check(f"faulty data, {name}: the page says so", self.browser.run("document.querySelector('#fault').hidden"), not is_told)
         self.check(f"faulty data, {name}: and no more comes of it", (self.browser.noise(), self.browser.run(page_look.HARM)), ([], page_look.NO_HARM))
 
     # What ./heap_page answers
@@ -580,6 +582,57 @@ class Tests(page_long.LongTests):
         self.check("on paper", len(self.browser.call("Page.printToPDF", printBackground=True)["data"]) > 10000, True)
         self.no_noise("on paper")
 
+    def modules(self, root):
+        """./heap_page makes one script of the modules, so nothing else sees what they import: each name is exported there and used here,
+        no two modules have a name in common, and each stands behind those that it imports."""
+        parts = re.search(r"^parts=\((.*?)\)", (root / "heap_page").read_text(), re.M | re.S)[1].split()
+        texts = {part: (root / f"page/{part}.js").read_text() for part in parts}
+        self.check("the modules are those in page/", sorted(parts), sorted(path.stem for path in (root / "page").glob("*.js")))
+        exported = {part: set(re.findall(r"^export (?:const|let|function|class) (\w+)", text, re.M)) for part, text in texts.items()}
+        owned = [name for text in texts.values() for name in re.findall(r"^(?:export )?(?:const|let|function|class) (\w+)", text, re.M)]
+        self.check("no two modules have a name in common", sorted({name for name in owned if owned.count(name) > 1}), [])
+        everywhere = {name: part for part, names in exported.items() for name in names}
+        for part, text in texts.items():
+            imports = re.findall(r"^import \{ (.*?) \} from './(\w+)\.js';$", text, re.M)
+            self.check(f"{part}: it imports no other way", text.count("\nimport "), len(imports))
+            named = {name: other for names, other in imports for name in names.split(", ")}
+            self.check(f"{part}: what it imports is exported there, by modules before it", [name for name, other in named.items() if name not in exported[other]
+                       or parts.index(other) > parts.index(part)], [])
+            body = re.sub(r"^import .*|//.*|'(?:[^'\\\n]|\\.)*'", "", text, flags=re.M)
+            used = {name for name in re.findall(r"(?<![.\w])[A-Za-z_]\w*", body) if name in everywhere and everywhere[name] != part}
+            called = {name for name in used if re.search(rf"(?<![.\w]){name}\(", body)}
+            own = {name for name in called if re.search(rf"(?:const|let|function|[{{,\[(]) ?{name}\b(?!\()", body)}
+            self.check(f"{part}: it uses what it imports, and imports what it calls", [sorted(set(named) - used), sorted(called - set(named) - own)], [[], []])
+
+    def second(self, root):
+        """Another run in the place of the first: nothing is left of that, and all is as on a page of its own."""
+        run, check, names = self.browser.run, self.check, ("lesson_an_epoch_with_a_store", "lesson_malloc_sweeps_when_full")
+        raws = [(self.root / "examples" / name / "stdin").read_bytes() for name in names]
+        path, model = self.page(root, raws[0], "first"), page_model.Run(raws[1], self.data(raws[1]))
+        self.open(self.page(root, raws[1], "alone"))
+        self.browser.key("End")
+        alone = self.look()
+        self.open(path)
+        run("go(5); toggleAsk(); togglePresent(); play(); window.closed_steps = 0; const first = heapViewer; first.go = () => closed_steps++; first.close()")
+        check("nothing is left of the first", [run("document.querySelector('#root').childNodes.length"), run("document.body.className")], [0, ""])
+        for key in ("ArrowRight", "p", "a", "n", "w"):
+            self.browser.key(key)
+        run("dispatchEvent(new Event('resize'))")
+        time.sleep(2)
+        check("it does nothing more", [run("closed_steps"), run("document.body.className")], [0, ""])
+        run(f"window.other = parseRun({json.dumps(raws[1].decode())}, {json.dumps(self.data(raws[1]))}); history.replaceState(null, '', '#');"
+            "heapViewer = mount(document.querySelector('#root'), new Cursor(other)); void 0")
+        self.browser.run(page_browser.EXPOSE)
+        expected = page_look.Expected(model, check)
+        run("byId('block-details').open = true")
+        for index in range(len(model.values)):
+            if index:
+                self.browser.key("ArrowRight")
+            expected.compare(f"the second run, step {index}", index, self.look())
+        run("byId('block-details').open = false")
+        check("it is as on a page of its own", {**self.look(), "table": []}, {**alone, "table": []})
+        self.no_noise("second")
+
     def kept_pages(self, root):
         """The pages in docs/lessons are those that ./heap_page makes, and their index leads to each of them."""
         told = subprocess.run([root / "docs/lessons/make", "--check"], capture_output=True, text=True)
@@ -654,7 +707,7 @@ class Tests(page_long.LongTests):
             self.lesson(self.root, f"random_{seed}", page_model.random_trace(60, 1, seed))
         for test in (self.words, self.tries, self.controls, self.present, self.ask, self.addresses, self.letters, self.typed, self.colours, self.hostile,
                      self.quick, self.rows, self.print_all, self.dense, self.find, self.history, self.compared, self.pointers, self.band, self.files,
-                     self.handout, self.kept_pages, self.embedded, self.phone, self.sideways, self.looks):
+                     self.handout, self.modules, self.second, self.kept_pages, self.embedded, self.phone, self.sideways, self.looks):
             test(self.root)
         self.answers()
         print(f"tried: the page in a browser, with {len(self.lessons())} lessons, {len(page_model.TRACES)} traces of edges and 6 random ones")

@@ -1,0 +1,123 @@
+// The one state that moves along a run, forward and backward.
+
+import { decode, bitsOf, NULL_WORD } from './codec.js';
+import { hex, plural } from './dom.js';
+
+const meanings = new Map(); // of words: many cells hold the same one
+
+export class Cell {
+  constructor(entry) {
+    this.tag = entry.tag;
+    this.word = entry.word;
+    this.told = entry;
+  }
+
+  get meaning() {
+    if (!meanings.has(this.word)) meanings.set(this.word, decode(bitsOf(this.word)));
+    return meanings.get(this.word);
+  }
+
+  get isNull() { return !this.tag && this.word === NULL_WORD; }
+}
+
+export const NULL_CELL = new Cell({ tag: false, word: NULL_WORD });
+export const STATES = ['live', 'waiting', 'painted'];
+
+export const pageOf = granule => Math.floor(granule / 256);
+export const rangeOf = block => `${hex(block.base)} to ${hex(block.top)}`;
+// A block by the malloc that it came from, as it was asked for.
+export const bornAs = ({ line, size }) => `line ${line} (${plural(size, 'byte')})`;
+export const nameOf = block => bornAs(block.born);
+export const stateName = name => (name === 'waiting' ? 'held' : name); // what waits in quarantine is held
+
+// The block that is the reason why a tag was taken: the one that was due and has the word's base.
+export function reasonOf(taken, row) {
+  const { base } = row.cell.meaning;
+  let low = 0, high = taken.due.length;
+  while (low < high) {
+    const middle = (low + high) >> 1;
+    if (taken.due[middle].top <= base) low = middle + 1; else high = middle;
+  }
+  const block = taken.due[low];
+  return block && block.base <= base ? block : null;
+}
+
+// A step of a run (run.js) by what it changed: the state before the first step has nothing but an empty heap.
+export class Cursor {
+  constructor(run) {
+    this.run = run;
+    this.index = 0;
+    this.registers = Array(32).fill(NULL_CELL);
+    this.granules = Array(run.granules).fill(NULL_CELL);
+    this.owners = Array(run.granules).fill(null); // of each granule the block that has it
+    this.blocks = new Map();
+    this.open = false;
+    this.dirty = new Set();
+    this.touched = { registers: new Set(), granules: new Set(), blocks: new Set() }; // what has changed since it was drawn
+    this.between = null; // while the state is that within a malloc: what its pass took, and what its blocks were before
+  }
+
+  ownerOf(address) {
+    return this.run.isInHeap(address) ? this.owners[Math.floor(this.run.granulesTo(address))] : null;
+  }
+
+  rowAt(kind, place) {
+    return { kind, place, name: this.run.namesOfPlaces[kind](place), cell: this[kind + 's'][place] };
+  }
+
+  // The words that are tagged, registers first.
+  taggedRows() {
+    const places = kind => [...this[kind + 's'].keys()].filter(place => this[kind + 's'][place].tag);
+    return ['register', 'granule'].flatMap(kind => places(kind).map(place => this.rowAt(kind, place)));
+  }
+
+  // The pages at which the end of an epoch looks: those that are dirty then.
+  lookedAt(step) {
+    return step.words[0] === 'end' && step.taken ? [...this.dirty].sort((one, other) => one - other) : [];
+  }
+
+  setCell({ kind, place }, cell) {
+    this[kind + 's'][place] = cell;
+    this.touched[kind + 's'].add(place);
+  }
+
+  setBlock(block, now, born = block.born) {
+    block.state = now;
+    block.born = born;
+    if (now === null) this.blocks.delete(block.key); else this.blocks.set(block.key, block);
+    this.owners.fill(now === null ? null : block, block.start, block.end);
+    this.touched.blocks.add(block);
+  }
+
+  // Of a malloc that swept, the state between: the pass has taken its tags and set its blocks free, and no more has changed.
+  enterBetween(step) {
+    this.between = { taken: step.taken, were: step.taken.due.map(block => block.state) };
+    for (const row of step.taken.rows) this.setCell(row, new Cell({ tag: false, word: row.cell.word }));
+    for (const block of step.taken.due) this.setBlock(block, null);
+  }
+
+  leaveBetween() {
+    const { taken, were } = this.between;
+    taken.due.forEach((block, index) => this.setBlock(block, were[index]));
+    for (const row of taken.rows) this.setCell(row, row.cell);
+    this.between = null;
+  }
+
+  apply(step, side) {
+    for (const kind of ['register', 'granule']) {
+      for (const change of step[kind + 's']) this.setCell({ kind, place: change.place }, change[side]);
+    }
+    // What ended comes first in the data, and so last on the way back.
+    for (const { block, born, [side]: of } of side === 'now' ? step.blocks : [...step.blocks].reverse()) this.setBlock(block, of, born[side]);
+    for (const page of step.cleaned) this.dirty[side === 'now' ? 'delete' : 'add'](page);
+    if (step.dirtied !== null) this.dirty[side === 'now' ? 'add' : 'delete'](step.dirtied);
+  }
+
+  moveTo(index) {
+    const { steps } = this.run;
+    if (this.between) this.leaveBetween();
+    while (this.index < index) this.apply(steps[++this.index], 'now');
+    while (this.index > index) this.apply(steps[this.index--], 'was');
+    this.open = steps[index].open;
+  }
+}

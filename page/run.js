@@ -1,0 +1,153 @@
+// A run: what each command of a trace changed, as the data tells it, with the trace's own lines and notes.
+
+import { Cell, Cursor, STATES, pageOf } from './cursor.js';
+import { hex } from './dom.js';
+import { readTrace, wordsOf } from './trace.js';
+
+const CROWD = 2000; // of more blocks and written granules a map is a dense one (dense.js)
+
+function need(holds, message) {
+  if (!holds) throw new Error(message);
+}
+
+// The heap that all steps are about. Places in it are counted in granules from its base on.
+class Run {
+  constructor(heap, own) {
+    need(Number.isInteger(heap.pages) && heap.pages > 0 && heap.pages <= 1024, 'the heap needs its pages');
+    need(own.counted.length > 0, 'the trace has no heap line');
+    const [first] = own.counted;
+    Object.assign(this, { own, base: BigInt(heap.base), pages: heap.pages, granules: heap.pages * 256, known: new Map(), end: null });
+    this.namesOfPlaces = { register: place => 'c' + place, granule: place => hex(this.addressOf(place)) };
+    this.steps = [{ ...first, words: ['heap'], reply: '', registers: [], granules: [], blocks: [], taken: null, open: false, dirtied: null,
+      cleaned: [] }];
+  }
+
+  addressOf(granule) { return this.base + 16n * BigInt(granule); }
+
+  heapEnd() { return this.addressOf(this.granules); }
+
+  isInHeap(address) { return this.base <= address && address < this.heapEnd(); }
+
+  granulesTo(address) { return Number(address - this.base) / 16; } // only for addresses near the heap
+
+  changesOf(entries, name, least, end) {
+    need(Array.isArray(entries), 'a list is missing');
+    return entries.map(entry => {
+      need(Number.isInteger(entry[name]) && entry[name] >= least && entry[name] < end, 'a register or a granule that there is not');
+      need(typeof entry.tag === 'boolean' && /^[0-9a-f]{32}$/.test(entry.word), 'a cell needs its tag and its word');
+      return { place: entry[name], now: new Cell(entry), was: null };
+    });
+  }
+
+  blockChangesOf(entries, born) {
+    need(Array.isArray(entries), 'a list is missing');
+    return entries.map(entry => {
+      const key = `${entry.base} ${entry.top}`, now = entry.state === 'free' ? null : entry.state;
+      need(now === null || STATES.includes(now), 'a block has an unknown state');
+      if (!this.known.has(key)) this.known.set(key, this.newBlock(key, BigInt(entry.base), BigInt(entry.top)));
+      const block = this.known.get(key);
+      need(block.born !== null || now === 'live' && born !== null, 'a block has no malloc');
+      return { block, now, was: block.state, born: { now: now === 'live' ? born : block.born, was: block.born } };
+    });
+  }
+
+  newBlock(key, base, top) {
+    need(this.isInHeap(base) && base < top && top <= this.heapEnd(), 'a block lies outside of the heap');
+    return { key, base, top, start: this.granulesTo(base), end: this.granulesTo(top), state: null, born: null };
+  }
+}
+
+// A step from its line of the data and of the trace, in the state before it, in which the cursor is.
+function addStep(run, cursor, value, own) {
+  const words = String(value.text).split(' ');
+  need(own && own.line === value.line && wordsOf(own.text)[0] === words[0], 'this is not the command of the trace');
+  const step = { line: own.line, text: own.text, notes: own.notes, words, reply: String(value.reply), taken: null,
+    registers: run.changesOf(value.registers, 'r', 1, 32), granules: run.changesOf(value.granules, 'i', 0, run.granules),
+    blocks: run.blockChangesOf(value.blocks, words[0] === 'malloc' ? { line: own.line, size: BigInt(wordsOf(own.text)[2]) } : null),
+    open: cursor.open, dirtied: null, cleaned: [] };
+  if (!step.reply.startsWith('trap')) markPages(run, cursor, step);
+  for (const change of step.registers) change.was = cursor.registers[change.place];
+  for (const change of step.granules) change.was = cursor.granules[change.place];
+  if (value.taken) step.taken = takenOf(cursor, value.taken, step);
+  run.steps.push(step);
+  cursor.moveTo(run.steps.length - 1);
+}
+
+// What a command that isn't trapped does to the epoch and to dirty pages: a store of a tagged word makes its page dirty, and a
+// begin makes all of them clean.
+function markPages(run, cursor, step) {
+  const [name, authority, source] = step.words, cell = register => cursor.registers[Number(register.slice(1))];
+  if (name === 'begin' || name === 'end') step.open = name === 'begin';
+  if (name === 'begin') step.cleaned = [...cursor.dirty];
+  if (name !== 'storecap' || !cell(source).tag) return;
+  const page = pageOf(run.granulesTo(cell(authority).meaning.address));
+  if (!cursor.dirty.has(page)) step.dirtied = page;
+}
+
+// The tags that a pass took, each with its cell before; and the blocks that were due, in quarantine before, by rising start.
+function takenOf(cursor, taken, step) {
+  const rows = (kind, places) => places.map(place => {
+    need(cursor[kind + 's'][place] !== undefined, 'a tag was taken from a place that there is not');
+    return cursor.rowAt(kind, place);
+  });
+  const due = step.blocks.filter(change => change.was !== null && change.was !== 'live').map(change => change.block);
+  return { due: due.sort((one, other) => one.start - other.start), born: new Map(due.map(block => [block, block.born])),
+    rows: [...rows('register', taken.registers), ...rows('granule', taken.granules)] };
+}
+
+// The live and held bytes and the tags after each step, from what each changed.
+function sumsOf(run) {
+  const sums = { live: [0], held: [0], tags: [0] };
+  let live = 0, held = 0, tags = 0;
+  for (const step of run.steps.slice(1)) {
+    for (const { block, was, now } of step.blocks) {
+      const bytes = 16 * (block.end - block.start);
+      live += bytes * ((now === 'live') - (was === 'live'));
+      held += bytes * ((now !== null && now !== 'live') - (was !== null && was !== 'live'));
+    }
+    for (const { was, now } of [...step.registers, ...step.granules]) tags += now.tag - was.tag;
+    sums.live.push(live);
+    sums.held.push(held);
+    sums.tags.push(tags);
+  }
+  return sums;
+}
+
+// What does not change from step to step.
+function summarize(run) {
+  const { steps } = run;
+  const most = (list, measureOf) => list.reduce((greatest, each) => Math.max(greatest, measureOf(each)), 0);
+  run.sums = sumsOf(run);
+  run.written = new Set(steps.flatMap(step => step.registers.map(change => change.place)));
+  run.most = most(steps, step => (step.taken ? step.taken.rows.filter(row => row.kind === 'register').length : 0));
+  run.reach = most([...run.known.values()], block => block.end) || 4;
+  run.used = Math.min(run.granules, Math.max(16, 2 ** Math.ceil(Math.log2(run.reach)))); // what the small bars show
+  run.columns = run.reach > 1024 ? 64 : run.reach > 64 ? 32 : 16;
+  run.isDense = run.known.size + new Set(steps.flatMap(step => step.granules.map(change => change.place))).size > CROWD;
+}
+
+// The run of a trace, from its text and from the data of ./heap_states: lines of JSON, of which the first tells the heap, which is
+// step 0, and the last the sums at the end. A cursor that was at the end is at its beginning. What can't be read is an Error.
+export function parseRun(text, data) {
+  const own = readTrace(text);
+  let run = null, cursor = null;
+  data.split('\n').filter(line => line !== '').forEach((line, number) => {
+    try {
+      const value = JSON.parse(line);
+      need((number === 0) === (value.heap !== undefined), 'the heap is the first line, and no other');
+      need(run === null || run.end === null, 'nothing comes after the end');
+      if (value.heap) {
+        run = new Run(value.heap, own);
+        cursor = new Cursor(run);
+      } else if (value.end) run.end = value.end;
+      else addStep(run, cursor, value, own.counted[run.steps.length]);
+    } catch (problem) {
+      throw new Error(`Line ${number + 1} of the data can't be read: ${problem.message}.`);
+    }
+  });
+  need(run !== null && run.end !== null, 'The data is not whole.');
+  need(run.steps.length === own.counted.length, 'The data has not as many commands as the trace.');
+  cursor.moveTo(0);
+  summarize(run);
+  return run;
+}
