@@ -1,6 +1,8 @@
 // A capability word: fields, mantissas, window and bounds, on plain integers, as docs/DEFINITIONS.md says them.
 
+/** @param {number} exponent */
 export const power = exponent => 1n << BigInt(exponent);
+/** @param {bigint} number @param {bigint} by */
 export const modulo = (number, by) => ((number % by) + by) % by;
 export const SPACE = power(64);
 export const NULL_METADATA = 0x00001ffffc018004n;
@@ -18,23 +20,23 @@ export function fieldsOf(bits) {
 }
 
 // What the bits mean at an address, which is their own unless another one is tried.
+/** @param {bigint} bits @param {bigint} address */
 export function decode(bits, address = bits % SPACE) {
-  const word = { address, ...fieldsOf(bits) };
-  const inner = word.internal === 1n;
-  const told = word.topField % 8n * 8n + word.baseField % 8n;
-  const exponent = word.exponent = inner ? Number(told < 52n ? told : 52n) : 0;
-  const base = word.baseMantissa = inner ? word.baseField - word.baseField % 8n : word.baseField;
-  const topLow = inner ? word.topField - word.topField % 8n : word.topField;
-  word.carry = topLow < base % power(12) ? 1n : 0n;
-  word.topMantissa = (base / power(12) + word.carry + word.internal) % 4n * power(12) + topLow;
-  word.size = power(exponent + 14);
-  word.low = address - modulo(address - modulo(base / power(11) - 1n, 8n) * power(exponent + 11), word.size);
-  const place = mantissa => word.low + modulo(mantissa * power(exponent) - word.low, word.size);
-  word.base = modulo(place(base), SPACE);
-  word.top = modulo(place(word.topMantissa), power(65));
-  if (exponent < 51 && modulo(word.top / power(63) - word.base / power(63), 4n) > 1n) word.top ^= SPACE;
-  return word;
+  const fields = fieldsOf(bits), { topField, baseField } = fields, inner = fields.internal === 1n;
+  const told = topField % 8n * 8n + baseField % 8n;
+  const exponent = inner ? Number(told < 52n ? told : 52n) : 0;
+  const baseMantissa = inner ? baseField - baseField % 8n : baseField;
+  const topLow = inner ? topField - topField % 8n : topField;
+  const carry = topLow < baseMantissa % power(12) ? 1n : 0n;
+  const topMantissa = (baseMantissa / power(12) + carry + fields.internal) % 4n * power(12) + topLow;
+  const size = power(exponent + 14);
+  const low = address - modulo(address - modulo(baseMantissa / power(11) - 1n, 8n) * power(exponent + 11), size);
+  const place = mantissa => low + modulo(mantissa * power(exponent) - low, size);
+  const base = modulo(place(baseMantissa), SPACE), top = modulo(place(topMantissa), power(65));
+  const isFar = exponent < 51 && modulo(top / power(63) - base / power(63), 4n) > 1n;
+  return { address, ...fields, exponent, carry, baseMantissa, topMantissa, size, low, base, top: isFar ? top ^ SPACE : top };
 }
 
 // Whether the word keeps its bounds with another address: the window may wrap around the address space.
+/** @param {ReturnType<typeof decode>} word @param {bigint} address */
 export const keepsBounds = (word, address) => word.exponent >= 50 || modulo(address - word.low, SPACE) < word.size;

@@ -3,9 +3,21 @@
 import { decode, bitsOf, NULL_WORD } from './codec.js';
 import { hex, plural } from './dom.js';
 
+/**
+ * A block of the heap. Its bytes go from `base` up to `top`, its granules from `start` up to `end`; while it is there it has a state,
+ * and the malloc that it came from.
+ * @typedef {{ key: string, base: bigint, top: bigint, start: number, end: number, state: string | null, born: Birth | null }} Block
+ * @typedef {{ line: number, size: bigint }} Birth
+ * @typedef {'register' | 'granule'} Kind
+ * A register or a granule whose tag a pass took, or that is tagged, with what it held.
+ * @typedef {{ kind: Kind, place: number, name: string, cell: Cell }} Row
+ */
+
 const meanings = new Map(); // of words: many cells hold the same one
 
+// What a register or a granule holds, as an entry of the data tells it.
 export class Cell {
+  /** @param {{ tag: boolean, word: string }} entry */
   constructor(entry) {
     this.tag = entry.tag;
     this.word = entry.word;
@@ -42,25 +54,33 @@ export function reasonOf(taken, row) {
   return block && block.base <= base ? block : null;
 }
 
-// A step of a run (run.js) by what it changed: the state before the first step has nothing but an empty heap.
+// It begins at step 0, an empty heap. A run has one cursor at a time, since a block's state stands in the block.
 export class Cursor {
+  /** @param {import('./run.js').Run} run */
   constructor(run) {
     this.run = run;
     this.index = 0;
+    /** @type {Cell[]} */
     this.registers = Array(32).fill(NULL_CELL);
+    /** @type {Cell[]} */
     this.granules = Array(run.granules).fill(NULL_CELL);
-    this.owners = Array(run.granules).fill(null); // of each granule the block that has it
+    /** @type {(Block | null)[]} of each granule the block that has it */
+    this.owners = Array(run.granules).fill(null);
+    /** @type {Map<string, Block>} */
     this.blocks = new Map();
     this.open = false;
+    /** @type {Set<number>} */
     this.dirty = new Set();
     this.touched = { registers: new Set(), granules: new Set(), blocks: new Set() }; // what has changed since it was drawn
     this.between = null; // while the state is that within a malloc: what its pass took, and what its blocks were before
   }
 
+  /** @param {bigint} address */
   ownerOf(address) {
     return this.run.isInHeap(address) ? this.owners[Math.floor(this.run.granulesTo(address))] : null;
   }
 
+  /** @param {Kind} kind @param {number} place @returns {Row} */
   rowAt(kind, place) {
     return { kind, place, name: this.run.namesOfPlaces[kind](place), cell: this[kind + 's'][place] };
   }
@@ -68,7 +88,8 @@ export class Cursor {
   // The words that are tagged, registers first.
   taggedRows() {
     const places = kind => [...this[kind + 's'].keys()].filter(place => this[kind + 's'][place].tag);
-    return ['register', 'granule'].flatMap(kind => places(kind).map(place => this.rowAt(kind, place)));
+    const kinds = /** @type {Kind[]} */ (['register', 'granule']);
+    return kinds.flatMap(kind => places(kind).map(place => this.rowAt(kind, place)));
   }
 
   // The pages at which the end of an epoch looks: those that are dirty then.
@@ -81,6 +102,7 @@ export class Cursor {
     this.touched[kind + 's'].add(place);
   }
 
+  /** @param {Block} block @param {string | null} now @param {Birth | null} born */
   setBlock(block, now, born = block.born) {
     block.state = now;
     block.born = born;
@@ -103,6 +125,7 @@ export class Cursor {
     this.between = null;
   }
 
+  /** @param {import('./run.js').Step} step @param {'now' | 'was'} side */
   apply(step, side) {
     for (const kind of ['register', 'granule']) {
       for (const change of step[kind + 's']) this.setCell({ kind, place: change.place }, change[side]);
@@ -113,6 +136,7 @@ export class Cursor {
     if (step.dirtied !== null) this.dirty[side === 'now' ? 'add' : 'delete'](step.dirtied);
   }
 
+  /** @param {number} index */
   moveTo(index) {
     const { steps } = this.run;
     if (this.between) this.leaveBetween();

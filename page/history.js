@@ -42,7 +42,7 @@ export function addHistory(viewer) {
   }
 
   function drawHistory() {
-    const focused = document.activeElement && document.activeElement.dataset.history;
+    const focused = /** @type {HTMLElement | null} */ (document.activeElement)?.dataset.history;
     byId('history').replaceChildren(...subjectsShown().map(historyOf));
     const again = focused && byId('history').querySelector(`[data-history="${focused}"]`);
     if (again) again.focus({ preventScroll: true });

@@ -35,7 +35,7 @@ const viewOf = run => ({ step: 0, side: 'after', chosen: null, follow: true, pro
 
 // Says above all else what is wrong; what is shown below stays as it is.
 export function tellFault(message) {
-  const fault = document.querySelector('#fault'), paragraph = document.createElement('p');
+  const fault = /** @type {HTMLElement} */ (document.querySelector('#fault')), paragraph = document.createElement('p');
   paragraph.textContent = message;
   fault.hidden = false;
   fault.append(paragraph);
@@ -45,7 +45,7 @@ export function tellFault(message) {
 // document has one at a time: it takes the keys, and the address.
 export function mount(root, cursor) {
   const { run } = cursor, ending = new AbortController(), byId = id => root.querySelector('#' + id);
-  root.replaceChildren(document.querySelector('#page').content.cloneNode(true));
+  root.replaceChildren(/** @type {HTMLTemplateElement} */ (document.querySelector('#page')).content.cloneNode(true));
   // Whether a key is for a field, for the table of keys, or for the browser.
   const isTyped = event => event.ctrlKey || event.metaKey || event.altKey || byId('keys').open ||
     event.target.matches('input:not([type=checkbox], [type=range]), select');

@@ -9,7 +9,15 @@ export const WHOLE = 400; // so many rows are no long list
 export class Pieces {
   // The box that scrolls, its child that has the pieces, an empty piece, and the row of an item; and all lists of the page.
   constructor(box, holder, makePiece, rowOf, lists) {
-    Object.assign(this, { box, holder, makePiece, rowOf, heads: [...holder.children], pieces: [], items: [], kept: null, rowHeight: 46 });
+    this.box = box;
+    this.holder = holder;
+    this.makePiece = makePiece;
+    this.rowOf = rowOf;
+    this.heads = [...holder.children];
+    this.pieces = [];
+    this.items = [];
+    this.kept = null;
+    this.rowHeight = 46;
     box.addEventListener('scroll', () => this.refill());
     lists.push(this);
   }

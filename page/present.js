@@ -10,7 +10,8 @@ export function addPresenting(viewer) {
     view.present = !view.present;
     document.body.classList.toggle('present', view.present);
     byId('present').setAttribute('aria-pressed', String(view.present));
-    if (view.present && document.activeElement) document.activeElement.blur(); // what had the keyboard may be hidden now
+    // What had the keyboard may be hidden now.
+    if (view.present) /** @type {HTMLElement | null} */ (document.activeElement)?.blur();
     viewer.refit();
     viewer.bringIntoView(); // steps made while the list was hidden didn't
   }

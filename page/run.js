@@ -4,6 +4,18 @@ import { Cell, Cursor, STATES, pageOf } from './cursor.js';
 import { hex } from './dom.js';
 import { readTrace, wordsOf } from './trace.js';
 
+/**
+ * @typedef {{ place: number, now: Cell, was: Cell }} CellChange
+ * @typedef {import('./cursor.js').Block} Block
+ * @typedef {import('./cursor.js').Birth} Birth
+ * @typedef {{ block: Block, now: string | null, was: string | null, born: { now: Birth, was: Birth } }} BlockChange
+ * What a pass took, by rows with the cells before; and the blocks that were due, by rising start, each with its malloc.
+ * @typedef {{ due: Block[], born: Map<Block, Birth>, rows: import('./cursor.js').Row[] }} Taken
+ * A command with what it changed. `dirtied` is the page that it made dirty, and `cleaned` are those that it made clean.
+ * @typedef {{ line: number, text: string, notes: string[], words: string[], reply: string, registers: CellChange[], granules: CellChange[],
+ *   blocks: BlockChange[], taken: Taken | null, open: boolean, dirtied: number | null, cleaned: number[] }} Step
+ */
+
 const CROWD = 2000; // of more blocks and written granules a map is a dense one (dense.js)
 
 function need(holds, message) {
@@ -11,13 +23,22 @@ function need(holds, message) {
 }
 
 // The heap that all steps are about. Places in it are counted in granules from its base on.
-class Run {
+export class Run {
+  /** @param {{ base: string, pages: number }} heap @param {ReturnType<typeof readTrace>} own */
   constructor(heap, own) {
     need(Number.isInteger(heap.pages) && heap.pages > 0 && heap.pages <= 1024, 'the heap needs its pages');
     need(own.counted.length > 0, 'the trace has no heap line');
     const [first] = own.counted;
-    Object.assign(this, { own, base: BigInt(heap.base), pages: heap.pages, granules: heap.pages * 256, known: new Map(), end: null });
+    this.own = own;
+    this.base = BigInt(heap.base);
+    this.pages = heap.pages;
+    this.granules = heap.pages * 256;
+    /** @type {Map<string, Block>} all blocks that there are at some time */
+    this.known = new Map();
+    /** @type {{ live: number, held: number, free: number, tags: number } | null} */
+    this.end = null;
     this.namesOfPlaces = { register: place => 'c' + place, granule: place => hex(this.addressOf(place)) };
+    /** @type {Step[]} */
     this.steps = [{ ...first, words: ['heap'], reply: '', registers: [], granules: [], blocks: [], taken: null, open: false, dirtied: null,
       cleaned: [] }];
   }
@@ -95,6 +116,8 @@ function takenOf(cursor, taken, step) {
     rows: [...rows('register', taken.registers), ...rows('granule', taken.granules)] };
 }
 
+const isHeld = state => state !== null && state !== 'live';
+
 // The live and held bytes and the tags after each step, from what each changed.
 function sumsOf(run) {
   const sums = { live: [0], held: [0], tags: [0] };
@@ -102,10 +125,10 @@ function sumsOf(run) {
   for (const step of run.steps.slice(1)) {
     for (const { block, was, now } of step.blocks) {
       const bytes = 16 * (block.end - block.start);
-      live += bytes * ((now === 'live') - (was === 'live'));
-      held += bytes * ((now !== null && now !== 'live') - (was !== null && was !== 'live'));
+      live += bytes * (Number(now === 'live') - Number(was === 'live'));
+      held += bytes * (Number(isHeld(now)) - Number(isHeld(was)));
     }
-    for (const { was, now } of [...step.registers, ...step.granules]) tags += now.tag - was.tag;
+    for (const { was, now } of [...step.registers, ...step.granules]) tags += Number(now.tag) - Number(was.tag);
     sums.live.push(live);
     sums.held.push(held);
     sums.tags.push(tags);
@@ -114,23 +137,26 @@ function sumsOf(run) {
 }
 
 // What does not change from step to step.
-function summarize(run) {
+function summaryOf(run) {
   const { steps } = run;
   const most = (list, measureOf) => list.reduce((greatest, each) => Math.max(greatest, measureOf(each)), 0);
-  run.sums = sumsOf(run);
-  run.written = new Set(steps.flatMap(step => step.registers.map(change => change.place)));
-  run.most = most(steps, step => (step.taken ? step.taken.rows.filter(row => row.kind === 'register').length : 0));
-  run.reach = most([...run.known.values()], block => block.end) || 4;
-  run.used = Math.min(run.granules, Math.max(16, 2 ** Math.ceil(Math.log2(run.reach)))); // what the small bars show
-  run.columns = run.reach > 1024 ? 64 : run.reach > 64 ? 32 : 16;
-  run.isDense = run.known.size + new Set(steps.flatMap(step => step.granules.map(change => change.place))).size > CROWD;
+  const reach = most([...run.known.values()], block => block.end) || 4;
+  const places = new Set(steps.flatMap(step => step.granules.map(change => change.place)));
+  return { sums: sumsOf(run), written: new Set(steps.flatMap(step => step.registers.map(change => change.place))),
+    most: most(steps, step => (step.taken ? step.taken.rows.filter(row => row.kind === 'register').length : 0)), reach,
+    used: Math.min(run.granules, Math.max(16, 2 ** Math.ceil(Math.log2(reach)))), // what the small bars show
+    columns: reach > 1024 ? 64 : reach > 64 ? 32 : 16, isDense: run.known.size + places.size > CROWD };
 }
 
 // The run of a trace, from its text and from the data of ./heap_states: lines of JSON, of which the first tells the heap, which is
-// step 0, and the last the sums at the end. A cursor that was at the end is at its beginning. What can't be read is an Error.
+// step 0, and the last the sums at the end. What can't be read is an Error.
+/** @param {string} text @param {string} data */
 export function parseRun(text, data) {
   const own = readTrace(text);
-  let run = null, cursor = null;
+  /** @type {Run} */
+  let run = null;
+  /** @type {Cursor} */
+  let cursor = null;
   data.split('\n').filter(line => line !== '').forEach((line, number) => {
     try {
       const value = JSON.parse(line);
@@ -148,6 +174,5 @@ export function parseRun(text, data) {
   need(run !== null && run.end !== null, 'The data is not whole.');
   need(run.steps.length === own.counted.length, 'The data has not as many commands as the trace.');
   cursor.moveTo(0);
-  summarize(run);
-  return run;
+  return Object.assign(run, summaryOf(run));
 }

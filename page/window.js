@@ -9,11 +9,13 @@ export function addWindow(viewer) {
   const EDGE = 8, BAR_TOP = 30, BAR_HEIGHT = 34;
 
   // The integers that the bar shows: the window and half of one on either side, or all addresses.
+  /** @returns {[bigint, bigint]} */
   function spanOf(word) {
     return word.exponent >= 50 ? [0n, SPACE] : [word.low - word.size / 2n, word.low + word.size + word.size / 2n];
   }
 
   // The integer in the span that means the same address, where there is one.
+  /** @param {bigint} address @param {[bigint, bigint]} span */
   const foldInto = (address, [low, high]) => [address, address + SPACE, address - SPACE].find(each => each >= low && each <= high) ?? address;
   const triedAddress = () => (view.probe === null ? viewer.chosenWord().meaning.address : view.probe);
 
@@ -31,6 +33,7 @@ export function addWindow(viewer) {
     drawJumps(word);
   }
 
+  /** @param {[bigint, bigint]} span */
   function windowBar(word, there, tried, keeps, span) {
     const width = view.windowWidth, [low, high] = span, whole = word.exponent >= 50;
     const at = address => EDGE + clamp(Number((foldInto(address, span) - low) * 100000n / (high - low)) / 100000, 0, 1) * (width - 2 * EDGE);

@@ -583,10 +583,15 @@ class Tests(page_long.LongTests):
         self.no_noise("on paper")
 
     def modules(self, root):
-        """./heap_page makes one script of the modules, so nothing else sees what they import: each name is exported there and used here,
+        """Their types are checked, where there is tsc. ./heap_page makes one script of the modules, so nothing else sees what they import: each name is exported there and used here,
         no two modules have a name in common, and each stands behind those that it imports."""
         parts = re.search(r"^parts=\((.*?)\)", (root / "heap_page").read_text(), re.M | re.S)[1].split()
         texts = {part: (root / f"page/{part}.js").read_text() for part in parts}
+        if shutil.which("tsc"):
+            told = subprocess.run(["tsc", "-p", root / "page"], capture_output=True, text=True)
+            self.check("the types of the modules", (told.returncode, told.stdout), (0, ""))
+        else:
+            print("skipped: the types of the page's modules: no tsc (node-typescript)")
         self.check("the modules are those in page/", sorted(parts), sorted(path.stem for path in (root / "page").glob("*.js")))
         exported = {part: set(re.findall(r"^export (?:const|let|function|class) (\w+)", text, re.M)) for part, text in texts.items()}
         owned = [name for text in texts.values() for name in re.findall(r"^(?:export )?(?:const|let|function|class) (\w+)", text, re.M)]
