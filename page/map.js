@@ -296,6 +296,7 @@ export function addMap(viewer) {
 
   function drawDetail() {
     const box = byId('detail'), place = view.cursor;
+    box.classList.toggle('touched', place !== null);
     if (place === null) {
       const hint = 'Point at a granule, or go there by the arrow keys, to see what it holds.';
       box.replaceChildren(...aboutChosen(), element('span', { class: 'muted' }, hint));

@@ -674,6 +674,7 @@ class Tests(page_long.LongTests):
         """At 390 by 844: the steps stay at the bottom, each target has 44 px, and a touched granule's bytes are in sight."""
         path, run, check = self.page(root, (self.root / "examples" / PICTURED / "stdin").read_bytes(), PICTURED), self.browser.run, self.check
         self.open(path, width=390, height=844)
+        check("until a granule is touched what is told of one covers nothing", run("getComputedStyle(byId('detail')).position"), "static")
         for at in (0, 700, 99999):
             run(f"go(3); scrollTo(0, {at})")
             self.settle()
