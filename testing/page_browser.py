@@ -94,6 +94,13 @@ class Browser:
         for kind in ("mousePressed", "mouseReleased"):
             self.mouse(kind, x, y, button="left", clickCount=1)
 
+    def touch(self, x, y):
+        self.call("Emulation.setTouchEmulationEnabled", enabled=True)
+        self.call("Input.dispatchTouchEvent", type="touchStart", touchPoints=[{"x": x, "y": y}])
+        self.call("Input.dispatchTouchEvent", type="touchEnd", touchPoints=[])
+        self.run("new Promise(done => setTimeout(done, 400))")
+        self.call("Emulation.setTouchEmulationEnabled", enabled=False)
+
     def open(self, path, width=1440, height=900, dark=False, at=""):
         """Loads a page from disk, and waits until it has compared the data with its own decoder, or told a fault."""
         self.events.clear()

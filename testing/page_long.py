@@ -333,15 +333,17 @@ class LongTests:
         for text, wanted in (("4", [4]), ("4, 7-10", [4, 7, 8, 10]), (" 10 - 7", []), ("1-9999", lines), ("10,4", [4, 10]), ("7–8", [7, 8]), ("", None), ("x", None), ("4,", None)):
             steps = None if wanted is None else [index for index, line in enumerate(lines) if line in wanted]
             check(f"the handout of {text!r}", json.loads(run(f"JSON.stringify(stepsOfLines({json.dumps(text)}))")), steps)
-        run("go(6); show('before'); choose('register', 1)")
+        run("go(10); show('before'); choose('register', 1)")
         before = self.look()
         run("byId('printed').value = '4, 7-10'; makeHandout(stepsOfLines(byId('printed').value))")
         check("the page is as before", self.look(), before)
         told = json.loads(run(page_look.HANDOUT))
-        for at, index in enumerate(index for index, line in enumerate(lines) if line in (4, 7, 8, 10)):
+        steps = [index for index, line in enumerate(lines) if line in (4, 7, 8, 10)]
+        check("the handout has its steps", [article[0] for article in told], [f"Line {lines[index]}" for index in steps])
+        for article, index in zip(told, steps):
             run(f"go({index}); view.follow = true; go({index})")
             seen = self.look()
-            check(f"the handout, step {index}", told[at], [f"Line {lines[index]}", seen["notes"], seen["command"], seen["sentence"],
+            check(f"the handout, step {index}", article, [f"Line {lines[index]}", seen["notes"], seen["command"], seen["sentence"],
                   [row[:2] for row in seen["blocks"]], [row[0] for row in seen["registers"]], len(seen["taken"])])
         self.browser.media("print")
         check("on paper it is alone", json.loads(run("JSON.stringify([getComputedStyle(byId('main')).visibility, byId('main').offsetHeight, byId('handout').offsetHeight > 900])")),

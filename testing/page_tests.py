@@ -680,10 +680,10 @@ class Tests(page_long.LongTests):
             self.settle()
             check(f"scrolled to {at}: the steps are at the bottom", json.loads(run(page_look.BOTTOM)), [844, True])
         check("each target has 44 px", json.loads(run(page_look.SMALL_TARGETS)), [])
-        run("scrollTo(0, byId('map').getBoundingClientRect().bottom + scrollY - 600)")
+        run("scrollTo(0, byId('map').getBoundingClientRect().bottom + scrollY - 780)")
         self.settle()
         x, y = json.loads(run("(() => { const b = document.querySelector('#map [data-block]').getBoundingClientRect(); return JSON.stringify([b.x + 3, b.y + 3]); })()"))
-        self.browser.click(x, y)
+        self.browser.touch(x, y)
         check("a touched granule's bytes are in sight", run("(() => { const b = byId('detail').getBoundingClientRect(), c = document.querySelector('.controls').getBoundingClientRect();"
               "return byId('detail').textContent.startsWith('Granule 0 at') && b.top > 0 && b.bottom <= c.top; })()"), True)
         check("the window's bar lets a page be scrolled", run("getComputedStyle(byId('window')).touchAction"), "pan-y")
