@@ -39,7 +39,7 @@ class Firefox:
             self.wire = socket.create_connection(("127.0.0.1", self.port(folder / "MarionetteActivePort")), SECONDS)
             self.message()
             self.call("WebDriver:NewSession")
-        except OSError:
+        except (OSError, RuntimeError):
             self.close()
             raise
 

@@ -208,7 +208,7 @@ PICTURES = [
     ("hostile", "lesson_text_that_is_not_markup", 5, False, (1280, 800), ""),
     ("narrow", "lesson_permissions", 4, False, (700, 1200), ""),
     ("inspector_light", "lesson_edges_of_a_window", 4, False, (1280, 800), "byId('inspector').scrollIntoView()"),
-    ("inspector_dark", "lesson_edges_of_a_window", 7, True, (1280, 800), "byId('inspector').scrollIntoView(); tryAddress(0x40003900n)"),
+    ("inspector_dark", "lesson_edges_of_a_window", 7, True, (1280, 800), "byId('inspector').scrollIntoView(); byId('exact').value = '0x40003900'; byId('exact').dispatchEvent(new Event('change'))"),
     ("grey", "lesson_an_epoch_with_a_store", 8, False, (1440, 900), "document.documentElement.style.filter = 'grayscale(1)'"),
     ("class", "lesson_an_epoch_with_a_store", 10, False, (1280, 720), "togglePresent()"),
     ("class_asked", "lesson_a_derived_pointer_goes_by_its_base", 8, True, (1280, 720), "togglePresent(); toggleAsk()"),
