@@ -1,7 +1,9 @@
 pub mod BlockLaws
 pub mod ClaimLaws
 pub mod EmptyLaws
+pub mod ExtentLaws
 pub mod FoundLaws
+pub mod GivenUpLaws
 pub mod HeapLaws
 pub mod KeptLaws
 pub mod LateLaws
@@ -14,7 +16,6 @@ pub mod RowLaws
 pub mod RunLaws
 pub mod ShadowLaws
 pub mod SoundLaws
-pub mod ExtentLaws
 pub mod StartLaws
 pub mod StoredLaws
 pub mod SumLaws

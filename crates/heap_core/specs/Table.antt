@@ -3,6 +3,8 @@
 -- have marks apart from it: `Consistent.antt`.)
 use Rattle.std.specs.Prelude.{◌≡◌, ◌<◌, ◌≤◌, ◌+◌, ◌*◌, ◌%◌, nat_lt, ◌&&◌, ◌||◌, not, if◌then◌else◌, ℕ, zero, suc, Bool, true, false, List, [], ◌∷◌, ◌++◌, count_by, length, slice_index, slice_index_or, take}
 use Rattle.heap_model.specs.Blocks.{Span}
+use Rattle.heap_model.specs.declared.block.Freed.{Freed}
+use Rattle.heap_model.specs.declared.block.Freed.TheVariants.{AlreadyHeld, Held, NotBlock}
 use Rattle.tag_memory.specs.Extent.{is_base, is_size}
 
 -- The table of a heap.
@@ -44,6 +46,17 @@ pub record IsBlockAt (base : ℕ) (lengths : List ℕ) (start top k : ℕ) : Typ
   pub some : 0 < slice_index lengths k
   pub start_is : start ≡ base + 16 * k
   pub top_is : top ≡ start + 16 * slice_index lengths k
+
+-- The block from start to top starts at granule k, and has no mark.
+pub record IsLiveAt (base : ℕ) (lengths : List ℕ) (marks : List Bool) (start top k : ℕ) : Type 0 where
+  pub at : IsBlockAt base lengths start top k
+  pub unmarked : slice_index_or marks k false ≡ false
+
+-- What the bytes from start to top are where they are no such block: no block, or one with a mark.
+abbrev pub IsNoLive : ℕ → List ℕ → List Bool → ℕ → ℕ → Freed → Type 0
+IsNoLive base lengths marks start top Held = ⊥
+IsNoLive base lengths marks start top AlreadyHeld = (k : ℕ) × IsBlockAt base lengths start top k × (slice_index_or marks k false ≡ true)
+IsNoLive base lengths marks start top NotBlock = (k : ℕ) → ¬ IsBlockAt base lengths start top k
 
 -- The n granules from p on, at least one, lie in no block.
 pub record IsGap (lengths : List ℕ) (p n : ℕ) : Type 0 where

@@ -1,6 +1,6 @@
 //! One heap, and where its blocks lie.
 
-ghost use Rattle.std.specs.Prelude.{◌≡◌, ◌↔◌, ◌+◌, ℕ, IfOk, IsOk, IsOkUnless, false, true};
+ghost use Rattle.std.specs.Prelude.{◌≡◌, ◌↔◌, ◌+◌, ℕ, IfOk, IfSome, IsOk, IsOkUnless, None, false, true};
 ghost use Rattle.cap_codec.specs.Rounding.{IsExact};
 ghost use Rattle.heap_model.specs.Blocks.{bytes_in};
 ghost use Rattle.heap_model.specs.Heap.{IsSound, empty_heap};
@@ -121,18 +121,32 @@ impl Heap {
         ensures live { IfOkSome result (λ block. self.new ≡ with_live self.old size block.base) }
         ensures sound { IsSound self.new }
     {
+        Ok(self.hand_out(size))
+    }
+
+    /// `reserve`, as it never errs.
+    pub fn hand_out(&mut self, size: u64) -> Option<Block>
+        ensures none { (result ≡ None) ↔ ((a : ℕ) → ¬ IsFree self.old size a) }
+        ensures unchanged { result ≡ None → self.new ≡ self.old }
+
+        ensures place { IfSome result (λ block. IsPlace self.old size block.base) }
+        ensures top { IfSome result (λ block. block.top ≡ block.base + block_length size) }
+        ensures exact { IfSome result (λ block. IsExact block.base block.top) }
+        ensures live { IfSome result (λ block. self.new ≡ with_live self.old size block.base) }
+        ensures sound { IsSound self.new }
+    {
         let asked = granules_for(size);
         if asked > self.table.granules() as u64 {
-            return Ok(None);
+            return None;
         }
         let shape = shape_for(asked);
         let Some(start) = self.table.put(self.base / GRANULE, shape) else {
-            return Ok(None);
+            return None;
         };
         self.live_granules += shape.granules as u32;
         let base = self.base + GRANULE * start as u64;
         let top = u128::from(base) + u128::from(GRANULE * shape.granules);
-        Ok(Some(Block { base, top }))
+        Some(Block { base, top })
     }
 
     /// Tells what holds of every heap. Nothing is done.

@@ -1,11 +1,11 @@
 //! The blocks of a heap, by the granules at which they start.
 
-ghost use Rattle.std.specs.Prelude.{◌≡◌, ◌≢◌, ◌<◌, ◌≤◌, ◌+◌, ◌*◌, ◌/◌, ◌%◌, ◌^◌, ◌&&◌, if◌then◌else◌, ℕ, IfOk, IfSome, MatchOption, false, length, replicate, slice_index, slice_index_or, slice_set, true};
+ghost use Rattle.std.specs.Prelude.{◌≡◌, ◌≢◌, ◌<◌, ◌≤◌, ◌+◌, ◌*◌, ◌/◌, ◌%◌, ◌^◌, ◌&&◌, if◌then◌else◌, ℕ, IfErr, IfOk, IfSome, MatchOption, false, length, replicate, slice_index, slice_index_or, slice_set, true};
 ghost use Rattle.granule_rows.specs.Runs.{is_within};
 ghost use Rattle.heap_core.specs.Painting.{IsPainted};
 ghost use Rattle.heap_core.specs.Consistent.{either_mark};
 ghost use Rattle.heap_model.specs.Shadow.{bits_of};
-ghost use Rattle.heap_core.specs.Table.{AreBlocks, IsBlockAt, IsFirstGap, IsFirstPast, IsGap, IsDueStart, NonePast, ReachesPast, has_mark, marked_count, is_marked, is_unmarked, is_occupied, kept_lengths};
+ghost use Rattle.heap_core.specs.Table.{AreBlocks, IsBlockAt, IsFirstGap, IsFirstPast, IsGap, IsDueStart, IsLiveAt, IsNoLive, NonePast, ReachesPast, has_mark, marked_count, is_marked, is_unmarked, is_occupied, kept_lengths};
 ghost use Rattle.mark_board.specs.Board.{IsOf};
 ghost use Rattle.tag_memory.specs.Tags.{is_set, is_set_for};
 
@@ -13,7 +13,7 @@ use crate::painting::paint_row;
 use crate::rows::Rows;
 use crate::shape::Shape;
 use granule_rows::{count_both, last_set, place_of_both, row_bit};
-use heap_model::{Block, Kind, Shadow};
+use heap_model::{Block, Freed, Kind, Shadow};
 use mark_board::{Board, MarkSeat};
 use std::alloc::{AllocError, Global};
 use std::marker::Model;
@@ -238,6 +238,23 @@ impl Table {
             return None;
         }
         Some(index)
+    }
+
+    /// The granule at which the live block from `start` to `top` starts, in the table of a heap at `base`; else what
+    /// becomes of these bounds where they are given up. Late blocks are held: these are their starts.
+    pub fn live_at(&self, late: &[u64], base: u64, start: u64, top: u128) -> Result<usize, Freed>
+        requires bits { 64 * length late.now ≡ length self.now.lengths }
+        requires same { length self.now.marks ≡ length self.now.lengths }
+        ensures live { IfOk result (λ k. IsLiveAt base self.now.lengths (either_mark self.now.marks (bits_of late.now)) start top k) }
+        ensures other { IfErr result (λ freed. IsNoLive base self.now.lengths (either_mark self.now.marks (bits_of late.now)) start top freed) }
+    {
+        let Some(granule) = self.block_at(base, start, top) else {
+            return Err(Freed::NotBlock);
+        };
+        if self.is_held(late, granule) {
+            return Err(Freed::AlreadyHeld);
+        }
+        Ok(granule)
     }
 
     /// How many granules the block has that starts at a granule, or 0 where none starts.

@@ -59,7 +59,7 @@ impl Storage {
     {
         match command {
             Command::Malloc { rd, size } => self.malloc(rd, size, pass),
-            Command::Free { rs } => self.free(rs),
+            Command::Free { rs } => Ok(self.free(rs)),
             Command::Copy { rd, rs } => Ok(self.copy(rd, rs)),
             Command::SetAddr { rd, rs, address } => Ok(self.set_address(rd, rs, address)),
             Command::Narrow { rd, rs, length } => Ok(self.narrow(rd, rs, length)),

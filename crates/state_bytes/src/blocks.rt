@@ -186,10 +186,7 @@ fn release_at(heap: &mut Heap, i: usize, length: u32) -> bool
 {
     heap.invariant();
     let base = heap.base() + GRANULE * i as u64;
-    let Ok(freed) = heap.release(base, u128::from(base) + u128::from(length)) else {
-        return false;
-    };
-    match freed {
+    match heap.give_up(base, u128::from(base) + u128::from(length)) {
         Freed::Held => true,
         Freed::AlreadyHeld => false,
         Freed::NotBlock => false,

@@ -1,16 +1,17 @@
 //! Blocks that are given up, and wait until their bytes may be used again.
 
-ghost use Rattle.std.specs.Prelude.{◌≡◌, ◌↔◌, ◌+◌, ℕ, IfErr, IfOk, IfSome, IsOk, None, false, true};
+ghost use Rattle.std.specs.Prelude.{◌≡◌, ◌<◌, ◌≤◌, ◌↔◌, ◌+◌, ◌*◌, ◌^◌, ℕ, IfErr, IfOk, IfSome, IsOk, None, false, length, slice_set, true};
 ghost use Rattle.cap_codec.specs.Rounding.{IsExact};
 ghost use Rattle.heap_model.specs.Blocks.{bytes_in, lies_in};
 ghost use Rattle.heap_model.specs.Claim.{IsClaim};
 ghost use Rattle.heap_model.specs.Heap.{IsSound, due};
 ghost use Rattle.heap_model.specs.Place.{IsFree, IsPlace, block_length, with_live};
+ghost use Rattle.heap_model.specs.Shadow.{bits_of};
 ghost use Rattle.heap_model.specs.Quarantine.{IsShadow, freed_of, with_epoch, with_waiting, without_due, without_epoch, without_waiting};
 
 use crate::fault::HeapFault;
 use crate::heap::Heap;
-use granule_rows::{row_bit, set_run};
+use granule_rows::set_run;
 use heap_model::{Block, Claim, Freed, Shadow};
 use std::alloc::Global;
 use tag_memory::GRANULE;
@@ -25,41 +26,40 @@ impl Heap {
         ensures unchanged { ¬ (result ≡ Ok Freed.Held) → self.new ≡ self.old }
         ensures sound { IsSound self.new }
     {
-        let Some(start) = self.table.block_at(self.base, base, top) else {
-            return Ok(Freed::NotBlock);
+        Ok(self.give_up(base, top))
+    }
+
+    /// `release`, as it never errs.
+    pub fn give_up(&mut self, base: u64, top: u128) -> Freed
+        ensures answer { result ≡ freed_of self.old base top }
+        ensures held { result ≡ Freed.Held → self.new ≡ with_waiting self.old base top }
+        ensures unchanged { ¬ (result ≡ Freed.Held) → self.new ≡ self.old }
+        ensures sound { IsSound self.new }
+    {
+        let start = match self.table.live_at(&self.late, self.base, base, top) {
+            Ok(start) => start,
+            Err(freed) => return freed,
         };
-        if self.table.is_due_at(start) {
-            return Ok(Freed::AlreadyHeld);
-        }
-        if row_bit(&self.late, start) {
-            return Ok(Freed::AlreadyHeld);
-        }
         let granules = self.table.length_at(start);
         self.live_granules -= granules;
         if self.is_open {
-            set_run(&mut self.late, start, start + 1);
+            mark_late(&mut self.late, start);
             self.late_granules += granules;
         } else {
             self.table.make_due(start);
             self.due_granules += granules;
         }
-        Ok(Freed::Held)
+        Freed::Held
     }
 
-    /// What would become of these bounds if they were released.
+    /// What would become of these bounds if they were given up.
     pub fn freed_of(&self, base: u64, top: u128) -> Freed
         ensures { result ≡ freed_of self.now base top }
     {
-        let Some(first) = self.table.block_at(self.base, base, top) else {
-            return Freed::NotBlock;
-        };
-        if self.table.is_due_at(first) {
-            return Freed::AlreadyHeld;
+        match self.table.live_at(&self.late, self.base, base, top) {
+            Ok(_) => Freed::Held,
+            Err(freed) => freed,
         }
-        if row_bit(&self.late, first) {
-            return Freed::AlreadyHeld;
-        }
-        Freed::Held
     }
 
     /// Begins an epoch (Filardo et al. 2020, Cornucopia): all blocks that wait are painted, and blocks that are given
@@ -174,10 +174,24 @@ impl Heap {
         ensures live { IfOk result (λ done. IfSome done.0 (λ block. self.new ≡ with_live (without_waiting self.old) size block.base)) }
         ensures sound { IsSound self.new }
     {
-        let waiting = GRANULE * u64::from(self.due_granules);
-        self.drop_due();
-        let found = self.reserve(size)?;
-        Ok((found, waiting))
+        let waiting = self.due_bytes();
+        Ok((self.give_back_and_hand_out(size), waiting))
+    }
+
+    /// The same without an answer for want of memory, and without the bytes.
+    pub fn give_back_and_hand_out(&mut self, size: u64) -> Option<Block>
+        requires { self.old.is_open ≡ false }
+        ensures none { (result ≡ None) ↔ ((a : ℕ) → ¬ IsFree (without_waiting self.old) size a) }
+        ensures free { result ≡ None → self.new ≡ without_waiting self.old }
+
+        ensures place { IfSome result (λ block. IsPlace (without_waiting self.old) size block.base) }
+        ensures top { IfSome result (λ block. block.top ≡ block.base + block_length size) }
+        ensures exact { IfSome result (λ block. IsExact block.base block.top) }
+        ensures live { IfSome result (λ block. self.new ≡ with_live (without_waiting self.old) size block.base) }
+        ensures sound { IsSound self.new }
+    {
+        self.give_back();
+        self.hand_out(size)
     }
 
     /// Makes the blocks that wait free, and then the bytes from `base` on, before `top`, a live block, where they may
@@ -198,4 +212,13 @@ impl Heap {
         self.drop_due();
         self.claim(base, top)
     }
+}
+
+// Marks the first granule of a late block.
+fn mark_late(late: &mut Vec<u64>, start: usize)
+    requires limit { length late.old.items ≤ 2 ^ 24 }
+    requires within { start < 64 * length late.old.items }
+    ensures { bits_of late.new.items ≡ slice_set (bits_of late.old.items) start true }
+{
+    set_run(late, start, start + 1);
 }

@@ -34,10 +34,7 @@ impl Storage {
         ensures memory { IfErr result (λ fault. fault ≡ MachineFault.Memory) }
         ensures ok { NeedsNoMemory (state_of self.old) (Command.Malloc rd size) → IsOk result }
     {
-        let Ok(found) = self.heap.reserve(size) else {
-            return Err(MachineFault::Memory);
-        };
-        if let Some(Block { base, top }) = found {
+        if let Some(Block { base, top }) = self.heap.hand_out(size) {
             self.registers.set(rd, block_capability(base, top), true);
             return Ok(Reply::Block { base, top });
         }

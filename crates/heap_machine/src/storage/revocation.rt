@@ -74,29 +74,24 @@ impl RevokedTags {
 
 impl Storage {
     // The block with just a register's bounds goes into quarantine.
-    pub(super) fn free(&mut self, rs: u8) -> Result<Reply, MachineFault>
+    pub(super) fn free(&mut self, rs: u8) -> Reply
         requires storage { IsStorage self.old }
         requires valid { IsValid (Command.Free rs) }
-        ensures step { IfOk result (λ reply. Step (state_of self.old) (Command.Free rs) reply (state_of self.new)) }
+        ensures step { Step (state_of self.old) (Command.Free rs) result (state_of self.new) }
         ensures base { self.new.memory.base ≡ self.new.heap.base }
         ensures dirty { self.new.memory.dirty ≡ self.old.memory.dirty }
-        ensures ok { IsOk result }
     {
         let (word, tag) = self.registers.get(rs);
         if !tag {
-            return Ok(Reply::Trap(Trap::Tag));
+            return Reply::Trap(Trap::Tag);
         }
         let Bounds { base, top } = bounds(word);
         let bytes = (top - u128::from(base)) as u64;
-        let Ok(freed) = self.heap.release(base, top) else {
-            return Err(MachineFault::Memory);
-        };
-        match freed {
-            Freed::Held => {}
-            Freed::AlreadyHeld => return Ok(Reply::Trap(Trap::Freed)),
-            Freed::NotBlock => return Ok(Reply::Trap(Trap::NotBlock)),
+        match self.heap.give_up(base, top) {
+            Freed::Held => Reply::Held(bytes),
+            Freed::AlreadyHeld => Reply::Trap(Trap::Freed),
+            Freed::NotBlock => Reply::Trap(Trap::NotBlock),
         }
-        Ok(Reply::Held(bytes))
     }
 
     // Every tagged word whose base lies in a block that waits loses its tag; then these blocks are free. Where none waits

@@ -14,7 +14,7 @@ use Rattle.heap_core.proofs.SoundLaws.{IsSound-from_table}
 use Rattle.heap_core.proofs.ExtentLaws.{LiesWithin-table}
 use Rattle.heap_model.specs.ExtentLaws.{LiesWithin-span}
 use Rattle.heap_core.proofs.SumLaws.{bytes_in-blocks_with}
-use Rattle.heap_core.proofs.heap.Heap.reserve.Goals as goal
+use Rattle.heap_core.proofs.heap.Heap.hand_out.Goals as goal
 
 pub returns-then-asked-granules-clause-none : goal.returns-then-asked-granules-clause-none
 returns-then-asked-granules-clause-none c =
