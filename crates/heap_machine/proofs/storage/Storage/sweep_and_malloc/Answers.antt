@@ -8,15 +8,15 @@ use Rattle.machine_steps.specs.SoundLaws.{FitsAddresses-state}
 use Rattle.heap_machine.proofs.SweptMalloc.{HandsOut-swept, HandsOutNone-swept}
 use Rattle.heap_machine.proofs.storage.Storage.sweep_and_malloc.Goals as goal
 
-pub returns-in_default-found-clause-step : goal.returns-in_default-found-clause-step
-returns-in_default-found-clause-step g c =
+pub returns-in_default-clause-step : goal.returns-in_default-clause-step
+returns-in_default-clause-step g c =
     let m = c.args.self.now in
     let s = state_of m in
     let revoked : AreRevoked m.heap.waiting m.memory m.registers c.in_ok-revoked.revoked = rw (due-closed m.heap c.requires.may.closed) at c.in_ok-revoked.ensures.revoked in
     let taken : AreApplied m.heap.waiting m.memory m.registers c.apply.new.memory c.apply.new.registers = c.apply.ensures.taken m.heap.waiting revoked in (
       record { none = c.requires.none; may = c.requires.may; cleared_is = c.count-cleared.ensures m.heap.waiting m.memory m.registers revoked },
       HandsOutNone-swept s c.args.rd c.args.size c.give_back_and_hand_out-found.new.self m.memory c.apply.new.memory c.apply.new.registers c.set.new.self
-          refl (c.give_back_and_hand_out-found.ensures.none.0 c.in_default-found.is) (c.give_back_and_hand_out-found.ensures.free c.in_default-found.is) taken c.set.ensures,
+          refl (c.give_back_and_hand_out-found.ensures.none.0 c.in_default.is) (c.give_back_and_hand_out-found.ensures.free c.in_default.is) taken c.set.ensures,
     )
 
 pub block_capability-requires-clause-room : goal.block_capability-requires-clause-room
