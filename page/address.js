@@ -1,5 +1,5 @@
-// The address tells what is shown, and opens there again: #step=5&side=before&pick=c2&row=32&with=3. With #embed the page is to stand in
-// another one.
+// The address tells what is shown, and opens there again: #step=5&side=before&pick=c2&row=32&with=3. With #present it is the screen
+// for a class, with #ask the class is asked first, and with #embed the page is to stand in another one.
 
 export function addAddress(viewer) {
   const { run, view, byId } = viewer;
@@ -10,7 +10,8 @@ export function addAddress(viewer) {
     const pick = view.follow || !view.chosen ? null : run.namesOfPlaces[view.chosen.kind];
     const parts = { step: view.step, side: view.side === 'after' ? null : view.side, pick: pick ? pick(view.chosen.place) : null,
       row: view.columns === run.columns ? null : view.columns, with: viewer.comparedWith };
-    return (view.embed ? '#embed&' : '#') + Object.entries(parts).filter(([, value]) => value !== null).map(part => part.join('=')).join('&');
+    const ways = [view.embed ? 'embed' : view.present ? 'present' : null, view.ask ? 'ask' : null].filter(way => way !== null);
+    return '#' + [...ways, ...Object.entries(parts).filter(([, value]) => value !== null).map(part => part.join('='))].join('&');
   }
 
   // A browser takes few changes of the address in a time, so it is told once the steps have come to rest.
@@ -40,6 +41,8 @@ export function addAddress(viewer) {
     view.chosen = pick;
     view.probe = null;
     viewer.go(/^[0-9]{1,9}$/.test(step) ? Number(step) : 0);
+    if (told.has('present') !== view.present) viewer.togglePresent(); // in a frame it does nothing
+    if (told.has('ask') !== view.ask) viewer.toggleAsk();
     const side = told.get('side');
     if (viewer.sidesOf(run.steps[view.step]).some(([name]) => name === side)) viewer.show(side);
     viewer.compareWith(/^[0-9]{1,9}$/.test(other) && Number(other) < run.steps.length ? Number(other) : null);

@@ -13,6 +13,7 @@ export function addAsking(viewer) {
     byId('ask').setAttribute('aria-pressed', String(view.ask));
     document.body.classList.toggle('asking', view.ask);
     viewer.refit();
+    viewer.keepAddress();
   }
 
   // Replies and comments of the steps from this one on, in the rows that are there; others are made so.

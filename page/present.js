@@ -14,6 +14,7 @@ export function addPresenting(viewer) {
     if (view.present) /** @type {HTMLElement | null} */ (document.activeElement)?.blur();
     viewer.refit();
     viewer.bringIntoView(); // steps made while the list was hidden didn't
+    viewer.keepAddress();
   }
 
   // The line before, the current one, and the next without its reply: that is what a class is asked for.

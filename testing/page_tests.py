@@ -361,6 +361,23 @@ class Tests(page_long.LongTests):
             self.open(path, at=at)
             check(f"{at}: what is no place is passed over", [run("view.step"), run("view.side"), run("view.follow"), run("view.columns")], [step, "after", True, 16])
             self.no_noise(at)
+        ways = lambda: [run("view.present"), run("view.ask"), run("view.step"), run("view.side"), run("byId('present').getAttribute('aria-pressed')"), run("byId('ask').getAttribute('aria-pressed')")]
+        for at, wanted in (("#present&ask&step=8", [True, True, 8, "after", "true", "true"]), ("#ask&step=4", [False, True, 4, "after", "false", "true"]),
+                           ("#present&step=9&side=before", [True, False, 9, "before", "true", "false"])):
+            self.open(path, at=at)
+            check(f"{at} opens so", ways(), wanted)
+            self.settle()
+            check(f"{at} stays", run("location.hash"), at)
+            for letter, way in (("p", "present"), ("a", "ask")):
+                self.browser.key(letter)
+                self.settle()
+                check(f"{at}: {letter} is told", run(f"[new URLSearchParams(location.hash.slice(1)).has('{way}'), view.{way}]"), [f"{way}&" not in at] * 2)
+            self.no_noise(at)
+        self.open(path, at="#ask&step=4")
+        run("location.hash = '#present&step=5'")
+        self.settle()
+        check("other ways by hand", ways()[:3], [True, False, 5])
+        self.open(path)
         run("location.hash = '#step=9&side=before'")
         self.settle()
         check("an address that is changed by hand", told()[:2], [9, "before"])

@@ -4,14 +4,14 @@ use Rattle.heap_model.specs.Blocks.{bytes_in}
 use Rattle.heap_model.specs.Heap.{held_bytes}
 use Rattle.machine_steps.specs.Dirty.{dirty_after}
 use Rattle.machine_steps.specs.Follow.{Follows}
-use Rattle.heap_machine.specs.Followed.{IsRefused, IsWhy}
+use Rattle.machine_storage.specs.Followed.{IsRefused, IsWhy}
 use Rattle.heap_machine.specs.Storage.{MachineState}
 use Rattle.machine_steps.specs.Safety.{IsUnused, LeavesInUse}
 use Rattle.machine_steps.specs.State.{State, first_state}
 use Rattle.machine_steps.specs.Step.{Step}
-use Rattle.heap_machine.specs.declared.followed.Followed.{Followed}
-use Rattle.heap_machine.specs.declared.followed.Followed.TheVariants.{Agrees, Differs}
-use Rattle.heap_machine.specs.declared.followed.Why.{Why}
+use Rattle.machine_storage.specs.declared.followed.Followed.{Followed}
+use Rattle.machine_storage.specs.declared.followed.Followed.TheVariants.{Agrees, Differs}
+use Rattle.machine_storage.specs.declared.followed.Why.{Why}
 use Rattle.heap_reply.specs.declared.reply.Reply.{Reply}
 use Rattle.state_bytes.specs.State.{IsState}
 use Rattle.state_bytes.specs.Text.{flag_byte, text_length, text_of}

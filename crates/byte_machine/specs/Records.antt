@@ -3,8 +3,8 @@ use Rattle.std.specs.Prelude.{◌≡◌, ◌+◌, ◌*◌, ◌/◌, ◌%◌, ◌
 use Rattle.cap_codec.specs.Bytes.{bits_of_bytes, bytes_of}
 use Rattle.heap_model.specs.declared.block.Claim.{Claim}
 use Rattle.heap_model.specs.declared.block.Claim.TheVariants as claim
-use Rattle.heap_machine.specs.declared.followed.Why.{Why}
-use Rattle.heap_machine.specs.declared.followed.Why.TheVariants as why
+use Rattle.machine_storage.specs.declared.followed.Why.{Why}
+use Rattle.machine_storage.specs.declared.followed.Why.TheVariants as why
 use Rattle.heap_reply.specs.declared.reply.Reply.{Reply}
 use Rattle.heap_reply.specs.declared.reply.Reply.TheVariants as reply
 use Rattle.heap_reply.specs.declared.reply.Shown.{Shown as ShownCell}

@@ -17,7 +17,7 @@ use Rattle.trace_text.specs.Heap.{IsHeap}
 use Rattle.given_state.specs.declared.fault.Lack.{Lack}
 use Rattle.given_state.specs.declared.fault.Lack.TheVariants.{Block}
 use Rattle.given_state.specs.Given.{AreSafe, IsFirstFlaw, given_state}
-use Rattle.heap_machine.specs.declared.followed.Why.TheVariants.{MustBe, Refused, Takes}
+use Rattle.machine_storage.specs.declared.followed.Why.TheVariants.{MustBe, Refused, Takes}
 use Rattle.machine_steps.specs.State.{State}
 use Rattle.heap_log.specs.declared.verdict.Difference.{Difference}
 use Rattle.heap_log.specs.declared.verdict.Difference.TheVariants.{Answer}

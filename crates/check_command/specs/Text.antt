@@ -15,8 +15,8 @@ use Rattle.log_text.specs.declared.log.Event.TheVariants.{Done, Seen}
 use Rattle.log_text.specs.Fault.{log_fault_text}
 use Rattle.given_state.specs.declared.fault.Lack.{Lack}
 use Rattle.given_state.specs.declared.fault.Lack.TheVariants as lack
-use Rattle.heap_machine.specs.declared.followed.Why.{Why}
-use Rattle.heap_machine.specs.declared.followed.Why.TheVariants as why
+use Rattle.machine_storage.specs.declared.followed.Why.{Why}
+use Rattle.machine_storage.specs.declared.followed.Why.TheVariants as why
 use Rattle.heap_log.specs.declared.due.DueWord.{DueWord}
 use Rattle.heap_log.specs.declared.due.DueWord.TheVariants as word
 use Rattle.heap_log.specs.declared.verdict.Difference.{Difference}

@@ -4,10 +4,12 @@
 mod fault;
 mod heap;
 mod painting;
+mod registers;
 mod rows;
 mod shape;
 mod table;
 
 pub use crate::fault::HeapFault;
 pub use crate::heap::Heap;
+pub use crate::registers::due_registers;
 pub use heap_model::{Block, Claim, Freed, Kind, Shadow, sound_heap_law};

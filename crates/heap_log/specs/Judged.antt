@@ -8,7 +8,7 @@ use Rattle.heap_reply.specs.declared.reply.Reply.TheVariants as reply
 use Rattle.log_text.specs.declared.log.Event.{Event}
 use Rattle.log_text.specs.declared.log.Event.TheVariants.{Done, Seen}
 use Rattle.machine_steps.specs.Follow.{Follows}
-use Rattle.heap_machine.specs.Followed.{IsWhy}
+use Rattle.machine_storage.specs.Followed.{IsWhy}
 use Rattle.machine_steps.specs.Safety.{FitsTypes, IsSafe, IsUnused}
 use Rattle.machine_steps.specs.State.{State}
 use Rattle.heap_log.specs.declared.verdict.Difference.{Difference}

@@ -1,12 +1,3 @@
-pub mod ClearedRegisters
-pub mod CountLaws
-pub mod DueSweep
-pub mod KeptSizes
 pub mod MakingLaws
 pub mod PassLaws
-pub mod PassedChecks
-pub mod SweepStep
-pub mod SweptMalloc
-pub mod SweptMemory
 pub mod TaggedLaws
-pub mod WhyLaws

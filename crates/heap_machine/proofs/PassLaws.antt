@@ -8,8 +8,8 @@ use Rattle.heap_model.specs.Laws.{due-open}
 use Rattle.heap_model.specs.Quarantine.{IsShadow}
 use Rattle.heap_model.specs.Sweep.{AreInDirtyPages}
 use Rattle.sweep_masks.specs.Masks.{IsShadowOf}
-use Rattle.heap_machine.specs.Storage.{IsStorage}
-use Rattle.heap_machine.specs.declared.storage.Storage.{Storage}
+use Rattle.machine_storage.specs.Storage.{IsStorage}
+use Rattle.machine_storage.specs.declared.storage.Storage.{Storage}
 
 -- The shadow lies where the memory does.
 pub IsShadowOf-storage : (m : Storage) (shadow : List Bool) → IsStorage m → IsShadow m.heap shadow → IsShadowOf m.heap m.memory.base shadow

@@ -1,16 +1,13 @@
 //! The machine that runs the commands of a trace: its steps, safe reuse and revocation.
 #![tactic(auto)]
 
-mod fault;
-mod followed;
 mod machine;
+mod passes;
 mod stepper;
-mod storage;
 
-pub use crate::fault::MachineFault;
-pub use crate::followed::{Followed, Why};
 pub use crate::machine::{Flaw, Machine};
 pub use crate::stepper::{Alone, Stepper, Workers};
 pub use heap_core::{Block, Claim, Kind};
 pub use heap_reply::{BoundedAddress, Hexadecimal, Reply, Shown, Trap, flag_number};
 pub use machine_steps::{any_placement_law, safe_reuse_law};
+pub use machine_storage::{Followed, MachineFault, Why};

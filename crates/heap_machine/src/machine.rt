@@ -13,10 +13,9 @@ mod following;
 mod making;
 mod stepping;
 
-use crate::fault::MachineFault;
 pub use crate::machine::making::Flaw;
-use crate::storage::Storage;
 use heap_core::Heap;
+use machine_storage::{MachineFault, Storage};
 use std::alloc::Global;
 use std::marker::Model;
 use sweep_pool::Cutting;
@@ -31,7 +30,8 @@ pub struct Machine {
 }
 
 impl Model for Machine {
-    ghost use Rattle.heap_machine.specs.Storage.{IsStorage, MachineState, machine_of};
+    ghost use Rattle.heap_machine.specs.Storage.{MachineState, machine_of};
+    ghost use Rattle.machine_storage.specs.Storage.{IsStorage};
 
     ghost Value = { MachineState };
 

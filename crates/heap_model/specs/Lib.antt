@@ -1,3 +1,4 @@
+pub mod BelowLaws
 pub mod Blocks
 pub mod Claim
 pub mod ExtentLaws

@@ -10,7 +10,7 @@ use Rattle.byte_machine.specs.declared.faults.FaultRecord.{FaultRecord}
 use Rattle.byte_machine.specs.declared.reasons.WhyRecord.{WhyRecord}
 use Rattle.byte_machine.specs.declared.replies.ReplyRecord.{ReplyRecord}
 use Rattle.machine_steps.specs.Follow.{Follows}
-use Rattle.heap_machine.specs.declared.followed.Why.{Why}
+use Rattle.machine_storage.specs.declared.followed.Why.{Why}
 use Rattle.heap_reply.specs.declared.reply.Reply.{Reply}
 use Rattle.trace_text.specs.Reading.{Script, fault_at, trace_of}
 use Rattle.trace_text.specs.declared.fault.LineFault.{LineFault}

@@ -1,12 +1,10 @@
-//! What a pass of a revoker finds: a heap's shadow, painted by workers, the registers whose tags it takes, and the masks
-//! of `sweep_masks`.
+//! What a pass of a revoker finds: a heap's shadow, painted by workers, and the masks of `sweep_masks`.
 #![tactic(auto)]
 
 mod painting;
-mod registers;
 
 pub use crate::painting::{paint_shadow, share_of};
-pub use crate::registers::due_registers;
+pub use heap_core::due_registers;
 pub use sweep_masks::{
     CutFault, Cutting, Gate, GatherFault, Open, SweepFault, Swept, gather, sweep_dirty,
     sweep_dirty_alone, sweep_masks, sweep_masks_alone, sweep_next, sweep_task, swept_registers,

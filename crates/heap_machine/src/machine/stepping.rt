@@ -3,16 +3,16 @@
 ghost use Rattle.std.specs.Prelude.{◌≡◌, IfErr, IfOk, IfSome, IsOk, OnErr, OnOk};
 ghost use Rattle.trace_text.specs.Command.{IsValid};
 ghost use Rattle.machine_steps.specs.Dirty.{IsDirtied, dirty_after};
-ghost use Rattle.heap_machine.specs.Storage.{IsStorage};
-ghost use Rattle.heap_machine.specs.Passes.{FindsTags, IsFound};
+ghost use Rattle.machine_storage.specs.Storage.{IsStorage};
+ghost use Rattle.machine_storage.specs.Passes.{FindsTags, IsFound};
 ghost use Rattle.machine_steps.specs.Safety.{IsSafe, IsUnused, LeavesInUse};
 ghost use Rattle.machine_steps.specs.Step.{Step, NeedsNoMemory};
 
-use crate::fault::MachineFault;
 use crate::machine::Machine;
-use crate::storage::{Found, Storage};
+use crate::passes::{found_alone, found_by_workers};
 use heap_reply::Reply;
 use machine_steps::any_placement_law;
+use machine_storage::{Found, MachineFault, Storage};
 use std::alloc::Global;
 use std::thread::Threads;
 use sweep_pool::Gate;
@@ -47,7 +47,7 @@ impl Machine {
             command,
             &|storage: &Storage| -> Option<Found>
                 ensures { IsStorage storage.now → IfSome result (IsFound storage.now) }
-            { storage.found_by_workers(rt, alloc, cutting, gate) },
+            { found_by_workers(storage, rt, alloc, cutting, gate) },
         )
     }
 
@@ -77,7 +77,7 @@ impl Machine {
             command,
             &|storage: &Storage| -> Option<Found>
                 ensures { IsStorage storage.now → IfSome result (IsFound storage.now) }
-            { storage.found_alone(alloc, cutting, gate) },
+            { found_alone(storage, alloc, cutting, gate) },
         )
     }
 

@@ -1,6 +1,6 @@
 use Rattle.std.proofs.Common.{length, rules, subst}
-use Rattle.heap_machine.specs.Followed.{IsFollowed}
-use Rattle.heap_machine.specs.declared.followed.Followed.{Followed}
+use Rattle.machine_storage.specs.Followed.{IsFollowed}
+use Rattle.machine_storage.specs.declared.followed.Followed.{Followed}
 use Rattle.byte_machine.proofs.RoomLaws.{room_after}
 use Rattle.byte_machine.proofs.following.judge.Goals as goal
 

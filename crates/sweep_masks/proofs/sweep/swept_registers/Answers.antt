@@ -2,7 +2,7 @@ use Rattle.std.proofs.Common.{◌∙◌, ℕ, Bool, sym, arith}
 use Rattle.sweep_masks.specs.Laws.{is_hit-takes_tag}
 use Rattle.sweep_masks.specs.Masks.{is_hit}
 use Rattle.tag_memory.specs.Cells.{register_at}
-use Rattle.sweep_masks.specs.MaskLaws.{AreBelow-kept, AreBelow-set}
+use Rattle.heap_model.specs.BelowLaws.{AreBelow-kept, AreBelow-set}
 use Rattle.sweep_masks.proofs.sweep.swept_registers.Goals as goal
 use Rattle.sweep_masks.proofs.sweep.swept_registers.Goals.{else-is_register_hit, then-is_register_hit}
 

@@ -1,6 +1,6 @@
 use Rattle.sweep_masks.specs.Masks.{is_hit}
 use Rattle.tag_memory.specs.Cells.{register_at}
-use Rattle.sweep_masks.specs.MaskLaws.{AreBelow}
+use Rattle.heap_model.specs.BelowLaws.{AreBelow}
 use Rattle.sweep_masks.proofs.sweep.swept_registers.Given as goal
 
 abbrev pub invariant-loop-r : goal.invariant-loop-r

@@ -2,10 +2,11 @@ use Rattle.std.proofs.Common.{◌≡◌, ◌*◌, length, subst, arith}
 use Rattle.std.proofs.lemmas.Result.{IfOk-weaker}
 use Rattle.std.specs.Prelude.{IfOk}
 use Rattle.machine_steps.specs.Follow.{Follows}
-use Rattle.heap_machine.specs.Storage.{MachineState, state_of}
+use Rattle.heap_machine.specs.Storage.{MachineState}
+use Rattle.machine_storage.specs.Storage.{state_of}
 use Rattle.machine_steps.specs.Safety.{IsUnused, LeavesInUse}
 use Rattle.machine_steps.specs.Step.{Step}
-use Rattle.heap_machine.proofs.KeptSizes.{IsStorage-after}
+use Rattle.machine_storage.specs.KeptSizes.{IsStorage-after}
 use Rattle.heap_machine.proofs.machine.Machine.done.Goals as goal
 
 pub invariant_of-self : goal.invariant_of-self

@@ -1,8 +1,9 @@
 use Rattle.std.proofs.Common.{◌≡◌, ◌∙◌, ◌*◌, ap, length, subst, arith}
-use Rattle.heap_machine.specs.Storage.{MachineState, machine_of, state_of}
+use Rattle.heap_machine.specs.Storage.{MachineState, machine_of}
+use Rattle.machine_storage.specs.Storage.{state_of}
 use Rattle.machine_steps.specs.Safety.{IsUnused, LeavesInUse}
-use Rattle.heap_machine.specs.declared.storage.Storage.{Storage}
-use Rattle.heap_machine.proofs.KeptSizes.{Agrees-holds, IsStorage-followed}
+use Rattle.machine_storage.specs.declared.storage.Storage.{Storage}
+use Rattle.machine_storage.specs.KeptSizes.{Agrees-holds, IsStorage-followed}
 use Rattle.heap_machine.proofs.machine.Machine.followed.Goals as goal
 
 pub invariant_of-self : goal.invariant_of-self

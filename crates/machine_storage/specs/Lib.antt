@@ -1,0 +1,5 @@
+pub mod Followed
+pub mod KeptSizes
+pub mod Passes
+pub mod Revoked
+pub mod Storage

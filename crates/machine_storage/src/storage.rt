@@ -1,0 +1,241 @@
+//! The storage of a machine, and what each command does to it.
+
+ghost use Rattle.std.specs.Prelude.{◌≡◌, ◌<◌, IfErr, IfOk, IsOk, None, OnErr, OnOk, Some, length};
+ghost use Rattle.tag_memory.specs.Cells.{register_at, register_count};
+ghost use Rattle.trace_text.specs.Command.{IsValid};
+ghost use Rattle.machine_steps.specs.Dirty.{dirty_after};
+ghost use Rattle.machine_storage.specs.Storage.{IsStorage, state_of};
+ghost use Rattle.machine_storage.specs.Passes.{FindsTags};
+ghost use Rattle.machine_steps.specs.Safety.{FitsTypes};
+ghost use Rattle.machine_steps.specs.Step.{Step, NeedsNoMemory, access, first_failed, index_in};
+
+mod allocation;
+mod epochs;
+mod following;
+mod passes;
+mod replying;
+mod retry;
+mod revocation;
+
+use crate::fault::MachineFault;
+pub use crate::storage::passes::Found;
+use cap_codec::{
+    LOAD, LOAD_CAPABILITY, STORE, STORE_CAPABILITY, Word, and_perms, bounds, fields, from_bytes,
+    is_allowed, representable, set_address, with_bounds,
+};
+use heap_core::Heap;
+use heap_reply::{Reply, Shown, Trap};
+use tag_memory::{GRANULE, Memory, Registers};
+use trace_text::Command;
+
+/// One heap with its memory, and 32 registers. Each command takes a storage whose state is sound from one state to the
+/// next.
+#[derive(Drop)]
+pub struct Storage {
+    pub heap: Heap,
+    pub memory: Memory,
+    pub registers: Registers,
+}
+
+impl Storage {
+    /// Does one command. `pass` tells what a pass finds.
+    pub fn serve<P: Fn(&Storage) -> Option<Found>>(
+        &mut self,
+        command: Command,
+        pass: &P,
+    ) -> Result<Reply, MachineFault>
+        requires callable { P.IsAlwaysCallable pass.now }
+        requires finds { FindsTags (P.post pass.now) }
+        requires storage { IsStorage self.old }
+        requires valid { IsValid command }
+        ensures step { IfOk result (λ reply. Step (state_of self.old) command reply (state_of self.new)) }
+        ensures base { self.new.memory.base ≡ self.new.heap.base }
+        ensures dirty { OnOk result (self.new.memory.dirty ≡ dirty_after (state_of self.old) command self.old.memory.dirty) }
+        ensures err { OnErr result (self.new ≡ self.old) }
+        ensures memory { IfErr result (λ fault. fault ≡ MachineFault.Memory) }
+        ensures ok { NeedsNoMemory (state_of self.old) command → IsOk result }
+        // What the command's type says of its numbers, for the law `steps`.
+        ensures fits { FitsTypes command }
+    {
+        match command {
+            Command::Malloc { rd, size } => self.malloc(rd, size, pass),
+            Command::Free { rs } => Ok(self.free(rs)),
+            Command::Copy { rd, rs } => Ok(self.copy(rd, rs)),
+            Command::SetAddr { rd, rs, address } => Ok(self.set_address(rd, rs, address)),
+            Command::Narrow { rd, rs, length } => Ok(self.narrow(rd, rs, length)),
+            Command::AndPerm { rd, rs, mask } => Ok(self.and_perms(rd, rs, mask)),
+            Command::StoreCap { ra, rs } => Ok(self.store_cap(ra, rs)),
+            Command::LoadCap { rd, ra } => Ok(self.load_cap(rd, ra)),
+            Command::Write { ra, bytes } => Ok(self.write(ra, bytes)),
+            Command::Show { rs } => Ok(self.show(rs)),
+            Command::Sweep => self.sweep(None, pass),
+            Command::Begin => self.begin(None, pass),
+            Command::End => self.end(None, pass),
+        }
+    }
+
+    fn copy(&mut self, rd: u8, rs: u8) -> Reply
+        requires storage { IsStorage self.old }
+        requires valid { IsValid (Command.Copy rd rs) }
+        ensures step { Step (state_of self.old) (Command.Copy rd rs) result (state_of self.new) }
+        ensures base { self.new.memory.base ≡ self.new.heap.base }
+        ensures dirty { self.new.memory.dirty ≡ dirty_after (state_of self.old) (Command.Copy rd rs) self.old.memory.dirty }
+    {
+        let (word, tag) = self.registers.get(rs);
+        self.registers.set(rd, word, tag);
+        Reply::Done
+    }
+
+    fn set_address(&mut self, rd: u8, rs: u8, address: u64) -> Reply
+        requires storage { IsStorage self.old }
+        requires valid { IsValid (Command.SetAddr rd rs address) }
+        ensures step { Step (state_of self.old) (Command.SetAddr rd rs address) result (state_of self.new) }
+        ensures base { self.new.memory.base ≡ self.new.heap.base }
+        ensures dirty { self.new.memory.dirty ≡ dirty_after (state_of self.old) (Command.SetAddr rd rs address) self.old.memory.dirty }
+    {
+        let (word, tag) = self.registers.get(rs);
+        let keeps = representable(word, address);
+        self.registers
+            .set(rd, set_address(word, address), tag & keeps);
+        if tag & !keeps {
+            return Reply::Cleared;
+        }
+        Reply::Done
+    }
+
+    fn narrow(&mut self, rd: u8, rs: u8, length: u64) -> Reply
+        requires storage { IsStorage self.old }
+        requires valid { IsValid (Command.Narrow rd rs length) }
+        ensures step { Step (state_of self.old) (Command.Narrow rd rs length) result (state_of self.new) }
+        ensures base { self.new.memory.base ≡ self.new.heap.base }
+        ensures dirty { self.new.memory.dirty ≡ dirty_after (state_of self.old) (Command.Narrow rd rs length) self.old.memory.dirty }
+    {
+        let (word, tag) = self.registers.get(rs);
+        if !tag {
+            return Reply::Trap(Trap::Tag);
+        }
+        if length == 0 {
+            return Reply::Trap(Trap::Empty);
+        }
+        let base = fields(word).address;
+        if !bounds(word).hold(base, length) {
+            return Reply::Trap(Trap::Bounds);
+        }
+        let (word, exact) = with_bounds(word, base, u128::from(base) + u128::from(length));
+        if !exact {
+            return Reply::Trap(Trap::Inexact);
+        }
+        self.registers.set(rd, word, true);
+        Reply::Done
+    }
+
+    fn and_perms(&mut self, rd: u8, rs: u8, mask: u16) -> Reply
+        requires storage { IsStorage self.old }
+        requires valid { IsValid (Command.AndPerm rd rs mask) }
+        ensures step { Step (state_of self.old) (Command.AndPerm rd rs mask) result (state_of self.new) }
+        ensures base { self.new.memory.base ≡ self.new.heap.base }
+        ensures dirty { self.new.memory.dirty ≡ dirty_after (state_of self.old) (Command.AndPerm rd rs mask) self.old.memory.dirty }
+    {
+        let (word, tag) = self.registers.get(rs);
+        self.registers.set(rd, and_perms(word, mask), tag);
+        Reply::Done
+    }
+
+    // The index of the granule at a register's address, for an access that is allowed so.
+    fn granule_index(&self, ra: u8, allowed: bool) -> Result<usize, Trap>
+        requires storage { IsStorage self.now }
+        requires register { ra < register_count }
+        ensures passed { OnOk result (first_failed (access (register_at self.now.registers ra) allowed) ≡ None) }
+        ensures index { IfOk result (λ i. i ≡ index_in (state_of self.now) (register_at self.now.registers ra).0) }
+        ensures there { IfOk result (λ i. i < length self.now.memory.granules) }
+        ensures failed { IfErr result (λ trap. first_failed (access (register_at self.now.registers ra) allowed) ≡ Some trap) }
+    {
+        let (word, tag) = self.registers.get(ra);
+        if let Some(trap) = access_fault(word, tag, allowed) {
+            return Err(trap);
+        }
+        Ok(((fields(word).address - self.memory.base()) / GRANULE) as usize)
+    }
+
+    fn store_cap(&mut self, ra: u8, rs: u8) -> Reply
+        requires storage { IsStorage self.old }
+        requires valid { IsValid (Command.StoreCap ra rs) }
+        ensures step { Step (state_of self.old) (Command.StoreCap ra rs) result (state_of self.new) }
+        ensures base { self.new.memory.base ≡ self.new.heap.base }
+        ensures dirty { self.new.memory.dirty ≡ dirty_after (state_of self.old) (Command.StoreCap ra rs) self.old.memory.dirty }
+    {
+        let (word, tag) = self.registers.get(rs);
+        let (authority, _) = self.registers.get(ra);
+        let stores = is_allowed(authority, STORE);
+        let allowed = stores & (!tag | is_allowed(authority, STORE_CAPABILITY));
+        let i = match self.granule_index(ra, allowed) {
+            Ok(i) => i,
+            Err(trap) => return Reply::Trap(trap),
+        };
+        self.memory.put(i, word.bits, tag);
+        Reply::Done
+    }
+
+    fn load_cap(&mut self, rd: u8, ra: u8) -> Reply
+        requires storage { IsStorage self.old }
+        requires valid { IsValid (Command.LoadCap rd ra) }
+        ensures step { Step (state_of self.old) (Command.LoadCap rd ra) result (state_of self.new) }
+        ensures base { self.new.memory.base ≡ self.new.heap.base }
+        ensures dirty { self.new.memory.dirty ≡ dirty_after (state_of self.old) (Command.LoadCap rd ra) self.old.memory.dirty }
+    {
+        let (authority, _) = self.registers.get(ra);
+        let i = match self.granule_index(ra, is_allowed(authority, LOAD)) {
+            Ok(i) => i,
+            Err(trap) => return Reply::Trap(trap),
+        };
+        let (bits, tag) = self.memory.cell(i);
+        let keeps = is_allowed(authority, LOAD_CAPABILITY);
+        self.registers.set(rd, Word { bits }, tag & keeps);
+        Reply::Done
+    }
+
+    fn write(&mut self, ra: u8, bytes: [u8; 16]) -> Reply
+        requires storage { IsStorage self.old }
+        requires valid { IsValid (Command.Write ra bytes) }
+        ensures step { Step (state_of self.old) (Command.Write ra bytes) result (state_of self.new) }
+        ensures base { self.new.memory.base ≡ self.new.heap.base }
+        ensures dirty { self.new.memory.dirty ≡ dirty_after (state_of self.old) (Command.Write ra bytes) self.old.memory.dirty }
+    {
+        let (authority, _) = self.registers.get(ra);
+        let i = match self.granule_index(ra, is_allowed(authority, STORE)) {
+            Ok(i) => i,
+            Err(trap) => return Reply::Trap(trap),
+        };
+        self.memory.put(i, from_bytes(bytes).bits, false);
+        Reply::Done
+    }
+
+    fn show(&self, rs: u8) -> Reply
+        requires storage { IsStorage self.now }
+        requires valid { IsValid (Command.Show rs) }
+        ensures { Step (state_of self.now) (Command.Show rs) result (state_of self.now) }
+    {
+        let (word, tag) = self.registers.get(rs);
+        Reply::Shown(Shown::of(word, tag))
+    }
+}
+
+// The first check that fails of an access to the granule at a word's address, which is allowed so.
+fn access_fault(word: Word, tag: bool, allowed: bool) -> Option<Trap>
+    ensures { result ≡ first_failed (access (word, tag) allowed) }
+{
+    if !tag {
+        return Some(Trap::Tag);
+    }
+    if !allowed {
+        return Some(Trap::Perm);
+    }
+    let address = fields(word).address;
+    if !bounds(word).hold(address, GRANULE) {
+        return Some(Trap::Bounds);
+    }
+    if !address.is_multiple_of(GRANULE) {
+        return Some(Trap::Align);
+    }
+    None
+}

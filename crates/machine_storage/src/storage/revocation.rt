@@ -1,0 +1,181 @@
+//! Freeing and sweeping: blocks that wait, and the tags of the words that point there.
+
+ghost use Rattle.std.specs.Prelude.{◌≡◌, ◌<◌, ◌≤◌, ◌*◌, ◌^◌, ℕ, [], IfErr, IfOk, IsOk, List, OnErr, OnOk, count_ones, length, slice_index, sum_by};
+ghost use Rattle.heap_model.specs.Blocks.{Span};
+ghost use Rattle.heap_model.specs.Heap.{due};
+ghost use Rattle.heap_model.specs.Quarantine.{IsShadow};
+ghost use Rattle.heap_model.specs.Sweep.{tags_taken};
+ghost use Rattle.sweep_masks.specs.Masks.{TakeTags};
+ghost use Rattle.tag_memory.specs.Cells.{Cell, MemoryState};
+ghost use Rattle.trace_text.specs.Command.{IsValid};
+ghost use Rattle.machine_storage.specs.Followed.{CanReply, IsExpected};
+ghost use Rattle.machine_storage.specs.Storage.{IsStorage, state_of};
+ghost use Rattle.machine_storage.specs.Passes.{FindsTags};
+ghost use Rattle.machine_storage.specs.Revoked.{AreApplied, AreRevoked, IsRevocation, reply_of_revocation};
+ghost use Rattle.machine_steps.specs.Step.{Step, NeedsNoMemory};
+
+use crate::fault::MachineFault;
+use crate::storage::Storage;
+use crate::storage::following::differs;
+use crate::storage::passes::Found;
+use cap_codec::{Bounds, bounds};
+use heap_core::{Freed, due_registers};
+use heap_reply::{Reply, Trap};
+use tag_memory::{Memory, Registers};
+use trace_text::Command;
+
+// How many bits of these masks are 1.
+pub(super) fn ones_in(masks: &[u64]) -> u32
+    requires { 64 * length masks.now < 2 ^ 32 }
+    ensures count { result ≡ sum_by count_ones masks.now }
+    ensures most { result ≤ 64 * length masks.now }
+    ensures words { (w : ℕ) → slice_index masks.now w < 2 ^ 64 }
+{
+    let mut count = 0;
+    for mask in masks {
+        count += mask.count_ones();
+    }
+    count
+}
+
+/// The tags that a sweep takes.
+#[derive(Drop)]
+pub struct RevokedTags {
+    // A bit for each granule.
+    pub(super) masks: Vec<u64>,
+    // A bit for each register.
+    pub(super) registers: u32,
+}
+
+impl RevokedTags {
+    /// How many they are.
+    pub fn count(&self) -> u32
+        requires { 64 * length self.now.masks.items < 2 ^ 31 }
+        ensures { (held : List Span) (memory : MemoryState) (registers : List Cell) → AreRevoked held memory registers self.now
+            → result ≡ tags_taken held memory.granules registers }
+    {
+        let granules = ones_in(&self.masks);
+        granules + self.registers.count_ones()
+    }
+
+    /// Takes them.
+    pub fn apply(&self, memory: &mut Memory, registers: &mut Registers)
+        requires masks { 64 * length self.now.masks.items ≡ length memory.old.granules }
+        ensures taken { (held : List Span) → AreRevoked held memory.old registers.old self.now
+            → AreApplied held memory.old registers.old memory.new registers.new }
+        ensures base { memory.new.base ≡ memory.old.base }
+        ensures dirty { memory.new.dirty ≡ memory.old.dirty }
+    {
+        memory.clear_tags(&self.masks);
+        registers.clear_tags(self.registers);
+    }
+}
+
+impl Storage {
+    // The block with just a register's bounds goes into quarantine.
+    pub(super) fn free(&mut self, rs: u8) -> Reply
+        requires storage { IsStorage self.old }
+        requires valid { IsValid (Command.Free rs) }
+        ensures step { Step (state_of self.old) (Command.Free rs) result (state_of self.new) }
+        ensures base { self.new.memory.base ≡ self.new.heap.base }
+        ensures dirty { self.new.memory.dirty ≡ self.old.memory.dirty }
+    {
+        let (word, tag) = self.registers.get(rs);
+        if !tag {
+            return Reply::Trap(Trap::Tag);
+        }
+        let Bounds { base, top } = bounds(word);
+        let bytes = (top - u128::from(base)) as u64;
+        match self.heap.give_up(base, top) {
+            Freed::Held => Reply::Held(bytes),
+            Freed::AlreadyHeld => Reply::Trap(Trap::Freed),
+            Freed::NotBlock => Reply::Trap(Trap::NotBlock),
+        }
+    }
+
+    // Every tagged word whose base lies in a block that waits loses its tag; then these blocks are free. Where none waits
+    // there is nothing to look for. Where another reply is expected than the one that is answered, nothing is changed.
+    pub(super) fn sweep<P: Fn(&Storage) -> Option<Found>>(
+        &mut self,
+        expected: Option<Reply>,
+        pass: &P,
+    ) -> Result<Reply, MachineFault>
+        requires callable { P.IsAlwaysCallable pass.now }
+        requires finds { FindsTags (P.post pass.now) }
+        requires storage { IsStorage self.old }
+        ensures step { IfOk result (λ reply. IsExpected expected reply → Step (state_of self.old) Command.Sweep reply (state_of self.new)) }
+        ensures other { IfOk result (λ reply. ¬ IsExpected expected reply → CanReply (state_of self.old) Command.Sweep reply) }
+        ensures still { IfOk result (λ reply. ¬ IsExpected expected reply → self.new ≡ self.old) }
+        ensures base { self.new.memory.base ≡ self.new.heap.base }
+        ensures dirty { OnOk result (self.new.memory.dirty ≡ self.old.memory.dirty) }
+        ensures err { OnErr result (self.new ≡ self.old) }
+        ensures memory { IfErr result (λ fault. fault ≡ MachineFault.Memory) }
+        ensures ok { NeedsNoMemory (state_of self.old) Command.Sweep → IsOk result }
+    {
+        if self.heap.is_open() {
+            return Ok(Reply::Trap(Trap::Open));
+        }
+        if self.heap.held_bytes() == 0 {
+            return Ok(Reply::Swept {
+                cleared: 0,
+                released: 0,
+            });
+        }
+        let reply = self.revoke(expected, pass)?;
+        Ok(reply)
+    }
+
+    // Every tagged word whose base lies in a block that is due loses its tag; then these blocks are free. Whatever takes
+    // memory comes first. Where another reply is expected than the one that is answered, nothing is changed.
+    pub(super) fn revoke<P: Fn(&Storage) -> Option<Found>>(
+        &mut self,
+        expected: Option<Reply>,
+        pass: &P,
+    ) -> Result<Reply, MachineFault>
+        requires callable { P.IsAlwaysCallable pass.now }
+        requires finds { FindsTags (P.post pass.now) }
+        requires storage { IsStorage self.old }
+        ensures reply { IfOk result (λ reply. reply ≡ reply_of_revocation self.old) }
+        ensures done { IfOk result (λ reply. IsExpected expected reply → IsRevocation self.old self.new) }
+        ensures still { IfOk result (λ reply. ¬ IsExpected expected reply → self.new ≡ self.old) }
+        ensures base { self.new.memory.base ≡ self.new.heap.base }
+        ensures dirty { OnOk result (self.new.memory.dirty ≡ self.old.memory.dirty) }
+        ensures err { OnErr result (self.new ≡ self.old) }
+        ensures memory { IfErr result (λ fault. fault ≡ MachineFault.Memory) }
+    {
+        let revoked = self.revoked_tags(pass)?;
+        let reply = Reply::Swept {
+            cleared: revoked.count(),
+            released: self.heap.due_bytes(),
+        };
+        if differs(expected, reply) {
+            return Ok(reply);
+        }
+        revoked.apply(&mut self.memory, &mut self.registers);
+        self.heap.give_back();
+        Ok(reply)
+    }
+
+    // The tags of memory and registers that a pass takes now, of words whose base lies in a block that is due. In an open
+    // epoch such words stand in dirty pages alone, since none was left when it began, and later each came from a register.
+    pub(super) fn revoked_tags<P: Fn(&Storage) -> Option<Found>>(
+        &self,
+        pass: &P,
+    ) -> Result<RevokedTags, MachineFault>
+        requires callable { P.IsAlwaysCallable pass.now }
+        requires finds { FindsTags (P.post pass.now) }
+        requires storage { IsStorage self.now }
+        ensures memory { IfErr result (λ fault. fault ≡ MachineFault.Memory) }
+        ensures revoked { IfOk result (λ tags. AreRevoked (due self.now.heap) self.now.memory self.now.registers tags) }
+        ensures masks { IfOk result (λ tags. 64 * length tags.masks.items ≡ length self.now.memory.granules) }
+        ensures few { length self.now.memory.granules < 2 ^ 31 }
+    {
+        let Some(found) = pass(self) else {
+            return Err(MachineFault::Memory);
+        };
+        Ok(RevokedTags {
+            masks: found.masks,
+            registers: due_registers(&self.registers, &self.heap),
+        })
+    }
+}

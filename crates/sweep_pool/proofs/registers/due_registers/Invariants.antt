@@ -1,8 +1,0 @@
-use Rattle.heap_model.specs.Heap.{due}
-use Rattle.heap_model.specs.Sweep.{takes_tag}
-use Rattle.tag_memory.specs.Cells.{register_at}
-use Rattle.sweep_masks.specs.MaskLaws.{AreBelow}
-use Rattle.sweep_pool.proofs.registers.due_registers.Given as goal
-
-abbrev pub invariant-loop-r : goal.invariant-loop-r
-invariant-loop-r l = AreBelow (λ r. takes_tag (due l.heap) (register_at l.registers r)) l.mask l.r
