@@ -7,9 +7,9 @@ ghost use Rattle.machine_steps.specs.Dirty.{IsDirtied, dirty_after};
 ghost use Rattle.machine_steps.specs.Safety.{IsSafe, IsUnused, LeavesInUse};
 ghost use Rattle.machine_steps.specs.Step.{Step, NeedsNoMemory};
 
-use crate::fault::MachineFault;
 use crate::machine::Machine;
 use heap_reply::Reply;
+use machine_storage::MachineFault;
 use std::alloc::Global;
 use std::thread::Threads;
 use sweep_pool::Open;

@@ -11,9 +11,9 @@ ghost use Rattle.heap_machine.specs.Making.{FirstLacks, HasGuarded, HasGuardedAt
 ghost use Rattle.machine_steps.specs.Safety.{HoldsGuarded, IsGuarded};
 
 use crate::machine::Machine;
-use crate::storage::Storage;
 use cap_codec::{Word, bounds};
 use heap_core::Heap;
+use machine_storage::Storage;
 use sweep_pool::Cutting;
 use tag_memory::{Memory, PAGE_GRANULES, REGISTERS, Registers, WORD_GRANULES, lowest_bit};
 
