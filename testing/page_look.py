@@ -176,6 +176,8 @@ PRESENT = r"""(() => {
     range.selectNodeContents(node);
     const outside = box => box.left < -1 || box.top < -1 || box.right > innerWidth + 1 || box.bottom > innerHeight + 1;
     if ((part || {}).id !== 'three' && [...range.getClientRects()].some(outside)) past.push(node.data);
+    const cell = parent.closest('#rows td');
+    if (cell && [...range.getClientRects()].some(box => box.right > cell.getBoundingClientRect().right + 1)) past.push(`${node.data} past its cell`);
   }
   for (const part of parts.map(byId)) if (part.scrollHeight > part.clientHeight + 1 || part.scrollWidth > part.clientWidth + 1) past.push(part.id);
   if (document.documentElement.scrollHeight > innerHeight) past.push('page');
