@@ -62,7 +62,7 @@ pub fn paint_shadow<R: Threads + Sync, G: Gate + Sync>(
     cutting.invariant();
     let workers = cutting.workers();
     if workers == 1 {
-        let shadow = copied(alloc, heap)?;
+        let shadow = copy_due(alloc, heap)?;
         gate.pass(0);
         return Ok(shadow);
     }
@@ -70,7 +70,7 @@ pub fn paint_shadow<R: Threads + Sync, G: Gate + Sync>(
 }
 
 // The shadow that the heap itself gives.
-fn copied(alloc: Global, heap: &Heap) -> Result<Shadow, SweepFault>
+fn copy_due(alloc: Global, heap: &Heap) -> Result<Shadow, SweepFault>
     ensures shadow { IfOk result (IsShadow heap.now) }
     ensures err { IfErr result (λ fault. fault ≡ SweepFault.Memory) }
 {
@@ -101,11 +101,11 @@ fn paint_shared<R: Threads + Sync, G: Gate + Sync>(
         gate,
         workers,
     };
-    let Ok(seats) = painted(rt, &painting, shares) else {
-        return copied(alloc, heap);
+    let Ok(seats) = paint_by_threads(rt, &painting, shares) else {
+        return copy_due(alloc, heap);
     };
-    let seat = joined(&painting, seats);
-    finished(alloc, heap, board, seat)
+    let seat = join_seats(&painting, seats);
+    finish(alloc, heap, board, seat)
 }
 
 // A board with a bit for each granule, and the seat that has a part for each worker.
@@ -178,7 +178,7 @@ pub fn share_of(number: u32, workers: u32, blocks: usize) -> Range<usize>
 }
 
 // What one worker does.
-fn painted_by<G: Gate>(painting: &Painting<'_, G>, share: Share) -> MarkSeat
+fn paint_share<G: Gate>(painting: &Painting<'_, G>, share: Share) -> MarkSeat
     requires blank { IsUnpainted painting.now.board.now painting.now.workers share.number share }
     requires granules { HasGranules painting.now.heap.now painting.now.board.now }
     requires most { painting.now.workers ≤ 64 }
@@ -194,7 +194,7 @@ fn painted_by<G: Gate>(painting: &Painting<'_, G>, share: Share) -> MarkSeat
 }
 
 // All shares painted, each in a thread of its own where one can be started.
-fn painted<R: Threads + Sync, G: Gate + Sync>(
+fn paint_by_threads<R: Threads + Sync, G: Gate + Sync>(
     rt: &R,
     painting: &Painting<'_, G>,
     shares: Vec<Share>,
@@ -206,11 +206,11 @@ fn painted<R: Threads + Sync, G: Gate + Sync>(
     ensures painted { IfOk result (λ seats.
         EachAt (IsPaintedShare painting.now.heap.now painting.now.board.now painting.now.workers) seats.items) }
 {
-    thread::map_vec(rt, shares, &|share| { painted_by(painting, share) })
+    thread::map_vec(rt, shares, &|share| { paint_share(painting, share) })
 }
 
 // The seats of all shares, joined.
-fn joined<G>(painting: &Painting<'_, G>, seats: Vec<MarkSeat>) -> MarkSeat
+fn join_seats<G>(painting: &Painting<'_, G>, seats: Vec<MarkSeat>) -> MarkSeat
     requires count { vec_len seats ≡ painting.now.workers }
     requires some { 0 < painting.now.workers }
     requires painted { EachAt (IsPaintedShare painting.now.heap.now painting.now.board.now painting.now.workers) seats.items }
@@ -228,7 +228,7 @@ fn joined<G>(painting: &Painting<'_, G>, seats: Vec<MarkSeat>) -> MarkSeat
 }
 
 // The shadow, once all blocks that are due are painted.
-fn finished(alloc: Global, heap: &Heap, board: Board, seat: MarkSeat) -> Result<Shadow, SweepFault>
+fn finish(alloc: Global, heap: &Heap, board: Board, seat: MarkSeat) -> Result<Shadow, SweepFault>
     requires painted { HasPainted heap.now board 0 (length (due heap.now)) seat }
     requires parts { seat.parts ≡ board.parts }
     requires granules { HasGranules heap.now board }

@@ -42,7 +42,7 @@ impl Machine {
         ensures dirtied { IsDirtied self.new.state self.new.dirty }
     {
         let cutting = self.cutting;
-        self.followed(
+        self.follow_with(
             command,
             answer,
             &|storage: &Storage| -> Option<Found>
@@ -85,7 +85,7 @@ impl Machine {
         ensures dirtied { IsDirtied self.new.state self.new.dirty }
     {
         let cutting = self.cutting;
-        self.followed(
+        self.follow_with(
             command,
             answer,
             &|storage: &Storage| -> Option<Found>
@@ -95,7 +95,7 @@ impl Machine {
     }
 
     // Does one command as it was answered, whoever makes its passes.
-    fn followed<P: Fn(&Storage) -> Option<Found>>(
+    fn follow_with<P: Fn(&Storage) -> Option<Found>>(
         &mut self,
         command: Command,
         answer: Reply,

@@ -43,7 +43,7 @@ impl Machine {
         ensures dirtied { IsDirtied self.new.state self.new.dirty }
     {
         let cutting = self.cutting;
-        self.done(
+        self.step_with(
             command,
             &|storage: &Storage| -> Option<Found>
                 ensures { IsStorage storage.now → IfSome result (IsFound storage.now) }
@@ -73,7 +73,7 @@ impl Machine {
         ensures dirtied { IsDirtied self.new.state self.new.dirty }
     {
         let cutting = self.cutting;
-        self.done(
+        self.step_with(
             command,
             &|storage: &Storage| -> Option<Found>
                 ensures { IsStorage storage.now → IfSome result (IsFound storage.now) }
@@ -82,7 +82,7 @@ impl Machine {
     }
 
     // Does one command, whoever makes its passes.
-    fn done<P: Fn(&Storage) -> Option<Found>>(
+    fn step_with<P: Fn(&Storage) -> Option<Found>>(
         &mut self,
         command: Command,
         pass: &P,

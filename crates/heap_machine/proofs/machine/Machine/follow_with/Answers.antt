@@ -4,7 +4,7 @@ use Rattle.machine_storage.specs.Storage.{state_of}
 use Rattle.machine_steps.specs.Safety.{IsUnused, LeavesInUse}
 use Rattle.machine_storage.specs.declared.storage.Storage.{Storage}
 use Rattle.machine_storage.specs.KeptSizes.{Agrees-holds, IsStorage-followed}
-use Rattle.heap_machine.proofs.machine.Machine.followed.Goals as goal
+use Rattle.heap_machine.proofs.machine.Machine.follow_with.Goals as goal
 
 pub invariant_of-self : goal.invariant_of-self
 invariant_of-self g c =

@@ -2,7 +2,7 @@ use Rattle.std.proofs.Common.{rules, ◌≡◌, ◌≤◌, ◌+◌, ◌++◌, �
 use Rattle.heap_model.specs.Heap.{due}
 use Rattle.sweep_pool.specs.Painting.{HasPainted, IsPaintedShare, share_start}
 use Rattle.sweep_pool.proofs.PaintLaws.{each_prefix, one_longer, painted-join, share_last, share_limit, share_order}
-use Rattle.sweep_pool.proofs.painting.joined.Goals as goal
+use Rattle.sweep_pool.proofs.painting.join_seats.Goals as goal
 
 pub loop-seat-init : goal.loop-seat-init
 loop-seat-init g c =

@@ -7,7 +7,7 @@ use Rattle.machine_storage.specs.Storage.{state_of}
 use Rattle.machine_steps.specs.Safety.{IsUnused, LeavesInUse}
 use Rattle.machine_steps.specs.Step.{Step}
 use Rattle.machine_storage.specs.KeptSizes.{IsStorage-after}
-use Rattle.heap_machine.proofs.machine.Machine.done.Goals as goal
+use Rattle.heap_machine.proofs.machine.Machine.step_with.Goals as goal
 
 pub invariant_of-self : goal.invariant_of-self
 invariant_of-self g c =

@@ -1,6 +1,6 @@
 use Rattle.std.proofs.Common.{◌≡◌, ◌∙◌, ◌*◌, arith, length}
 use Rattle.sweep_pool.proofs.PaintLaws.{shadow-from_words, words-held, words-long}
-use Rattle.sweep_pool.proofs.painting.finished.Goals as goal
+use Rattle.sweep_pool.proofs.painting.finish.Goals as goal
 
 pub from_words-requires : goal.from_words-requires
 from_words-requires c =

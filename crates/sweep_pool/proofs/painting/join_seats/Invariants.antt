@@ -1,7 +1,7 @@
 use Rattle.std.proofs.Common.{◌≡◌, ◌≤◌, ◌+◌, length}
 use Rattle.heap_model.specs.Heap.{due}
 use Rattle.sweep_pool.specs.Painting.{EachAt, HasPainted, IsPaintedShare, share_start}
-use Rattle.sweep_pool.proofs.painting.joined.Given as goal
+use Rattle.sweep_pool.proofs.painting.join_seats.Given as goal
 
 abbrev pub invariant-loop-seat : goal.invariant-loop-seat
 invariant-loop-seat g l = record {

@@ -2,7 +2,7 @@ use Rattle.std.proofs.Common.{◌∙◌, length, subst}
 use Rattle.heap_model.specs.Heap.{due}
 use Rattle.sweep_pool.specs.Painting.{HasPainted, share_start}
 use Rattle.sweep_pool.proofs.PaintLaws.{painted-share}
-use Rattle.sweep_pool.proofs.painting.painted_by.Goals as goal
+use Rattle.sweep_pool.proofs.painting.paint_share.Goals as goal
 
 pub returns : goal.returns
 returns g c =
