@@ -4,7 +4,7 @@ ghost use Rattle.std.specs.Prelude.{◌≡◌, ◌<◌, IfErr, IfOk, IsOk, None,
 ghost use Rattle.tag_memory.specs.Cells.{register_at, register_count};
 ghost use Rattle.trace_text.specs.Command.{IsValid};
 ghost use Rattle.machine_steps.specs.Dirty.{dirty_after};
-ghost use Rattle.machine_storage.specs.Storage.{IsStorage, state_of};
+ghost use Rattle.machine_storage.specs.Storage.{IsServed, IsStorage, state_of};
 ghost use Rattle.machine_storage.specs.Passes.{FindsTags};
 ghost use Rattle.machine_steps.specs.Safety.{FitsTypes};
 ghost use Rattle.machine_steps.specs.Step.{Step, NeedsNoMemory, access, first_failed, index_in};
@@ -77,9 +77,7 @@ impl Storage {
     fn copy(&mut self, rd: u8, rs: u8) -> Reply
         requires storage { IsStorage self.old }
         requires valid { IsValid (Command.Copy rd rs) }
-        ensures step { Step (state_of self.old) (Command.Copy rd rs) result (state_of self.new) }
-        ensures base { self.new.memory.base ≡ self.new.heap.base }
-        ensures dirty { self.new.memory.dirty ≡ dirty_after (state_of self.old) (Command.Copy rd rs) self.old.memory.dirty }
+        ensures { IsServed self.old (Command.Copy rd rs) result self.new }
     {
         let (word, tag) = self.registers.get(rs);
         self.registers.set(rd, word, tag);
@@ -89,9 +87,7 @@ impl Storage {
     fn set_address(&mut self, rd: u8, rs: u8, address: u64) -> Reply
         requires storage { IsStorage self.old }
         requires valid { IsValid (Command.SetAddr rd rs address) }
-        ensures step { Step (state_of self.old) (Command.SetAddr rd rs address) result (state_of self.new) }
-        ensures base { self.new.memory.base ≡ self.new.heap.base }
-        ensures dirty { self.new.memory.dirty ≡ dirty_after (state_of self.old) (Command.SetAddr rd rs address) self.old.memory.dirty }
+        ensures { IsServed self.old (Command.SetAddr rd rs address) result self.new }
     {
         let (word, tag) = self.registers.get(rs);
         let keeps = representable(word, address);
@@ -106,9 +102,7 @@ impl Storage {
     fn narrow(&mut self, rd: u8, rs: u8, length: u64) -> Reply
         requires storage { IsStorage self.old }
         requires valid { IsValid (Command.Narrow rd rs length) }
-        ensures step { Step (state_of self.old) (Command.Narrow rd rs length) result (state_of self.new) }
-        ensures base { self.new.memory.base ≡ self.new.heap.base }
-        ensures dirty { self.new.memory.dirty ≡ dirty_after (state_of self.old) (Command.Narrow rd rs length) self.old.memory.dirty }
+        ensures { IsServed self.old (Command.Narrow rd rs length) result self.new }
     {
         let (word, tag) = self.registers.get(rs);
         if !tag {
@@ -132,9 +126,7 @@ impl Storage {
     fn and_perms(&mut self, rd: u8, rs: u8, mask: u16) -> Reply
         requires storage { IsStorage self.old }
         requires valid { IsValid (Command.AndPerm rd rs mask) }
-        ensures step { Step (state_of self.old) (Command.AndPerm rd rs mask) result (state_of self.new) }
-        ensures base { self.new.memory.base ≡ self.new.heap.base }
-        ensures dirty { self.new.memory.dirty ≡ dirty_after (state_of self.old) (Command.AndPerm rd rs mask) self.old.memory.dirty }
+        ensures { IsServed self.old (Command.AndPerm rd rs mask) result self.new }
     {
         let (word, tag) = self.registers.get(rs);
         self.registers.set(rd, and_perms(word, mask), tag);
@@ -160,9 +152,7 @@ impl Storage {
     fn store_cap(&mut self, ra: u8, rs: u8) -> Reply
         requires storage { IsStorage self.old }
         requires valid { IsValid (Command.StoreCap ra rs) }
-        ensures step { Step (state_of self.old) (Command.StoreCap ra rs) result (state_of self.new) }
-        ensures base { self.new.memory.base ≡ self.new.heap.base }
-        ensures dirty { self.new.memory.dirty ≡ dirty_after (state_of self.old) (Command.StoreCap ra rs) self.old.memory.dirty }
+        ensures { IsServed self.old (Command.StoreCap ra rs) result self.new }
     {
         let (word, tag) = self.registers.get(rs);
         let (authority, _) = self.registers.get(ra);
@@ -179,9 +169,7 @@ impl Storage {
     fn load_cap(&mut self, rd: u8, ra: u8) -> Reply
         requires storage { IsStorage self.old }
         requires valid { IsValid (Command.LoadCap rd ra) }
-        ensures step { Step (state_of self.old) (Command.LoadCap rd ra) result (state_of self.new) }
-        ensures base { self.new.memory.base ≡ self.new.heap.base }
-        ensures dirty { self.new.memory.dirty ≡ dirty_after (state_of self.old) (Command.LoadCap rd ra) self.old.memory.dirty }
+        ensures { IsServed self.old (Command.LoadCap rd ra) result self.new }
     {
         let (authority, _) = self.registers.get(ra);
         let i = match self.granule_index(ra, is_allowed(authority, LOAD)) {
@@ -197,9 +185,7 @@ impl Storage {
     fn write(&mut self, ra: u8, bytes: [u8; 16]) -> Reply
         requires storage { IsStorage self.old }
         requires valid { IsValid (Command.Write ra bytes) }
-        ensures step { Step (state_of self.old) (Command.Write ra bytes) result (state_of self.new) }
-        ensures base { self.new.memory.base ≡ self.new.heap.base }
-        ensures dirty { self.new.memory.dirty ≡ dirty_after (state_of self.old) (Command.Write ra bytes) self.old.memory.dirty }
+        ensures { IsServed self.old (Command.Write ra bytes) result self.new }
     {
         let (authority, _) = self.registers.get(ra);
         let i = match self.granule_index(ra, is_allowed(authority, STORE)) {

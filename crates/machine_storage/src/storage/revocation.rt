@@ -9,7 +9,7 @@ ghost use Rattle.sweep_masks.specs.Masks.{TakeTags};
 ghost use Rattle.tag_memory.specs.Cells.{Cell, MemoryState};
 ghost use Rattle.trace_text.specs.Command.{IsValid};
 ghost use Rattle.machine_storage.specs.Followed.{CanReply, IsExpected};
-ghost use Rattle.machine_storage.specs.Storage.{IsStorage, state_of};
+ghost use Rattle.machine_storage.specs.Storage.{IsServed, IsStorage, state_of};
 ghost use Rattle.machine_storage.specs.Passes.{FindsTags};
 ghost use Rattle.machine_storage.specs.Revoked.{AreApplied, AreRevoked, IsRevocation, reply_of_revocation};
 ghost use Rattle.machine_steps.specs.Step.{Step, NeedsNoMemory};
@@ -76,9 +76,7 @@ impl Storage {
     pub(super) fn free(&mut self, rs: u8) -> Reply
         requires storage { IsStorage self.old }
         requires valid { IsValid (Command.Free rs) }
-        ensures step { Step (state_of self.old) (Command.Free rs) result (state_of self.new) }
-        ensures base { self.new.memory.base ≡ self.new.heap.base }
-        ensures dirty { self.new.memory.dirty ≡ self.old.memory.dirty }
+        ensures { IsServed self.old (Command.Free rs) result self.new }
     {
         let (word, tag) = self.registers.get(rs);
         if !tag {
