@@ -7,7 +7,7 @@ ghost use Rattle.sweep_masks.specs.Claims.{AreAllSwept, HasTasks, IsDone};
 ghost use Rattle.sweep_masks.specs.Masks.{AreMasks, IsShadowOf, TakeTags};
 ghost use Rattle.sweep_masks.specs.Tasks.{IsTaskCount, page_count};
 
-use crate::alone::sweep_alone;
+use crate::alone::sweep_pages;
 use crate::cutting::Cutting;
 use crate::gate::Gate;
 use crate::gathering::{GatherFault, gather};
@@ -40,7 +40,7 @@ pub fn sweep_masks<R: Threads + Sync, G: Gate + Sync>(
     ensures err { IfErr result (λ fault. fault ≡ SweepFault.Memory) }
 {
     if workers_for(memory, cutting) == 1 {
-        return sweep_alone(alloc, memory, shadow, cutting, gate);
+        return sweep_masks_alone(alloc, memory, shadow, cutting, gate);
     }
     sweep_shared(rt, alloc, memory, shadow, cutting, gate)
 }
@@ -77,7 +77,7 @@ pub fn sweep_masks_alone<G: Gate>(
         → IfOk result (λ masks. TakeTags memory.now (due heap) masks.items) }
     ensures err { IfErr result (λ fault. fault ≡ SweepFault.Memory) }
 {
-    sweep_alone(alloc, memory, shadow, cutting, gate)
+    sweep_pages(alloc, memory, shadow, cutting, gate, false)
 }
 
 // The same, by workers that claim tasks on a board.
