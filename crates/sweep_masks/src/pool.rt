@@ -13,7 +13,7 @@ use crate::gate::Gate;
 use crate::gathering::{GatherFault, gather};
 use crate::sweep::SweepFault;
 use crate::task::Swept;
-use crate::workers::{Done, Shared, collected, deal, worked};
+use crate::workers::{Done, Shared, collect, deal, work_by_threads};
 use heap_model::Shadow;
 use mark_board::{Board, BoardFault, MarkSeat};
 use std::alloc::Global;
@@ -102,12 +102,12 @@ fn sweep_shared<R: Threads + Sync, G: Gate + Sync>(
         board: &board,
         gate,
     };
-    let mut works = worked(rt, alloc, &shared, jobs)?;
+    let mut works = work_by_threads(rt, alloc, &shared, jobs)?;
     let Some(first) = works.pop() else {
         unreachable!()
     };
-    let done = collected(&shared, first, works)?;
-    finished(alloc, memory, shadow, cutting, board, done)
+    let done = collect(&shared, first, works)?;
+    finish(alloc, memory, shadow, cutting, board, done)
 }
 
 // How many tasks the memory has.
@@ -155,7 +155,7 @@ fn board_for(
 }
 
 // The masks of the whole memory, once every task was tried and all seats are joined.
-fn finished(
+fn finish(
     alloc: Global,
     memory: &Memory,
     shadow: &Shadow,

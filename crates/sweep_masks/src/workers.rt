@@ -182,7 +182,7 @@ pub(crate) fn deal(
 }
 
 /// What each worker gives back, each in a thread of its own where one can be started.
-pub(crate) fn worked<R: Threads + Sync, G: Gate + Sync>(
+pub(crate) fn work_by_threads<R: Threads + Sync, G: Gate + Sync>(
     rt: &R,
     alloc: Global,
     shared: &Shared<'_, G>,
@@ -200,7 +200,7 @@ pub(crate) fn worked<R: Threads + Sync, G: Gate + Sync>(
 }
 
 // One more worker's seat and tasks.
-fn joined<G>(shared: &Shared<'_, G>, done: Done, one: Work) -> Result<Done, SweepFault>
+fn join_one<G>(shared: &Shared<'_, G>, done: Done, one: Work) -> Result<Done, SweepFault>
     requires seat { IsOf shared.now.board.now done.seat }
     requires done { IsDone shared.now.memory.now shared.now.shadow.now shared.now.cutting.now shared.now.board.now.bits done.seat done.list.items }
     requires one { IsWork shared.now.memory.now shared.now.shadow.now shared.now.cutting.now shared.now.board.now one }
@@ -224,7 +224,7 @@ fn joined<G>(shared: &Shared<'_, G>, done: Done, one: Work) -> Result<Done, Swee
 }
 
 /// What all workers come to.
-pub(crate) fn collected<G>(
+pub(crate) fn collect<G>(
     shared: &Shared<'_, G>,
     first: Work,
     others: Vec<Work>,
@@ -241,7 +241,7 @@ pub(crate) fn collected<G>(
     let list = found?;
     let mut done = Done { seat, list };
     for one in others {
-        done = joined(shared, done, one)?;
+        done = join_one(shared, done, one)?;
     }
     Ok(done)
 }

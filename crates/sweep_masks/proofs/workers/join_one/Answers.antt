@@ -2,7 +2,7 @@ use Rattle.std.proofs.Common.{rules, ◌≡◌, ◌++◌, Ok}
 use Rattle.sweep_masks.specs.Claims.{IsDone}
 use Rattle.sweep_masks.specs.declared.workers.Work.{Work}
 use Rattle.sweep_masks.proofs.CountLaws.{together}
-use Rattle.sweep_masks.proofs.workers.joined.Goals as goal
+use Rattle.sweep_masks.proofs.workers.join_one.Goals as goal
 
 pub returns-clause-done : goal.returns-clause-done
 returns-clause-done g c =

@@ -1,6 +1,6 @@
 use Rattle.sweep_masks.specs.Claims.{AreAllSwept}
 use Rattle.sweep_masks.proofs.CountLaws.{all_once}
-use Rattle.sweep_masks.proofs.pool.finished.Goals as goal
+use Rattle.sweep_masks.proofs.pool.finish.Goals as goal
 
 pub whole_masks-requires-clause-list : goal.whole_masks-requires-clause-list
 whole_masks-requires-clause-list c =

@@ -1,7 +1,7 @@
 use Rattle.std.proofs.Common.{◌≡◌, ◌+◌, length}
 use Rattle.mark_board.specs.Board.{IsOf}
 use Rattle.sweep_masks.specs.Claims.{IsDone}
-use Rattle.sweep_masks.proofs.workers.collected.Given as goal
+use Rattle.sweep_masks.proofs.workers.collect.Given as goal
 
 abbrev pub invariant-loop-one : goal.invariant-loop-one
 invariant-loop-one g l = record {
