@@ -18,7 +18,7 @@ hit-passed m shadow true i looked = sym (ap (λ (d : Bool). is_hit_at m shadow i
 hit-passed m shadow false i looked = absurd cc
 
 -- The masks of one page more, where all other words stay.
-pages-more : (test : ℕ → Bool) (old new : List ℕ) (page : ℕ)
+pub pages-more : (test : ℕ → Bool) (old new : List ℕ) (page : ℕ)
     → ((i : ℕ) → i / 256 ≡ page → is_set_for new i ≡ test i)
     → ((w : ℕ) → w / 4 ≢ page → get_or new w 0 ≡ get_or old w 0)
     → ((i : ℕ) → i / 256 < page → is_set_for old i ≡ test i)

@@ -10,7 +10,7 @@ ghost use Rattle.sweep_masks.specs.Tasks.{IsTaskCount, page_count};
 use crate::alone::sweep_pages;
 use crate::cutting::Cutting;
 use crate::gate::Gate;
-use crate::gathering::{GatherFault, gather};
+use crate::gathering::place;
 use crate::sweep::SweepFault;
 use crate::task::Swept;
 use crate::workers::{Done, Shared, collect, deal, work_by_threads};
@@ -18,7 +18,7 @@ use heap_model::Shadow;
 use mark_board::{Board, BoardFault, MarkSeat};
 use std::alloc::Global;
 use std::thread::Threads;
-use tag_memory::Memory;
+use tag_memory::{Memory, PAGE_WORDS};
 
 /// The masks of a whole memory, four words a page: a bit is 1 exactly where its granule is tagged and
 /// the base of its word lies in a painted granule, which for a heap's shadow is in a block that is due. The
@@ -171,11 +171,9 @@ fn finish(
     ensures err { IfErr result (λ fault. fault ≡ SweepFault.Memory) }
 {
     let Done { seat, list } = done;
-    let tasks = board.bits();
-    let Ok(_words) = board.finish(alloc, seat) else {
-        return Err(SweepFault::Memory);
-    };
-    whole_masks(alloc, memory, shadow, cutting, tasks, list)
+    // Called for what it ensures alone: all that was seen was claimed.
+    board.close(seat);
+    whole_masks(alloc, memory, shadow, cutting, list)
 }
 
 // The masks of the whole memory, from all its tasks.
@@ -184,19 +182,17 @@ fn whole_masks(
     memory: &Memory,
     shadow: &Shadow,
     cutting: &Cutting,
-    tasks: u32,
     list: Vec<Swept>,
 ) -> Result<Vec<u64>, SweepFault>
-    requires tasks { IsTaskCount cutting.now (page_count memory.now) tasks }
-    requires list { AreAllSwept memory.now shadow.now cutting.now tasks list.items }
+    requires { AreAllSwept memory.now shadow.now cutting.now list.items }
     ensures ok { IfOk result (λ masks. AreMasks memory.now shadow.now masks.items) }
     ensures err { IfErr result (λ fault. fault ≡ SweepFault.Memory) }
 {
-    match gather(alloc, tasks, cutting, memory.pages(), list) {
-        Ok(masks) => Ok(masks),
-        Err(fault) => match fault {
-            GatherFault::Memory => Err(SweepFault::Memory),
-            _ => unreachable!(),
-        },
+    cutting.invariant();
+    let mut masks = vec![in alloc; 0; PAGE_WORDS * memory.pages() as usize]?;
+    let task_words = PAGE_WORDS * cutting.pages_per_task() as usize;
+    for swept in &list {
+        place(&mut masks, swept.task as usize * task_words, &swept.masks);
     }
+    Ok(masks)
 }
