@@ -197,12 +197,36 @@ impl Board {
         ensures inside { IfOk result (λ words. LiesOnBoard self.bits words.items) }
     {
         let row = vec![in alloc; 0; self.words()]?;
-        let Board { table, bits: _ } = self;
-        let MarkSeat { seat, parts: _ } = seat;
-        let closed = table.close_with(seat);
+        let closed = self.close_table(seat);
         let found = copied(&closed, row);
         closed.free();
         Ok(found)
+    }
+
+    /// Gives up the board and the seat that has all parts. It answers no words and needs no memory: what `finish` would
+    /// answer is just what the seat set first, and just what it has seen.
+    pub fn close(self, seat: MarkSeat)
+        requires board { IsOf self seat }
+        requires parts { seat.parts ≡ self.parts }
+        ensures same { seat.mine ≡ seat.seen }
+        ensures inside { LiesOnBoard self.bits seat.mine }
+    {
+        self.close_table(seat).free();
+    }
+
+    // The words at the end, with all that is needed to give them back.
+    fn close_table(self, seat: MarkSeat) -> Closed<(), Global>
+        requires board { IsOf self seat }
+        requires parts { seat.parts ≡ self.parts }
+        ensures width { slots_len result.words ≡ word_count self }
+        ensures empty { slots_len result.slots ≡ 0 }
+        ensures full { IsFull result.words }
+        ensures mine { slots_items result.words ≡ seat.mine }
+        ensures seen { slots_items result.words ≡ seat.seen }
+    {
+        let Board { table, bits: _ } = self;
+        let MarkSeat { seat, parts: _ } = seat;
+        table.close_with(seat)
     }
 }
 

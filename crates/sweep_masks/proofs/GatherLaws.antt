@@ -1,10 +1,11 @@
 -- Lists of swept tasks: how often a task stands in one, and where its masks are placed.
-use Rattle.std.proofs.Common.{◌≡◌, ◌≢◌, ℕ, ◌+◌, ◌*◌, ◌<◌, ◌≤◌, ◌⊎◌, inl, inr, All, Bool, true, false, List, [], ◌∷◌, ◌++◌, length, get_or, set, take, cond, Some, refl, ap, sym, ◌∙◌, subst, arith}
+use Rattle.std.proofs.Common.{◌≡◌, ◌≢◌, ℕ, zero, suc, ◌+◌, ◌*◌, ◌<◌, ◌≤◌, ◌⊎◌, inl, inr, All, Bool, true, false, List, [], ◌∷◌, ◌++◌, length, get_or, set, take, cond, Some, refl, ap, sym, ◌∙◌, subst, arith}
 use mathlib.Core.Logic.{dite}
 use Rattle.std.proofs.Math.Decide.{ℕ_discrete, dec_lt}
 use Rattle.std.proofs.lemmas.List.{get_or-set_other, get_or-set_same}
-use Rattle.std.proofs.lemmas.List.Elements.{All-cons, All-head, All-nil, All-push, All-tail}
+use Rattle.std.proofs.lemmas.List.Elements.{All-cons, All-head, All-nil, All-push, All-tail, All-weaker}
 use Rattle.std.proofs.lemmas.Nat.{mul-le}
+use Rattle.std.proofs.lemmas.Option.{get_or_from_slice_get, slice_get_within}
 use Rattle.std.specs.Prelude.{slice_get}
 use Rattle.sweep_masks.specs.ClaimLaws.{times-hit, times-miss, times-push_hit, times-push_miss}
 use Rattle.sweep_masks.specs.Gather.{IsFaultAt, IsFaultOf, IsGathered, IsPlaced, IsSized, times}
@@ -27,6 +28,14 @@ found P k (s ∷ ss) all some = dite (ℕ_discrete s.task k)
     (λ here. (s, here, All-head P s ss all))
     (λ other. let m = times-miss k s ss other in found P k ss (All-tail P s ss all) (omega arith))
 
+-- An item's task stands before it once less at most.
+pub times-before : (k : ℕ) (items : List Swept) (i : ℕ) (s : Swept) → slice_get items i ≡ Some s → s.task ≡ k → times k (take i items) + 1 ≤ times k items
+times-before k [] i s here is = let past = slice_get_within [] i s here in absurd (omega arith)
+times-before k (x ∷ xs) zero s here is =
+    let same : x ≡ s = get_or_from_slice_get (x ∷ xs) zero s s here in
+    let h = times-hit k x xs (ap (λ (z : Swept). z.task) same ∙ is) in omega arith
+times-before k (x ∷ xs) (suc i) s here is = let r = times-before k xs i s here is in omega arith
+
 -- ---- places
 
 -- The pages of a task lie before those of a later one.
@@ -42,17 +51,34 @@ apart c pages k n j w two n_le w_lt =
     (λ before. let far = pages_before p j k before in let a : ℕ = j * p in let b : ℕ = k * p in inl (omega arith))
     (λ after. let far = pages_before p k j (omega arith) in let a : ℕ = j * p in let b : ℕ = k * p in inr (omega arith))
 
-still_there : (c : Cut) (tasks pages k n : ℕ) (masks masks' : List ℕ) (items : List Swept)
+-- The item has a word for each that its task's masks take.
+abbrev pub HasItsWords : Cut → ℕ → Swept → Type 0
+HasItsWords c pages s = length s.masks.items ≡ task_words c pages s.task
+
+still_there : (c : Cut) (pages k n : ℕ) (masks masks' : List ℕ) (items : List Swept)
     → n ≤ task_words c pages k
     → ((w : ℕ) → ((w < 4 * (k * c.pages_per_task)) ⊎ (4 * (k * c.pages_per_task) + n ≤ w)) → get_or masks' w 0 ≡ get_or masks w 0)
-    → times k items ≡ 0 → All (IsSized c tasks pages) items → All (IsPlaced c masks) items → All (IsPlaced c masks') items
-still_there c tasks pages k n masks masks' [] small rest none sized placed = All-nil (IsPlaced c masks')
-still_there c tasks pages k n masks masks' (s ∷ ss) small rest none sized placed =
+    → times k items ≡ 0 → All (HasItsWords c pages) items → All (IsPlaced c masks) items → All (IsPlaced c masks') items
+still_there c pages k n masks masks' [] small rest none sized placed = All-nil (IsPlaced c masks')
+still_there c pages k n masks masks' (s ∷ ss) small rest none sized placed =
     let other = other_task k s ss none in
-    let size = (All-head (IsSized c tasks pages) s ss sized).1 in
+    let size = All-head (HasItsWords c pages) s ss sized in
     All-cons (IsPlaced c masks') s ss
     (λ w lt. rest (4 * (s.task * c.pages_per_task) + w) (apart c pages k n s.task w other small (let z = size in omega arith)) ∙ All-head (IsPlaced c masks) s ss placed w lt)
-    (still_there c tasks pages k n masks masks' ss small rest (none_behind k s ss none) (All-tail (IsSized c tasks pages) s ss sized) (All-tail (IsPlaced c masks) s ss placed))
+    (still_there c pages k n masks masks' ss small rest (none_behind k s ss none) (All-tail (HasItsWords c pages) s ss sized) (All-tail (IsPlaced c masks) s ss placed))
+
+-- One more item is placed, of a task that no other has.
+pub placed-more : (c : Cut) (pages at : ℕ) (items : List Swept) (s : Swept) (masks masks' : List ℕ)
+    → at ≡ 4 * (s.task * c.pages_per_task) → All (HasItsWords c pages) items → HasItsWords c pages s → times s.task items ≡ 0
+    → ((w : ℕ) → w < length s.masks.items → get_or masks' (at + w) 0 ≡ get_or s.masks.items w 0)
+    → ((w : ℕ) → ((w < at) ⊎ (at + length s.masks.items ≤ w)) → get_or masks' w 0 ≡ get_or masks w 0)
+    → All (IsPlaced c masks) items → All (IsPlaced c masks') (items ++ s ∷ [])
+placed-more c pages at items s masks masks' at_is words whole none here rest placed =
+    let here' : (w : ℕ) → w < length s.masks.items → get_or masks' (4 * (s.task * c.pages_per_task) + w) 0 ≡ get_or s.masks.items w 0 =
+    subst (λ (z : ℕ). (w : ℕ) → w < length s.masks.items → get_or masks' (z + w) 0 ≡ get_or s.masks.items w 0) at_is here in
+    let rest' : (w : ℕ) → ((w < 4 * (s.task * c.pages_per_task)) ⊎ (4 * (s.task * c.pages_per_task) + length s.masks.items ≤ w)) → get_or masks' w 0 ≡ get_or masks w 0 =
+    subst (λ (z : ℕ). (w : ℕ) → ((w < z) ⊎ (z + length s.masks.items ≤ w)) → get_or masks' w 0 ≡ get_or masks w 0) at_is rest in
+    All-push (IsPlaced c masks') items s (still_there c pages s.task (length s.masks.items) masks masks' items (omega arith) rest' none words placed) here'
 
 -- What one more item leaves.
 pub gathered-more : (c : Cut) (tasks pages at : ℕ) (items : List Swept) (s : Swept) (done : List Bool) (masks masks' : List ℕ)
@@ -64,10 +90,6 @@ pub gathered-more : (c : Cut) (tasks pages at : ℕ) (items : List Swept) (s : S
     → IsGathered c tasks pages (items ++ s ∷ []) (set done s.task true) masks'
 gathered-more c tasks pages at items s done masks masks' at_is width known fresh sized here rest before =
     let none : times s.task items ≡ 0 = before.counted s.task known ∙ ap (λ (b : Bool). cond b 1 0) fresh in
-    let here' : (w : ℕ) → w < length s.masks.items → get_or masks' (4 * (s.task * c.pages_per_task) + w) 0 ≡ get_or s.masks.items w 0 =
-    subst (λ (z : ℕ). (w : ℕ) → w < length s.masks.items → get_or masks' (z + w) 0 ≡ get_or s.masks.items w 0) at_is here in
-    let rest' : (w : ℕ) → ((w < 4 * (s.task * c.pages_per_task)) ⊎ (4 * (s.task * c.pages_per_task) + length s.masks.items ≤ w)) → get_or masks' w 0 ≡ get_or masks w 0 =
-    subst (λ (z : ℕ). (w : ℕ) → ((w < z) ⊎ (z + length s.masks.items ≤ w)) → get_or masks' w 0 ≡ get_or masks w 0) at_is rest in
     record {
       sound = record {
         sized = All-push (IsSized c tasks pages) items s before.sound.sized (known, sized);
@@ -79,9 +101,7 @@ gathered-more c tasks pages at items s done masks masks' at_is width known fresh
           (λ same. subst (λ (y : ℕ). times y (items ++ s ∷ []) ≡ cond (get_or (set done s.task true) y false) 1 0) same
           (times-push_hit s.task items s refl ∙ ap (λ (y : ℕ). y + 1) none ∙ sym (ap (λ (b : Bool). cond b 1 0) (get_or-set_same done s.task true false (omega arith)))))
           (λ other. times-push_miss k items s other ∙ before.counted k lt ∙ sym (ap (λ (b : Bool). cond b 1 0) (get_or-set_other done s.task k true false (λ e. other (sym e)))));
-      placed = All-push (IsPlaced c masks') items s
-          (still_there c tasks pages s.task (length s.masks.items) masks masks' items (omega arith) rest' none before.sound.sized before.placed)
-          here';
+      placed = placed-more c pages at items s masks masks' at_is (All-weaker (IsSized c tasks pages) (HasItsWords c pages) (λ t size. size.1) items before.sound.sized) sized none here rest before.placed;
     }
 
 -- What is wrong with an item is what is wrong with the list.

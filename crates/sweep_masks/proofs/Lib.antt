@@ -1,5 +1,6 @@
 pub mod CountLaws
 pub mod GatherLaws
 pub mod MarkLaws
+pub mod PassLaws
 pub mod TaskLaws
 pub mod WholeLaws

@@ -1,14 +1,16 @@
 -- The masks of all tasks are those of the whole memory.
-use Rattle.std.proofs.Common.{◌≡◌, ℕ, ◌+◌, ◌-◌, ◌*◌, ◌/◌, ◌%◌, ◌<◌, ◌≤◌, Bool, List, length, get_or, ap, sym, ◌∙◌, arith}
+use Rattle.std.proofs.Common.{◌≡◌, ℕ, ◌+◌, ◌-◌, ◌*◌, ◌/◌, ◌%◌, ◌<◌, ◌≤◌, ◌⊎◌, ◌++◌, ◌∷◌, [], All, Bool, List, length, take, refl, subst, get_or, ap, sym, ◌∙◌, arith}
+use Rattle.std.proofs.lemmas.List.{take_more}
+use Rattle.std.proofs.lemmas.List.Elements.{All-take, All-weaker}
+use Rattle.std.proofs.lemmas.Option.{slice_get_read}
 use Rattle.std.proofs.lemmas.Nat.{div-add-mod', mod_below}
 use Rattle.sweep_masks.specs.Claims.{AreAllSwept}
-use Rattle.sweep_masks.specs.Gather.{AreGathered, IsPlaced, IsSwept}
-use Rattle.sweep_masks.specs.Laws.{AreBits-words, below_of-IsTask}
+use Rattle.sweep_masks.specs.Gather.{IsPlaced, IsSwept}
+use Rattle.sweep_masks.specs.Laws.{AreBits-words}
 use Rattle.sweep_masks.specs.Masks.{AreMasks, is_hit_at}
-use Rattle.sweep_masks.specs.Tasks.{Cut, IsTaskCount, end_page, first_page, page_count}
+use Rattle.sweep_masks.specs.Tasks.{Cut, IsTask, end_page, first_page, page_count}
 use Rattle.sweep_masks.specs.declared.task.Swept.{Swept}
-use Rattle.sweep_masks.proofs.GatherLaws.{found}
-use Rattle.sweep_masks.proofs.TaskLaws.{some_each}
+use Rattle.sweep_masks.proofs.GatherLaws.{HasItsWords, found, placed-more, times-before}
 use Rattle.tag_memory.specs.Cells.{MemoryState}
 use Rattle.tag_memory.specs.Tags.{is_set, is_set_for}
 
@@ -33,22 +35,35 @@ by_item m shadow c masks s b i at low high inside swept placed =
     let hit : is_set_for s.masks.items j ≡ is_hit_at m shadow (256 * a + j) = swept.1.bits j j_lt in
     (λ t. is_set (get_or masks (w_is t) 0) (r_is t)) ∙ ap (λ (z : ℕ). is_set z (j % 64)) word ∙ hit ∙ ap (λ (z : ℕ). is_hit_at m shadow z) j_is
 
-pub whole_masks : (m : MemoryState) (shadow : List Bool) (c : Cut) (tasks : ℕ) (items : List Swept) (masks : List ℕ)
-    → 256 * page_count m ≡ length m.granules → IsTaskCount c (page_count m) tasks
-    → AreAllSwept m shadow c tasks items → AreGathered c tasks (page_count m) items masks
+-- One more item of the list is placed.
+pub all_placed-more : (m : MemoryState) (shadow : List Bool) (c : Cut) (at i : ℕ) (list : List Swept) (s : Swept) (masks masks' : List ℕ)
+    → AreAllSwept m shadow c list → i < length list → s ≡ get_or list i s → at ≡ 4 * (s.task * c.pages_per_task)
+    → ((w : ℕ) → w < length s.masks.items → get_or masks' (at + w) 0 ≡ get_or s.masks.items w 0)
+    → ((w : ℕ) → ((w < at) ⊎ (at + length s.masks.items ≤ w)) → get_or masks' w 0 ≡ get_or masks w 0)
+    → All (IsPlaced c masks) (take i list) → All (IsPlaced c masks') (take (i + 1) list)
+all_placed-more m shadow c at i list s masks masks' all inside is at_is here rest placed =
+    let words : All (HasItsWords c (page_count m)) list = All-weaker (IsSwept m shadow c) (HasItsWords c (page_count m)) (λ t swept. AreBits-words _ _ _ swept.1) list all.swept in
+    let whole : HasItsWords c (page_count m) s = subst (HasItsWords c (page_count m)) (sym is) (words i s inside) in
+    let before = times-before s.task list i s (slice_get_read list (length list) i s refl inside is) refl in
+    let once = all.once s.task in
+    let more : take (i + 1) list ≡ take i list ++ s ∷ [] = take_more list i s inside ∙ ap (λ (z : Swept). take i list ++ z ∷ []) (sym is) in
+    rw more (placed-more c (page_count m) at (take i list) s masks masks' at_is (All-take (HasItsWords c (page_count m)) i list words) whole (omega arith) here rest placed)
+
+pub whole_masks : (m : MemoryState) (shadow : List Bool) (c : Cut) (items : List Swept) (masks : List ℕ)
+    → 256 * page_count m ≡ length m.granules → 0 < c.pages_per_task
+    → AreAllSwept m shadow c items → length masks ≡ 4 * page_count m → All (IsPlaced c masks) items
     → AreMasks m shadow masks
-whole_masks m shadow c tasks items masks whole count all gathered =
+whole_masks m shadow c items masks whole some all count placed =
     record {
-      count = let n = gathered.count in omega arith;
+      count = omega arith;
       bits = λ i lt.
           let p : ℕ = c.pages_per_task in
           let q : ℕ = i / 256 in
           let k : ℕ = q / p in
           let inside : q < page_count m = omega arith in
-          let some : 0 < p = (some_each tasks p (page_count m) (omega arith) count.enough).1 in
           let parts : k * p + q % p ≡ q = div-add-mod' q p in
           let rest : q % p < p = mod_below q p some in
-          let known : k < tasks = below_of-IsTask c (page_count m) tasks k count (let z : ℕ = k * p in omega arith) in
-          let there = found (λ (s : Swept). IsSwept m shadow c s × IsPlaced c masks s) k items (λ n d l. (all.swept n d l, gathered.placed n d l)) (let one = all.all k known in omega arith) in
+          let known : IsTask c (page_count m) k = (let z : ℕ = k * p in omega arith) in
+          let there = found (λ (s : Swept). IsSwept m shadow c s × IsPlaced c masks s) k items (λ n d l. (all.swept n d l, placed n d l)) (let one = all.all k known in omega arith) in
           by_item m shadow c masks there.0 (k * p) i (ap (λ (z : ℕ). z * p) (sym there.1)) (let z : ℕ = k * p in omega arith) (let z : ℕ = k * p in omega arith) inside there.2.0 there.2.1;
     }

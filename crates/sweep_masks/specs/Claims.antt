@@ -3,7 +3,7 @@ use Rattle.std.specs.Prelude.{◌≡◌, ◌≤◌, ◌<◌, ◌/◌, ◌%◌, �
 use Rattle.mark_board.specs.Bits.{with_bits, has}
 use Rattle.mark_board.specs.Board.{BoardState, SeatState}
 use Rattle.sweep_masks.specs.Gather.{IsSwept, times}
-use Rattle.sweep_masks.specs.Tasks.{Cut, IsTaskCount, page_count}
+use Rattle.sweep_masks.specs.Tasks.{Cut, IsTask, IsTaskCount, page_count}
 use Rattle.sweep_masks.specs.declared.task.Swept.{Swept}
 use Rattle.tag_memory.specs.Cells.{MemoryState}
 
@@ -31,7 +31,7 @@ pub record IsDone (m : MemoryState) (shadow : List Bool) (c : Cut) (tasks : ℕ)
   pub tried : HasAll seat.seen 0 tasks
 
 -- The items are of tasks that were swept, and each task is there once.
-pub record AreAllSwept (m : MemoryState) (shadow : List Bool) (c : Cut) (tasks : ℕ) (items : List Swept) : Type 0 where
+pub record AreAllSwept (m : MemoryState) (shadow : List Bool) (c : Cut) (items : List Swept) : Type 0 where
   pub swept : All (IsSwept m shadow c) items
   pub once : (k : ℕ) → times k items ≤ 1
-  pub all : (k : ℕ) → k < tasks → times k items ≡ 1
+  pub all : (k : ℕ) → IsTask c (page_count m) k → times k items ≡ 1

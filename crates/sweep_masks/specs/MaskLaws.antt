@@ -1,17 +1,8 @@
 -- Masks, bit by bit.
-use Rattle.std.proofs.Common.{◌≡◌, ◌<◌, ◌≤◌, ◌+◌, ◌*◌, ◌/◌, ◌%◌, ◌^◌, ◌==◌, if◌then◌else◌, inl, inr, refl, ap, ℕ, Bool, true, false, List, length, set, bit_or, w32, sym, ◌∙◌, subst, arith}
+use Rattle.std.proofs.Common.{◌≡◌, ◌<◌, ◌≤◌, ◌+◌, ◌*◌, ◌%◌, ◌^◌, ◌==◌, if◌then◌else◌, inl, inr, refl, ap, ℕ, Bool, true, false, bit_or, w32, sym, ◌∙◌, subst, arith}
 use Rattle.std.proofs.lemmas.Bool.{both_ways, cases_eq, eq-eqb, ne_eqb}
-use Rattle.tag_memory.specs.Cells.{MemoryState}
-use Rattle.tag_memory.specs.Laws.{is_set-other, is_set-same, is_set_for-more}
-use Rattle.tag_memory.specs.Tags.{is_set, is_set_for}
-use Rattle.sweep_masks.specs.Masks.{is_hit_at}
-
--- One mask more, of 64 granules.
-pub masks-more : (m : MemoryState) (shadow : List Bool) (masks : List ℕ) (w x i : ℕ) → w < length masks
-    → ((j : ℕ) → j < 64 → is_set x j ≡ is_hit_at m shadow (64 * w + j))
-    → ((i : ℕ) → i / 64 < w → is_set_for masks i ≡ is_hit_at m shadow i)
-    → i / 64 < w + 1 → is_set_for (set masks w x) i ≡ is_hit_at m shadow i
-masks-more m shadow = is_set_for-more (is_hit_at m shadow)
+use Rattle.tag_memory.specs.Laws.{is_set-other, is_set-same}
+use Rattle.tag_memory.specs.Tags.{is_set}
 
 -- Tags of 64 granules are looked at one by one: those left are of tagged granules, and for all others the mask is made.
 pub record AreTagsLeft (tagged hit : ℕ → Bool) (rest mask : ℕ) : Type 0 where

@@ -1,12 +1,12 @@
 -- How the tags that a sweep takes are found: by the bits of a heap's shadow, as masks of bits.
-use Rattle.std.specs.Prelude.{◌≡◌, ◌<◌, ◌+◌, ◌-◌, ◌*◌, ◌/◌, ◌&&◌, ℕ, Bool, false, List, length, nat_le, slice_index_or}
+use Rattle.std.specs.Prelude.{◌≡◌, ◌<◌, ◌≤◌, ◌+◌, ◌-◌, ◌*◌, ◌/◌, ◌&&◌, if◌then◌else◌, ℕ, Bool, false, true, List, length, nat_le, slice_index, slice_index_or}
 use Rattle.cap_codec.specs.Words.{base_of}
 use Rattle.heap_model.specs.Blocks.{Span}
 use Rattle.heap_model.specs.Heap.{HeapState, IsSound}
 use Rattle.heap_model.specs.Quarantine.{IsShadow}
 use Rattle.heap_model.specs.Sweep.{takes_tag}
 use Rattle.tag_memory.specs.Cells.{Cell, MemoryState, cell_of, is_dirty_at}
-use Rattle.tag_memory.specs.Extent.{page_granules}
+use Rattle.tag_memory.specs.Extent.{page_granules, page_words}
 use Rattle.tag_memory.specs.Tags.{is_set_for}
 
 -- The address lies in a painted granule of a heap that starts at `base`.
@@ -41,6 +41,23 @@ is_dirty_hit_at m shadow i = is_hit_at m shadow i && is_dirty_at m.dirty (i / pa
 -- The masks of the dirty pages of a memory: a 1 for each granule that is hit there, and 0 in all other pages.
 abbrev pub AreDirtyMasks : MemoryState → List Bool → List ℕ → Type 0
 AreDirtyMasks m shadow masks = AreBits (is_dirty_hit_at m shadow) (length m.granules) masks
+
+-- A pass looks at this page: at dirty ones only, or at all.
+abbrev pub is_looked_at : MemoryState → Bool → ℕ → Bool
+is_looked_at m dirty_only page = if dirty_only then is_dirty_at m.dirty page else true
+
+-- So granule i is hit in a page that the pass looks at.
+abbrev pub is_pass_hit_at : MemoryState → List Bool → Bool → ℕ → Bool
+is_pass_hit_at m shadow dirty_only i = if dirty_only then is_dirty_hit_at m shadow i else is_hit_at m shadow i
+
+-- The masks of a pass, which are 0 for the pages that it doesn't look at.
+abbrev pub ArePassMasks : MemoryState → List Bool → Bool → List ℕ → Type 0
+ArePassMasks m shadow dirty_only masks = AreBits (is_pass_hit_at m shadow dirty_only) (length m.granules) masks
+
+-- A pass has come to page `end`: the masks of all pages before it are made, and those from it on are still 0.
+pub record IsPassedTo (m : MemoryState) (shadow : List Bool) (dirty_only : Bool) (end : ℕ) (masks : List ℕ) : Type 0 where
+  pub made : (i : ℕ) → i / page_granules < end → is_set_for masks i ≡ is_pass_hit_at m shadow dirty_only i
+  pub rest : (w : ℕ) → page_words * end ≤ w → slice_index masks w ≡ 0
 
 -- ---- what that comes to, where the shadow is a heap's
 

@@ -7,18 +7,18 @@ ghost use Rattle.sweep_masks.specs.Claims.{AreAllSwept, HasTasks, IsDone};
 ghost use Rattle.sweep_masks.specs.Masks.{AreMasks, IsShadowOf, TakeTags};
 ghost use Rattle.sweep_masks.specs.Tasks.{IsTaskCount, page_count};
 
-use crate::alone::sweep_alone;
+use crate::alone::sweep_pages;
 use crate::cutting::Cutting;
 use crate::gate::Gate;
-use crate::gathering::{GatherFault, gather};
+use crate::gathering::place;
 use crate::sweep::SweepFault;
 use crate::task::Swept;
-use crate::workers::{Done, Shared, collected, deal, worked};
+use crate::workers::{Done, Shared, collect, deal, work_by_threads};
 use heap_model::Shadow;
 use mark_board::{Board, BoardFault, MarkSeat};
 use std::alloc::Global;
 use std::thread::Threads;
-use tag_memory::Memory;
+use tag_memory::{Memory, PAGE_WORDS};
 
 /// The masks of a whole memory, four words a page: a bit is 1 exactly where its granule is tagged and
 /// the base of its word lies in a painted granule, which for a heap's shadow is in a block that is due. The
@@ -40,7 +40,7 @@ pub fn sweep_masks<R: Threads + Sync, G: Gate + Sync>(
     ensures err { IfErr result (λ fault. fault ≡ SweepFault.Memory) }
 {
     if workers_for(memory, cutting) == 1 {
-        return sweep_alone(alloc, memory, shadow, cutting, gate);
+        return sweep_masks_alone(alloc, memory, shadow, cutting, gate);
     }
     sweep_shared(rt, alloc, memory, shadow, cutting, gate)
 }
@@ -77,7 +77,7 @@ pub fn sweep_masks_alone<G: Gate>(
         → IfOk result (λ masks. TakeTags memory.now (due heap) masks.items) }
     ensures err { IfErr result (λ fault. fault ≡ SweepFault.Memory) }
 {
-    sweep_alone(alloc, memory, shadow, cutting, gate)
+    sweep_pages(alloc, memory, shadow, cutting, gate, false)
 }
 
 // The same, by workers that claim tasks on a board.
@@ -102,12 +102,12 @@ fn sweep_shared<R: Threads + Sync, G: Gate + Sync>(
         board: &board,
         gate,
     };
-    let mut works = worked(rt, alloc, &shared, jobs)?;
+    let mut works = work_by_threads(rt, alloc, &shared, jobs)?;
     let Some(first) = works.pop() else {
         unreachable!()
     };
-    let done = collected(&shared, first, works)?;
-    finished(alloc, memory, shadow, cutting, board, done)
+    let done = collect(&shared, first, works)?;
+    finish(alloc, memory, shadow, cutting, board, done)
 }
 
 // How many tasks the memory has.
@@ -155,7 +155,7 @@ fn board_for(
 }
 
 // The masks of the whole memory, once every task was tried and all seats are joined.
-fn finished(
+fn finish(
     alloc: Global,
     memory: &Memory,
     shadow: &Shadow,
@@ -171,11 +171,9 @@ fn finished(
     ensures err { IfErr result (λ fault. fault ≡ SweepFault.Memory) }
 {
     let Done { seat, list } = done;
-    let tasks = board.bits();
-    let Ok(_words) = board.finish(alloc, seat) else {
-        return Err(SweepFault::Memory);
-    };
-    whole_masks(alloc, memory, shadow, cutting, tasks, list)
+    // Called for what it ensures alone: all that was seen was claimed.
+    board.close(seat);
+    whole_masks(alloc, memory, shadow, cutting, list)
 }
 
 // The masks of the whole memory, from all its tasks.
@@ -184,19 +182,17 @@ fn whole_masks(
     memory: &Memory,
     shadow: &Shadow,
     cutting: &Cutting,
-    tasks: u32,
     list: Vec<Swept>,
 ) -> Result<Vec<u64>, SweepFault>
-    requires tasks { IsTaskCount cutting.now (page_count memory.now) tasks }
-    requires list { AreAllSwept memory.now shadow.now cutting.now tasks list.items }
+    requires { AreAllSwept memory.now shadow.now cutting.now list.items }
     ensures ok { IfOk result (λ masks. AreMasks memory.now shadow.now masks.items) }
     ensures err { IfErr result (λ fault. fault ≡ SweepFault.Memory) }
 {
-    match gather(alloc, tasks, cutting, memory.pages(), list) {
-        Ok(masks) => Ok(masks),
-        Err(fault) => match fault {
-            GatherFault::Memory => Err(SweepFault::Memory),
-            _ => unreachable!(),
-        },
+    cutting.invariant();
+    let mut masks = vec![in alloc; 0; PAGE_WORDS * memory.pages() as usize]?;
+    let task_words = PAGE_WORDS * cutting.pages_per_task() as usize;
+    for swept in &list {
+        place(&mut masks, swept.task as usize * task_words, &swept.masks);
     }
+    Ok(masks)
 }

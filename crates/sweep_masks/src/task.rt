@@ -1,7 +1,7 @@
 //! One task of a sweep.
 
 ghost use Rattle.heap_model.specs.Heap.{HeapState, due};
-ghost use Rattle.std.specs.Prelude.{◌≡◌, ◌<◌, ◌≤◌, ◌+◌, ◌-◌, ◌*◌, ◌/◌, ℕ, IfErr, IfOk, length};
+ghost use Rattle.std.specs.Prelude.{◌≡◌, ◌≢◌, ◌<◌, ◌≤◌, ◌+◌, ◌-◌, ◌*◌, ◌/◌, ℕ, IfErr, IfOk, length, slice_index};
 ghost use Rattle.sweep_masks.specs.Gather.{IsSwept};
 ghost use Rattle.sweep_masks.specs.Masks.{IsShadowOf, TakePageTags, is_hit_at};
 ghost use Rattle.sweep_masks.specs.Tasks.{IsTask, end_page, first_page, page_count, task_words};
@@ -60,8 +60,8 @@ pub(crate) fn room(alloc: Global, cutting: &Cutting, pages: u32) -> Result<Vec<u
     Ok(room)
 }
 
-/// Makes the masks of a page. The first of these masks is that of the first word of page `first`, and those of the
-/// pages before this one are made.
+/// Makes the masks of a page, and writes no other word. The first of these masks is that of the first word of page
+/// `first`.
 pub(crate) fn fill_page(
     memory: &Memory,
     shadow: &Shadow,
@@ -72,9 +72,9 @@ pub(crate) fn fill_page(
     requires order { first ≤ page }
     requires room { page_words * (page - first) + page_words ≤ length masks.old.items }
     requires within { page_granules * page + page_granules ≤ length memory.now.granules }
-    requires before { (i : ℕ) → i / page_granules < page - first → is_set_for masks.old.items i ≡ is_hit_at memory.now shadow.now (page_granules * first + i) }
     ensures count { length masks.new.items ≡ length masks.old.items }
-    ensures done { (i : ℕ) → i / page_granules < page + 1 - first → is_set_for masks.new.items i ≡ is_hit_at memory.now shadow.now (page_granules * first + i) }
+    ensures made { (i : ℕ) → i / page_granules ≡ page - first → is_set_for masks.new.items i ≡ is_hit_at memory.now shadow.now (page_granules * first + i) }
+    ensures kept { (w : ℕ) → w / page_words ≢ page - first → slice_index masks.new.items w ≡ slice_index masks.old.items w }
 {
     let may_hold = memory.may_hold_tags(page);
     let at = PAGE_WORDS * (page - first) as usize;

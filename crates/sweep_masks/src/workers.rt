@@ -2,9 +2,8 @@
 
 ghost use Rattle.mark_board.specs.Board.{IsOf, IsSeat, no_bits};
 ghost use Rattle.std.specs.Prelude.{◌≡◌, ◌<◌, ◌≤◌, ◌+◌, All, IfErr, IfOk, OnOk, vec_len};
-ghost use Rattle.sweep_masks.specs.Claims.{Accounts, HasAll, HasTasks, IsDone};
-ghost use Rattle.sweep_masks.specs.Gather.{IsSwept};
-ghost use Rattle.sweep_masks.specs.Work.{IsJob, IsWork};
+ghost use Rattle.sweep_masks.specs.Claims.{Accounts, HasAll};
+ghost use Rattle.sweep_masks.specs.Work.{HasAllTasks, IsDoneBy, IsJob, IsSweptBy, IsWorkOf};
 
 use crate::claims::sweep_next;
 use crate::cutting::Cutting;
@@ -58,14 +57,14 @@ fn sweep_from<G: Gate>(
     found: &mut Vec<Swept>,
 ) -> Result<(), SweepFault>
     requires board { IsOf shared.now.board.now seat.old }
-    requires tasks { HasTasks shared.now.cutting.now shared.now.memory.now shared.now.board.now }
+    requires tasks { HasAllTasks shared.now }
     requires from { from ≤ shared.now.board.now.bits }
-    requires swept { All (IsSwept shared.now.memory.now shared.now.shadow.now shared.now.cutting.now) found.old.items }
+    requires swept { All (IsSweptBy shared.now) found.old.items }
     requires accounts { Accounts seat.old.mine found.old.items }
     requires sound { IsSeat seat.old }
     ensures board { IsOf shared.now.board.now seat.new }
     ensures parts { seat.new.parts ≡ seat.old.parts }
-    ensures swept { OnOk result (All (IsSwept shared.now.memory.now shared.now.shadow.now shared.now.cutting.now) found.new.items) }
+    ensures swept { OnOk result (All (IsSweptBy shared.now) found.new.items) }
     ensures accounts { OnOk result (Accounts seat.new.mine found.new.items) }
     ensures tried { OnOk result (HasAll seat.new.seen from shared.now.board.now.bits) }
     ensures sound { IsSeat seat.new }
@@ -103,14 +102,13 @@ fn sweep_both<G: Gate>(
     start: u32,
 ) -> Result<Vec<Swept>, SweepFault>
     requires board { IsOf shared.now.board.now seat.old }
-    requires tasks { HasTasks shared.now.cutting.now shared.now.memory.now shared.now.board.now }
+    requires tasks { HasAllTasks shared.now }
     requires start { start ≤ shared.now.board.now.bits }
     requires none { seat.old.mine ≡ no_bits shared.now.board.now }
     requires sound { IsSeat seat.old }
     ensures board { IsOf shared.now.board.now seat.new }
     ensures parts { seat.new.parts ≡ seat.old.parts }
-    ensures found { IfOk result (λ found.
-        IsDone shared.now.memory.now shared.now.shadow.now shared.now.cutting.now shared.now.board.now.bits seat.new found.items) }
+    ensures found { IfOk result (λ found. IsDoneBy shared.now seat.new found.items) }
     ensures err { IfErr result (λ fault. fault ≡ SweepFault.Memory) }
 {
     let mut found = Vec::new(alloc);
@@ -124,8 +122,8 @@ fn sweep_both<G: Gate>(
 // What one worker does.
 fn done_by<G: Gate>(alloc: Global, shared: &Shared<'_, G>, job: Job) -> Work
     requires job { IsJob shared.now.board.now job }
-    requires tasks { HasTasks shared.now.cutting.now shared.now.memory.now shared.now.board.now }
-    ensures { IsWork shared.now.memory.now shared.now.shadow.now shared.now.cutting.now shared.now.board.now result }
+    requires tasks { HasAllTasks shared.now }
+    ensures { IsWorkOf shared.now result }
 {
     let Job { mut seat, start } = job;
     let found = sweep_both(alloc, shared, &mut seat, start);
@@ -182,17 +180,16 @@ pub(crate) fn deal(
 }
 
 /// What each worker gives back, each in a thread of its own where one can be started.
-pub(crate) fn worked<R: Threads + Sync, G: Gate + Sync>(
+pub(crate) fn work_by_threads<R: Threads + Sync, G: Gate + Sync>(
     rt: &R,
     alloc: Global,
     shared: &Shared<'_, G>,
     jobs: Vec<Job>,
 ) -> Result<Vec<Work>, SweepFault>
     requires jobs { All (IsJob shared.now.board.now) jobs.items }
-    requires tasks { HasTasks shared.now.cutting.now shared.now.memory.now shared.now.board.now }
+    requires tasks { HasAllTasks shared.now }
     ensures count { IfOk result (λ works. vec_len works ≡ vec_len jobs) }
-    ensures works { IfOk result (λ works.
-        All (IsWork shared.now.memory.now shared.now.shadow.now shared.now.cutting.now shared.now.board.now) works.items) }
+    ensures works { IfOk result (λ works. All (IsWorkOf shared.now) works.items) }
     ensures err { IfErr result (λ fault. fault ≡ SweepFault.Memory) }
 {
     let works = thread::map_vec(rt, jobs, &|job| { done_by(alloc, shared, job) })?;
@@ -200,14 +197,13 @@ pub(crate) fn worked<R: Threads + Sync, G: Gate + Sync>(
 }
 
 // One more worker's seat and tasks.
-fn joined<G>(shared: &Shared<'_, G>, done: Done, one: Work) -> Result<Done, SweepFault>
+fn join_one<G>(shared: &Shared<'_, G>, done: Done, one: Work) -> Result<Done, SweepFault>
     requires seat { IsOf shared.now.board.now done.seat }
-    requires done { IsDone shared.now.memory.now shared.now.shadow.now shared.now.cutting.now shared.now.board.now.bits done.seat done.list.items }
-    requires one { IsWork shared.now.memory.now shared.now.shadow.now shared.now.cutting.now shared.now.board.now one }
+    requires done { IsDoneBy shared.now done.seat done.list.items }
+    requires one { IsWorkOf shared.now one }
     ensures seat { IfOk result (λ all. IsOf shared.now.board.now all.seat) }
     ensures parts { IfOk result (λ all. all.seat.parts ≡ done.seat.parts + 1) }
-    ensures done { IfOk result (λ all.
-        IsDone shared.now.memory.now shared.now.shadow.now shared.now.cutting.now shared.now.board.now.bits all.seat all.list.items) }
+    ensures done { IfOk result (λ all. IsDoneBy shared.now all.seat all.list.items) }
     ensures err { IfErr result (λ fault. fault ≡ SweepFault.Memory) }
 {
     let Done {
@@ -224,24 +220,23 @@ fn joined<G>(shared: &Shared<'_, G>, done: Done, one: Work) -> Result<Done, Swee
 }
 
 /// What all workers come to.
-pub(crate) fn collected<G>(
+pub(crate) fn collect<G>(
     shared: &Shared<'_, G>,
     first: Work,
     others: Vec<Work>,
 ) -> Result<Done, SweepFault>
-    requires first { IsWork shared.now.memory.now shared.now.shadow.now shared.now.cutting.now shared.now.board.now first }
-    requires others { All (IsWork shared.now.memory.now shared.now.shadow.now shared.now.cutting.now shared.now.board.now) others.items }
+    requires first { IsWorkOf shared.now first }
+    requires others { All (IsWorkOf shared.now) others.items }
     ensures seat { IfOk result (λ all. IsOf shared.now.board.now all.seat) }
     ensures parts { IfOk result (λ all. all.seat.parts ≡ vec_len others + 1) }
-    ensures done { IfOk result (λ all.
-        IsDone shared.now.memory.now shared.now.shadow.now shared.now.cutting.now shared.now.board.now.bits all.seat all.list.items) }
+    ensures done { IfOk result (λ all. IsDoneBy shared.now all.seat all.list.items) }
     ensures err { IfErr result (λ fault. fault ≡ SweepFault.Memory) }
 {
     let Work { seat, found } = first;
     let list = found?;
     let mut done = Done { seat, list };
     for one in others {
-        done = joined(shared, done, one)?;
+        done = join_one(shared, done, one)?;
     }
     Ok(done)
 }

@@ -4,11 +4,6 @@ use Rattle.sweep_masks.specs.Laws.{TakeTags-masks}
 use Rattle.sweep_masks.specs.Masks.{AreMasks, TakeTags}
 use Rattle.sweep_masks.proofs.pool.sweep_masks.Goals as goal
 
-pub returns-then-workers_for-eq1-clause-held : goal.returns-then-workers_for-eq1-clause-held
-returns-then-workers_for-eq1-clause-held g c heap of =
-    IfOk-weaker c.sweep_alone.result (λ masks. AreMasks c.args.memory.now c.args.shadow.now masks.items) (λ masks. TakeTags c.args.memory.now (due heap) masks.items)
-    (λ masks are. TakeTags-masks heap c.args.memory.now c.args.shadow.now masks.items of are) c.sweep_alone.ensures.ok
-
 pub returns-clause-held : goal.returns-clause-held
 returns-clause-held g c heap of =
     IfOk-weaker c.sweep_shared.result (λ masks. AreMasks c.args.memory.now c.args.shadow.now masks.items) (λ masks. TakeTags c.args.memory.now (due heap) masks.items)

@@ -1,21 +1,28 @@
-use Rattle.std.proofs.Common.{◌≡◌, ℕ, subst, arith}
-use Rattle.sweep_masks.specs.Gather.{AreGathered, IsFaultOf}
-use Rattle.sweep_masks.specs.Tasks.{page_count}
-use Rattle.sweep_masks.proofs.CountLaws.{no_fault}
+use Rattle.std.proofs.Common.{rules, ◌≡◌, ◌*◌, List, take, arith}
+use Rattle.std.proofs.lemmas.List.{take_all}
+use Rattle.sweep_masks.specs.declared.task.Swept.{Swept}
 use Rattle.sweep_masks.proofs.WholeLaws as laws
 use Rattle.sweep_masks.proofs.pool.whole_masks.Goals as goal
 
-pub unreachable-requires : goal.unreachable-requires
-unreachable-requires c =
-    let pages : c.pages.result ≡ page_count c.args.memory.now = (let e = c.pages.ensures in omega arith) in
-    let is : IsFaultOf c.args.cutting.now c.args.tasks (page_count c.args.memory.now) c.args.list.items c.in-Err.fault =
-    subst (λ (n : ℕ). IsFaultOf c.args.cutting.now c.args.tasks n c.args.list.items c.in-Err.fault) pages c.in-Err.ensures.err in
-    c.in_default.not-Memory (no_fault c.args.memory.now c.args.shadow.now c.args.cutting.now c.args.tasks c.args.list.items c.in-Err.fault c.requires.tasks c.requires.list is)
+pub loop-swept-preserved : goal.loop-swept-preserved
+loop-swept-preserved c =
+    let h = c.loop-swept.invariant in
+    let s : Swept = c.swept-item.result in
+    let list : List Swept = c.args.list.items in
+    let same : c.deref-swept-items.result.now ≡ list = search rules in
+    let words : c.deref.result.now ≡ s.masks.items = search rules in
+    record {
+      count = search rules;
+      placed = laws.all_placed-more c.args.memory.now c.args.shadow.now c.args.cutting.now (s.task * (4 * c.pages_per_task.result)) c.loop-swept.swept-index list s
+          c.loop-swept.masks.items c.place.new.masks.items c.requires (rw (← same) c.loop-swept-test.true) (rw (← same) c.swept-item.is)
+          (let p = c.pages_per_task.ensures in rw p (omega arith)) (rw (← words) c.place.ensures.here) (rw (← words) c.place.ensures.rest) h.placed;
+    }
 
-pub returns-in-Ok-clause-ok : goal.returns-in-Ok-clause-ok
-returns-in-Ok-clause-ok c =
-    let pages : c.pages.result ≡ page_count c.args.memory.now = (let e = c.pages.ensures in omega arith) in
-    let gathered : AreGathered c.args.cutting.now c.args.tasks (page_count c.args.memory.now) c.args.list.items c.in-Ok.masks.items =
-    subst (λ (n : ℕ). AreGathered c.args.cutting.now c.args.tasks n c.args.list.items c.in-Ok.masks.items) pages c.in-Ok.ensures.ok in
-    laws.whole_masks c.args.memory.now c.args.shadow.now c.args.cutting.now c.args.tasks c.args.list.items c.in-Ok.masks.items
-    (let e = c.pages.ensures in omega arith) c.requires.tasks c.requires.list gathered
+pub returns-clause-ok : goal.returns-clause-ok
+returns-clause-ok c =
+    let list : List Swept = c.args.list.items in
+    let same : c.deref-swept-items.result.now ≡ list = search rules in
+    let all : take c.loop-swept.swept-index list ≡ list = take_all c.loop-swept.swept-index list (rw (← same) c.loop-swept-test.false) in
+    laws.whole_masks c.args.memory.now c.args.shadow.now c.args.cutting.now list c.loop-swept.masks.items
+    (let e = c.pages.ensures in omega arith) (let p = c.invariant.ensures.some_pages in omega arith) c.requires c.loop-swept.invariant.count
+    (rw all at c.loop-swept.invariant.placed)

@@ -1,11 +1,11 @@
 use Rattle.std.proofs.Common.{◌≡◌, ◌+◌, length}
 use Rattle.mark_board.specs.Board.{IsOf}
-use Rattle.sweep_masks.specs.Claims.{IsDone}
-use Rattle.sweep_masks.proofs.workers.collected.Given as goal
+use Rattle.sweep_masks.specs.Work.{IsDoneBy}
+use Rattle.sweep_masks.proofs.workers.collect.Given as goal
 
 abbrev pub invariant-loop-one : goal.invariant-loop-one
 invariant-loop-one g l = record {
   seat : IsOf l.shared.board.now l.done.seat;
   parts : l.done.seat.parts ≡ length l.yielded + 1;
-  done : IsDone l.shared.memory.now l.shared.shadow.now l.shared.cutting.now l.shared.board.now.bits l.done.seat l.done.list.items;
+  done : IsDoneBy l.shared l.done.seat l.done.list.items;
 }
