@@ -1,6 +1,6 @@
 -- Blocks whose bounds a capability can hold: what is claimed is one, and what is given up or begins stays one.
 use Rattle.std.proofs.Common.{◌≡◌, ◌∙◌, ◌≤◌, ◌+◌, ◌-◌, ℕ, Bool, Option, Some, None, true, false, if◌then◌else◌, nat_lt, not, List, [], ◌∷◌, refl, sym, ap, subst, arith}
-use Rattle.std.specs.Prelude.{All, Ok, Result}
+use Rattle.std.specs.Prelude.{All}
 use Rattle.std.proofs.lemmas.Bool.{cond_both}
 use Rattle.std.proofs.lemmas.List.Elements.{All-cons, All-contains, All-filter, All-head, All-nil, All-tail}
 use Rattle.cap_codec.specs.Rounding.{IsExact}
@@ -16,7 +16,6 @@ use Rattle.heap_model.specs.declared.block.Claim.{Claim}
 use Rattle.heap_model.specs.declared.block.Claim.TheVariants.{Claimed, Empty, Inexact, Outside, OverHeld, OverLive, Uneven}
 use Rattle.heap_model.specs.declared.block.Freed.{Freed}
 use Rattle.heap_model.specs.declared.block.Freed.TheVariants as after_free
-use Rattle.heap_core.specs.declared.fault.HeapFault.{HeapFault}
 use Rattle.heap_model.specs.declared.block.Kind.TheVariants.{Live, Painted, Waiting}
 use Rattle.machine_steps.specs.Follow.{Allows, Follows, FollowsAfter, MallocAllows, Places}
 use Rattle.machine_steps.specs.State.{State, register}
@@ -122,12 +121,12 @@ claim_stays s base top (OverHeld block) new is = stays s new s is.1 refl refl
 
 -- ---- what is released
 
-is_live : (b c : Bool) (result : Result Freed HeapFault) → result ≡ Ok (if b then after_free.Held else (if c then after_free.AlreadyHeld else after_free.NotBlock)) → result ≡ Ok after_free.Held → b ≡ true
+is_live : (b c : Bool) (result : Freed) → result ≡ (if b then after_free.Held else (if c then after_free.AlreadyHeld else after_free.NotBlock)) → result ≡ after_free.Held → b ≡ true
 is_live true c result is held = refl
 is_live false true result is held = absurd cc
 is_live false false result is held = absurd cc
 
-pub release_exact : (s : HeapState) (base top : ℕ) (new : HeapState) (result : Result Freed HeapFault) → result ≡ Ok (freed_of s base top) → result ≡ Ok after_free.Held
+pub release_exact : (s : HeapState) (base top : ℕ) (new : HeapState) (result : Freed) → result ≡ freed_of s base top → result ≡ after_free.Held
     → new ≡ with_waiting s base top → AreExact s → AreExact new
 release_exact s base top new result answer held is exact =
     subst AreExact (sym is) (exact_waiting s base top (is_live (is_block s.live base top) (is_held_block s base top) result answer held) exact)
