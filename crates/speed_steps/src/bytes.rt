@@ -12,7 +12,7 @@ use trace_text::Command;
 
 /// Times a step on a state's bytes, and the reading and the writing of these, on a heap of so many pages, each so often in
 /// a round.
-pub fn time_bytes(rt: &HostRuntime, pages: u32, times: u32) -> io::Result<()> {
+pub(crate) fn time_bytes(rt: &HostRuntime, pages: u32, times: u32) -> io::Result<()> {
     let Some(bytes) = state(rt.alloc(), pages) else {
         return println!(rt; "no state");
     };

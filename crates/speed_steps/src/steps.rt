@@ -9,7 +9,7 @@ use sweep_pool::{Cutting, Open};
 use trace_text::Command;
 
 /// Times this work on a heap of so many pages.
-pub fn time_steps(rt: &HostRuntime, pages: u32, work: &Work) -> io::Result<()> {
+pub(crate) fn time_steps(rt: &HostRuntime, pages: u32, work: &Work) -> io::Result<()> {
     let Some(mut machine) = prepared(rt.alloc(), pages) else {
         return println!(rt; "no machine");
     };
@@ -28,7 +28,7 @@ pub fn time_steps(rt: &HostRuntime, pages: u32, work: &Work) -> io::Result<()> {
 }
 
 /// A machine with a block in register 1 and another one in register 2, and a capability in the first.
-pub fn prepared(alloc: Global, pages: u32) -> Option<Machine> {
+pub(crate) fn prepared(alloc: Global, pages: u32) -> Option<Machine> {
     let cutting = Cutting::new(1, 16).ok()?;
     let mut machine = Machine::new(alloc, BASE, pages, cutting).ok()?;
     step(&mut machine, alloc, Command::Malloc { rd: 1, size: 16 });

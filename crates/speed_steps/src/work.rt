@@ -3,22 +3,22 @@
 use trace_text::Command;
 
 /// How often work is done, to take the fastest.
-pub const ROUNDS: u32 = 10;
+pub(crate) const ROUNDS: u32 = 10;
 
 /// The heap's base.
-pub const BASE: u64 = 0x4000_0000;
+pub(crate) const BASE: u64 = 0x4000_0000;
 
 /// Commands that a round does in turn, so often. No round leaves more blocks behind than one page has granules.
 #[derive(Clone, Copy)]
-pub struct Work {
+pub(crate) struct Work {
     /// What it is called.
-    pub name: &'static str,
+    pub(crate) name: &'static str,
     /// The commands.
-    pub commands: [Command; 3],
+    pub(crate) commands: [Command; 3],
     /// How many of them are done.
-    pub count: usize,
+    pub(crate) count: usize,
     /// How often.
-    pub times: u32,
+    pub(crate) times: u32,
 }
 
 const COPY: Command = Command::Copy { rd: 3, rs: 1 };
@@ -37,7 +37,7 @@ fn one(name: &'static str, command: Command) -> Work {
 }
 
 /// All of it.
-pub fn works() -> [Work; 11] {
+pub(crate) fn works() -> [Work; 11] {
     let address = BASE + 8;
     let bytes = [1; 16];
     [
