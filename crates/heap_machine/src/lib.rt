@@ -1,8 +1,9 @@
-//! The machine that runs the commands of a trace: its steps, safe reuse and revocation.
+//! The machine that runs the commands of a trace: its steps, safe reuse and revocation; runs of whole traces.
 #![tactic(auto)]
 
 mod machine;
 mod passes;
+mod running;
 mod stepper;
 
 pub use crate::machine::{Flaw, Machine};

@@ -1,1 +1,2 @@
 mod AnswerLaws
+pub mod RunLaws

@@ -3,7 +3,8 @@
 
 mod lines;
 mod program;
+mod runs;
 
-pub use crate::program::{Runner, refuse, tool_by};
+pub use crate::program::{refuse, tool_by};
 pub use command_line::{Options, Refusal};
 pub use program_devices::{Answer, Failed, FromRead, FromWrite, Sink, Source};

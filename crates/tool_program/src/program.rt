@@ -1,39 +1,28 @@
 //! The program over any devices.
 
-ghost use Rattle.std.specs.Prelude.{◌≡◌, ◌≢◌, ◌↔◌, ◌||◌, ◌++◌, IfErr, IfOk, false, true};
+ghost use Rattle.std.specs.Prelude.{◌≡◌, ◌≢◌, ◌↔◌, ◌||◌, IfOk, false, true};
 ghost use Rattle.std.specs.Io.KnownBytes.{Appends};
 ghost use Rattle.cap_codec.specs.declared.word.Word.{Word};
 ghost use Rattle.command_line.specs.declared.asked.Options.{Options as TheOptions};
-ghost use Rattle.command_line.specs.Asked.{AreWithinLimits, NamesRun, texts};
+ghost use Rattle.command_line.specs.Asked.{NamesRun, texts};
 ghost use Rattle.program_devices.specs.Answer.{BeginsAnswer, HasAnswered, refusal_line, refusal_status};
 ghost use Rattle.program_devices.specs.Device.{AppendsBeginning, ReadsFew, most_read};
-ghost use Rattle.tool_program.specs.Answer.{IsAnswer, IsRunAnswer};
+ghost use Rattle.tool_program.specs.Answer.{IsAnswer};
 ghost use Rattle.tool_program.specs.Text.{usage_line, word_line};
 ghost use Rattle.tool_program.specs.Hex.{IsTextOf};
 
 use crate::lines::line_of;
+use crate::runs::run_answer;
 use cap_codec::from_bytes;
-use command_line::{Asked, Options, Refusal, asked_by};
+use command_line::{Asked, Refusal, asked_by};
 use hex::FromHex;
 use program_devices::{Answer, ReadFault, Sink, Source, give, read_text};
 use std::alloc::{AllocError, Global};
+use trace_report::Runner;
 use trace_text::LONGEST_TEXT;
 
 const USAGE: &[u8] =
     b"usage: heap_tool run [--workers N] [--cut N] [--image] or heap_tool word HEX\n";
-
-/// Runs the text of a trace, and answers with its report.
-pub trait Runner {
-    /// What a call asks besides: of threads, that they may share the handle.
-    ghost ready: { Type 0 };
-
-    /// The report of the trace that this text is, and the image if asked for, or the line of its fault.
-    fn run_answer(&self, alloc: Global, text: &[u8], options: Options) -> Result<Answer, Refusal>
-        requires ready { ready }
-        requires limits { AreWithinLimits options }
-        ensures ok { IfOk result (λ answer. IsRunAnswer text.now options answer.status answer.text.items) }
-        ensures err { IfErr result (λ refusal. refusal ≡ Refusal.Memory) };
-}
 
 /// Runs the program on these words, of which the first is its name, traces by this runner, and answers the exit status: 0
 /// where it is done, 1 for want of memory, 2 where the words are refused, 3 where the trace is faulty,
@@ -62,7 +51,7 @@ pub fn tool_by<'a, Q: Runner, I: Source, O: Sink>(
     match asked_by(alloc, words) {
         Ok(Asked::Word(hex)) => give(writer, word_answer(alloc, hex), USAGE),
         Ok(Asked::Run(options)) => match read_text(alloc, reader, LONGEST_TEXT) {
-            Ok(text) => give(writer, runner.run_answer(alloc, &text, options), USAGE),
+            Ok(text) => give(writer, run_answer(runner, alloc, &text, options), USAGE),
             Err(ReadFault::Memory) => refuse(writer, Refusal::Memory),
             Err(ReadFault::Failed) => 4,
         },

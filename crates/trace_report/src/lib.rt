@@ -5,8 +5,10 @@ mod image;
 mod laws;
 mod outcome;
 mod report;
+mod runner;
 
 pub use crate::image::image_lines;
 pub use crate::laws::one_run_law;
 pub use crate::outcome::{Outcome, RunFault};
 pub use crate::report::{Report, Sums};
+pub use crate::runner::Runner;

@@ -4,7 +4,7 @@ use Rattle.trace_text.specs.declared.trace.Command.{Command}
 use Rattle.trace_text.specs.declared.trace.Command.TheVariants.{Malloc}
 use Rattle.trace_report.specs.Run.{Reported}
 use Rattle.trace_report.specs.LongerRuns.{Told-push}
-use Rattle.heap_trace.proofs.running.run_commands.Goals as goal
+use Rattle.heap_machine.proofs.running.run_commands.Goals as goal
 
 pub loop-line-preserved : goal.loop-line-preserved
 loop-line-preserved g c =

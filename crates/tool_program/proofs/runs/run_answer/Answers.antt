@@ -1,8 +1,8 @@
 use Rattle.std.proofs.Common.{◌≡◌, Err, IfOk, subst}
 use Rattle.trace_report.specs.Outcome.{HasOutcome}
 use Rattle.program_devices.specs.Answer.{line_of_fault}
-use Rattle.heap_command.proofs.RunLaws.{IsRunAnswer-fault, IsRunAnswer-report}
-use Rattle.heap_command.proofs.program.run_answer.Goals as goal
+use Rattle.tool_program.proofs.RunLaws.{IsRunAnswer-fault, IsRunAnswer-report}
+use Rattle.tool_program.proofs.runs.run_answer.Goals as goal
 
 pub returns-in-Ok-clause-ok : goal.returns-in-Ok-clause-ok
 returns-in-Ok-clause-ok g c =

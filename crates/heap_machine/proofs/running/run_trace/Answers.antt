@@ -1,7 +1,7 @@
 use Rattle.std.proofs.Common.{rules}
 use Rattle.trace_text.specs.Reading.{script_of}
 use Rattle.trace_report.specs.LongerRuns.{IsOutcome-told}
-use Rattle.heap_trace.proofs.running.run_trace.Goals as goal
+use Rattle.heap_machine.proofs.running.run_trace.Goals as goal
 
 pub returns : goal.returns
 returns g c =

@@ -1,0 +1,57 @@
+//! What is answered for a trace.
+
+ghost use Rattle.std.specs.Prelude.{◌≡◌, ◌++◌, IfErr, IfOk};
+ghost use Rattle.command_line.specs.Asked.{AreWithinLimits};
+ghost use Rattle.tool_program.specs.Answer.{IsRunAnswer, image_shown};
+ghost use Rattle.trace_report.specs.Image.{image_of};
+
+use command_line::{Options, Refusal};
+use program_devices::{Answer, fault_answer};
+use std::alloc::Global;
+use sweep_masks::Cutting;
+use trace_report::{Outcome, RunFault, Runner, image_lines};
+
+/// The report of the trace that this text is, and the image if asked for, or the line of its fault.
+pub fn run_answer<Q: Runner>(
+    runner: &Q,
+    alloc: Global,
+    text: &[u8],
+    options: Options,
+) -> Result<Answer, Refusal>
+    requires ready { Q.ready }
+    requires limits { AreWithinLimits options }
+    ensures ok { IfOk result (λ answer. IsRunAnswer text.now options answer.status answer.text.items) }
+    ensures err { IfErr result (λ refusal. refusal ≡ Refusal.Memory) }
+{
+    match runner.run(alloc, text, cutting_of(options)) {
+        Ok(outcome) => outcome_answer(alloc, outcome, options),
+        Err(RunFault::Memory) => Err(Refusal::Memory),
+        Err(RunFault::Trace(fault)) => fault_answer(alloc, &fault),
+    }
+}
+
+// The report that a run leaves, and the image after it if asked for.
+fn outcome_answer(alloc: Global, outcome: Outcome, options: Options) -> Result<Answer, Refusal>
+    ensures ok { IfOk result (λ answer. (answer.status ≡ 0)
+        × (answer.text.items ≡ outcome.report.items ++ image_shown options (image_of outcome.memory.base outcome.memory.granules))) }
+    ensures err { IfErr result (λ refusal. refusal ≡ Refusal.Memory) }
+{
+    let mut text = outcome.report;
+    if options.image {
+        let Ok(image) = image_lines(alloc, &outcome.memory) else {
+            return Err(Refusal::Memory);
+        };
+        let Ok(()) = text.extend_from_slice(&image) else {
+            return Err(Refusal::Memory);
+        };
+    }
+    Ok(Answer { status: 0, text })
+}
+
+// How the options cut the sweeps.
+fn cutting_of(options: Options) -> Cutting
+    requires { AreWithinLimits options }
+    ensures { result ≡ record { workers = options.workers; pages_per_task = options.pages_per_task } }
+{
+    Cutting::new(options.workers, options.pages_per_task).unwrap()
+}
