@@ -44,8 +44,13 @@ export function addDenseMap(viewer) {
       if (!cell.isNull || isLost) marks[cell.tag ? 'tag' : isLost ? 'lost' : 'data'] += outlineOfMark(L, place, cell.tag, isLost);
     }
     const { fills, kinds } = viewer.map.strips[strip];
-    STATES.forEach((name, index) => { for (const path of fills[index].children) path.setAttribute('d', areas[name]); });
-    KINDS_OF_MARK.forEach((name, index) => kinds[index].setAttribute('d', marks[name]));
+    STATES.forEach((name, index) => { for (const path of fills[index].children) redraw(path, areas[name]); });
+    KINDS_OF_MARK.forEach((name, index) => redraw(kinds[index], marks[name]));
+  }
+
+  // What is written again as it was would be laid out and painted again.
+  function redraw(path, d) {
+    if (path.getAttribute('d') !== d) path.setAttribute('d', d);
   }
 
   function outlineOfMark(L, place, tag, isLost) {
