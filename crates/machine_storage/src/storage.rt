@@ -134,6 +134,8 @@ impl Storage {
     }
 
     // The index of the granule at a register's address, for an access that is allowed so.
+    // Inlined, since a command that looks at a granule does little else.
+    #[inline(always)]
     fn granule_index(&self, ra: u8, allowed: bool) -> Result<usize, Trap>
         requires storage { IsStorage self.now }
         requires register { ra < register_count }
