@@ -4,9 +4,8 @@ ghost use Rattle.std.specs.Prelude.{◌≡◌, Some, true};
 ghost use Rattle.trace_text.specs.Lines.{words_of};
 ghost use Rattle.log_text.specs.ReplyText.{FitsReply, reply_in};
 
-use heap_reply::Reply;
+use heap_reply::{Reply, ShortText, put_reply_of};
 use log_text::reply_grammar_law;
-use reply_text::{ShortText, put_reply_of};
 use trace_text::Line;
 
 // Tells what the type of a reply says of its numbers, for the law `answers`. Nothing is done.

@@ -15,7 +15,7 @@ use crate::counting::{count, count_event};
 use heap_log::{Tally, follow_event};
 use heap_machine::{Machine, any_placement_law};
 use log_text::{Asked, asked_line, event_of_answer};
-use reply_text::ShortText;
+use heap_reply::ShortText;
 use std::alloc::Global;
 use std::thread::Threads;
 use sweep_pool::Open;

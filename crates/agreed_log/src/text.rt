@@ -7,7 +7,7 @@ use crate::judge::Judge;
 use given_state::start;
 use heap_log::Tally;
 use log_text::read_start;
-use reply_text::ShortText;
+use heap_reply::ShortText;
 use std::alloc::Global;
 use std::thread::Threads;
 use sweep_pool::Cutting;

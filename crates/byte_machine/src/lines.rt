@@ -7,8 +7,7 @@ ghost use Rattle.byte_machine.specs.LineCalls.{IsCommandOf, IsLineStep, IsNoComm
 
 use crate::fault::CallFault;
 use crate::stepping::step;
-use heap_reply::Reply;
-use reply_text::{ShortText, put_reply};
+use heap_reply::{Reply, ShortText, put_reply};
 use std::alloc::Global;
 use trace_text::{Command, Line, command, split_name};
 

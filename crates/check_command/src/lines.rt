@@ -8,9 +8,8 @@ use given_state::Lack;
 use heap_core::{Block, Claim};
 use heap_log::{Difference, Tally};
 use heap_machine::Why;
-use heap_reply::{Hexadecimal, Reply, flag_number};
+use heap_reply::{Hexadecimal, Reply, ShortText, flag_number, put_reply};
 use log_text::{Event, LogFault};
-use reply_text::{ShortText, put_reply};
 use std::alloc::{AllocError, Global};
 use std::fmt;
 

@@ -10,8 +10,7 @@ ghost use Rattle.data_tokens.specs.Line.{with_tokens};
 
 use crate::data_line::DataLine;
 use cap_codec::{Word, to_bytes};
-use heap_reply::Shown;
-use reply_text::ShortText;
+use heap_reply::{ShortText, Shown};
 use std::alloc::AllocError;
 
 /// An address, as a member of this name.

@@ -3,7 +3,7 @@
 ghost use Rattle.std.specs.Prelude.{◌≡◌, ◌≤◌, ◌+◌, ◌++◌, [], length};
 ghost use Rattle.data_tokens.specs.Text.{command_text};
 
-use reply_text::ShortText;
+use heap_reply::ShortText;
 use trace_text::Command;
 
 // Puts a command before what stands.

@@ -2,3 +2,4 @@ pub mod ReplyText
 pub mod Display
 pub mod HexadecimalLaws
 pub mod Shown
+pub mod ShortText

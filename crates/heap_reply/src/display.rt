@@ -4,6 +4,7 @@ ghost use Rattle.std.specs.Prelude.{◌≡◌, Some};
 ghost use Rattle.cap_codec.specs.Fields.{bit_of};
 ghost use Rattle.heap_reply.specs.Display.{hexadecimal_text, bounded_address_text};
 
+use crate::short_text::ShortText;
 use std::fmt;
 
 /// A number that is shown as `0x` and lower-case hexadecimal digits without leading zeros.
@@ -14,13 +15,7 @@ impl fmt::Display for Hexadecimal {
     ghost output = { λ n. Some (hexadecimal_text n.0) };
 
     fn fmt<W: fmt::Write>(&self, f: &mut fmt::Formatter<W>) -> fmt::Result {
-        let high = (self.0 >> 64) as u64;
-        let low = (self.0 % (1 << 64)) as u64;
-        if high != 0 {
-            write!(f, "0x{high:x}{low:016x}")
-        } else {
-            write!(f, "0x{low:x}")
-        }
+        f.write_str(ShortText::of_address(self.0).as_str())
     }
 }
 
@@ -36,10 +31,9 @@ impl fmt::Display for BoundedAddress {
     ghost output = { λ p. Some (bounded_address_text p.address p.base p.top) };
 
     fn fmt<W: fmt::Write>(&self, f: &mut fmt::Formatter<W>) -> fmt::Result {
-        let address = self.address;
-        let base = self.base;
-        let top = Hexadecimal(self.top);
-        write!(f, "address 0x{address:x} base 0x{base:x} top {top}")
+        let mut text = ShortText::new();
+        text.put_bounded_address(self.address, self.base, self.top);
+        f.write_str(text.as_str())
     }
 }
 

@@ -1,10 +1,11 @@
 //! The texts of replies.
 
-ghost use Rattle.std.specs.Prelude.{◌≡◌, ◌≤◌, Some, length};
-ghost use Rattle.heap_reply.specs.ReplyText.{text_of_reply, shown_text, trap_name};
+ghost use Rattle.std.specs.Prelude.{◌≡◌, ◌≤◌, ◌+◌, ◌++◌, Some, length};
+ghost use Rattle.heap_reply.specs.ReplyText.{text_of_reply, block_text, shown_text, trap_name};
 
-use crate::display::{BoundedAddress, Hexadecimal, flag_number};
+use crate::display::flag_number;
 use crate::reply::{Reply, Shown, Trap};
+use crate::short_text::ShortText;
 use std::fmt;
 
 impl Trap {
@@ -28,23 +29,98 @@ impl Trap {
     }
 }
 
+// Puts what is shown of a register before what stands.
+#[inline(always)]
+fn put_shown(text: &mut ShortText, shown: &Shown)
+    requires room { 200 + length text.old ≤ 256 }
+    ensures text { text.new ≡ shown_text shown.now ++ text.old }
+    ensures length { length text.new ≤ 200 + length text.old }
+{
+    text.put_decimal(u64::from(shown.exponent));
+    text.put(" exponent ");
+    text.put_hexadecimal(u64::from(shown.otype));
+    text.put(" type ");
+    text.put_hexadecimal(u64::from(shown.perms));
+    text.put(" perms ");
+    text.put_bounded_address(shown.address, shown.base, shown.top);
+    text.put(" ");
+    text.put_decimal(u64::from(flag_number(shown.tag)));
+    text.put("tag ");
+}
+
+// Puts a block's bounds before what stands.
+#[inline(always)]
+fn put_bounds(text: &mut ShortText, base: u64, top: u128)
+    requires room { 60 + length text.old ≤ 256 }
+    ensures text { text.new ≡ block_text base top ++ text.old }
+    ensures length { length text.new ≤ 60 + length text.old }
+{
+    text.put_wide_hexadecimal(top);
+    text.put(" ");
+    text.put_hexadecimal(base);
+    text.put("block ");
+}
+
+/// Puts the text of a reply before what stands, 200 bytes at most.
+#[inline(always)]
+pub fn put_reply(text: &mut ShortText, reply: Reply)
+    requires room { 200 + length text.old ≤ 256 }
+    ensures text { text.new ≡ text_of_reply reply ++ text.old }
+    ensures length { length text.new ≤ 200 + length text.old }
+{
+    put_reply_of(text, &reply);
+}
+
+/// The same of a reply that stays where it is: a copy of one that was just written waits for the cache.
+#[inline(always)]
+pub fn put_reply_of(text: &mut ShortText, reply: &Reply)
+    requires room { 200 + length text.old ≤ 256 }
+    ensures text { text.new ≡ text_of_reply reply.now ++ text.old }
+    ensures length { length text.new ≤ 200 + length text.old }
+{
+    match *reply {
+        Reply::Block { base, top } => put_bounds(text, base, top),
+        Reply::BlockAfter { base, top, cleared } => {
+            text.put_decimal(u64::from(cleared));
+            text.put(" swept ");
+            put_bounds(text, base, top);
+        }
+        Reply::NoSpace => text.put("nospace"),
+        Reply::NoSpaceAfter { cleared } => {
+            text.put_decimal(u64::from(cleared));
+            text.put("nospace swept ");
+        }
+        Reply::Held(bytes) => {
+            text.put_decimal(bytes);
+            text.put("held ");
+        }
+        Reply::Done => text.put("ok"),
+        Reply::Cleared => text.put("cleared"),
+        Reply::Swept { cleared, released } => {
+            text.put_decimal(released);
+            text.put(" released ");
+            text.put_decimal(u64::from(cleared));
+            text.put("cleared ");
+        }
+        Reply::Begun { cleared } => {
+            text.put_decimal(u64::from(cleared));
+            text.put("cleared ");
+        }
+        Reply::Shown(ref shown) => put_shown(text, shown),
+        Reply::Trap(trap) => {
+            text.put(trap.name());
+            text.put("trap ");
+        }
+    }
+}
+
 impl fmt::Display for Shown {
     ghost output = { λ s. Some (shown_text s) };
 
     fn fmt<W: fmt::Write>(&self, f: &mut fmt::Formatter<W>) -> fmt::Result {
-        let tag = flag_number(self.tag);
-        let place = BoundedAddress {
-            address: self.address,
-            base: self.base,
-            top: self.top,
-        };
-        let perms = self.perms;
-        let otype = self.otype;
-        let exponent = self.exponent;
-        write!(
-            f,
-            "tag {tag} {place} perms 0x{perms:x} type 0x{otype:x} exponent {exponent}"
-        )
+        let mut text = ShortText::new();
+        put_shown(&mut text, self);
+        f.write_str(text.as_str())
     }
 }
 
@@ -52,30 +128,8 @@ impl fmt::Display for Reply {
     ghost output = { λ r. Some (text_of_reply r) };
 
     fn fmt<W: fmt::Write>(&self, f: &mut fmt::Formatter<W>) -> fmt::Result {
-        match *self {
-            Reply::Block { base, top } => {
-                let top = Hexadecimal(top);
-                write!(f, "block 0x{base:x} {top}")
-            }
-            Reply::BlockAfter { base, top, cleared } => {
-                let top = Hexadecimal(top);
-                write!(f, "block 0x{base:x} {top} swept {cleared}")
-            }
-            Reply::NoSpace => write!(f, "nospace"),
-            Reply::NoSpaceAfter { cleared } => write!(f, "nospace swept {cleared}"),
-            Reply::Held(bytes) => write!(f, "held {bytes}"),
-            Reply::Done => write!(f, "ok"),
-            Reply::Cleared => write!(f, "cleared"),
-            Reply::Swept { cleared, released } => write!(
-                f,
-                "cleared {cleared} released {released}"
-            ),
-            Reply::Begun { cleared } => write!(f, "cleared {cleared}"),
-            Reply::Shown(shown) => write!(f, "{shown}"),
-            Reply::Trap(trap) => {
-                let name = trap.name();
-                write!(f, "trap {name}")
-            }
-        }
+        let mut text = ShortText::new();
+        put_reply_of(&mut text, self);
+        f.write_str(text.as_str())
     }
 }

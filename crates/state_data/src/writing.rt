@@ -21,8 +21,7 @@ use data_tokens::{
     put_registers, put_span, put_tags, put_taken, spell,
 };
 use heap_machine::Machine;
-use heap_reply::Reply;
-use reply_text::{ShortText, put_reply};
+use heap_reply::{Reply, ShortText, put_reply};
 use std::alloc::AllocError;
 use tag_memory::{Memory, Registers};
 use trace_text::Command;

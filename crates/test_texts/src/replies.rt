@@ -2,8 +2,7 @@
 
 use crate::derived;
 use cap_codec::{Word, and_perms, block_capability};
-use heap_reply::{Reply, Shown, Trap};
-use reply_text::{ShortText, put_reply, put_reply_of};
+use heap_reply::{Reply, ShortText, Shown, Trap, put_reply, put_reply_of};
 
 // Whether this is the text that is put of a reply, both of one that stays where it is and of a copy.
 fn is_put_as(reply: Reply, text: &str) -> bool {

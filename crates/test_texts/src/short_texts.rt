@@ -1,6 +1,6 @@
 //! Short texts, piece by piece.
 
-use reply_text::ShortText;
+use heap_reply::ShortText;
 
 #[test]
 fn each_piece_stands_before_the_earlier_ones(rt: HostRuntime) {

@@ -4,8 +4,7 @@ ghost use Rattle.std.specs.Prelude.{◌≡◌, ◌++◌, IfOk, OnOk};
 ghost use Rattle.trace_report.specs.Image.{granule_text, image_line, image_of};
 
 use cap_codec::{Word, to_bytes};
-use heap_reply::flag_number;
-use reply_text::ShortText;
+use heap_reply::{ShortText, flag_number};
 use std::alloc::{AllocError, Global};
 use tag_memory::{GRANULE, Memory};
 

@@ -3,8 +3,7 @@
 ghost use Rattle.std.specs.Prelude.{◌≡◌, ◌≤◌, ◌+◌, ◌++◌, [], IfOk, OnErr, OnOk, codes, length};
 ghost use Rattle.trace_report.specs.Report.{end_line, line_text, name_of};
 
-use heap_reply::Reply;
-use reply_text::{ShortText, put_reply_of};
+use heap_reply::{Reply, ShortText, put_reply_of};
 use std::alloc::{AllocError, Global};
 use std::marker::Model;
 use trace_text::Command;
