@@ -34,7 +34,7 @@ fn bytes_in(given: CommandRecord) -> [u8; 16]
 }
 
 // The command that takes permissions, where its mask is one.
-fn masked(given: CommandRecord) -> Option<Command>
+fn and_perm_from(given: CommandRecord) -> Option<Command>
     ensures { result ≡ records.and_perm_command given }
 {
     if given.number < 65_536 {
@@ -76,7 +76,7 @@ fn any_command(given: CommandRecord) -> Option<Command>
             rs: second,
             length: number,
         }),
-        5 => masked(given),
+        5 => and_perm_from(given),
         6 => Some(Command::StoreCap {
             ra: first,
             rs: second,
@@ -113,7 +113,7 @@ pub fn command_of(given: CommandRecord) -> Option<Command>
 }
 
 // A record with these registers and this number.
-fn numbered(kind: u8, first: u8, second: u8, number: u64) -> CommandRecord
+fn number_record(kind: u8, first: u8, second: u8, number: u64) -> CommandRecord
     ensures { result ≡ records.number_record kind first second number }
 {
     CommandRecord {
@@ -127,7 +127,7 @@ fn numbered(kind: u8, first: u8, second: u8, number: u64) -> CommandRecord
 }
 
 // The record of a write.
-fn written(ra: u8, bytes: [u8; 16]) -> CommandRecord
+fn write_record(ra: u8, bytes: [u8; 16]) -> CommandRecord
     ensures value { result ≡ record_of_command (Write ra bytes) }
     ensures back { bytes_of (records.wide result.low result.high) ≡ bytes }
 {
@@ -149,18 +149,18 @@ pub fn record_of(command: Command) -> CommandRecord
     ensures back { command_of_record result ≡ Some command }
 {
     match command {
-        Command::Malloc { rd, size } => numbered(0, rd, 0, size),
-        Command::Free { rs } => numbered(1, rs, 0, 0),
-        Command::Copy { rd, rs } => numbered(2, rd, rs, 0),
-        Command::SetAddr { rd, rs, address } => numbered(3, rd, rs, address),
-        Command::Narrow { rd, rs, length } => numbered(4, rd, rs, length),
-        Command::AndPerm { rd, rs, mask } => numbered(5, rd, rs, u64::from(mask)),
-        Command::StoreCap { ra, rs } => numbered(6, ra, rs, 0),
-        Command::LoadCap { rd, ra } => numbered(7, rd, ra, 0),
-        Command::Write { ra, bytes } => written(ra, bytes),
-        Command::Show { rs } => numbered(9, rs, 0, 0),
-        Command::Sweep => numbered(10, 0, 0, 0),
-        Command::Begin => numbered(11, 0, 0, 0),
-        Command::End => numbered(12, 0, 0, 0),
+        Command::Malloc { rd, size } => number_record(0, rd, 0, size),
+        Command::Free { rs } => number_record(1, rs, 0, 0),
+        Command::Copy { rd, rs } => number_record(2, rd, rs, 0),
+        Command::SetAddr { rd, rs, address } => number_record(3, rd, rs, address),
+        Command::Narrow { rd, rs, length } => number_record(4, rd, rs, length),
+        Command::AndPerm { rd, rs, mask } => number_record(5, rd, rs, u64::from(mask)),
+        Command::StoreCap { ra, rs } => number_record(6, ra, rs, 0),
+        Command::LoadCap { rd, ra } => number_record(7, rd, ra, 0),
+        Command::Write { ra, bytes } => write_record(ra, bytes),
+        Command::Show { rs } => number_record(9, rs, 0, 0),
+        Command::Sweep => number_record(10, 0, 0, 0),
+        Command::Begin => number_record(11, 0, 0, 0),
+        Command::End => number_record(12, 0, 0, 0),
     }
 }

@@ -37,7 +37,7 @@ fn reason(kind: u8) -> WhyRecord
     }
 }
 
-fn refused(claim: u8) -> WhyRecord
+fn refusal_reason(claim: u8) -> WhyRecord
     ensures { result ≡ records.refused_record claim }
 {
     WhyRecord { claim, ..reason(5) }
@@ -58,11 +58,11 @@ fn claim_record(claim: Claim) -> WhyRecord
     ensures { result ≡ records.record_of_claim claim }
 {
     match claim {
-        Claim::Claimed => refused(0),
-        Claim::Uneven => refused(1),
-        Claim::Empty => refused(2),
-        Claim::Outside => refused(3),
-        Claim::Inexact => refused(4),
+        Claim::Claimed => refusal_reason(0),
+        Claim::Uneven => refusal_reason(1),
+        Claim::Empty => refusal_reason(2),
+        Claim::Outside => refusal_reason(3),
+        Claim::Inexact => refusal_reason(4),
         Claim::OverLive(block) => in_the_way(5, block),
         Claim::OverHeld(block) => in_the_way(6, block),
     }

@@ -156,7 +156,7 @@ fn trap_numbered(number: u8) -> Option<Trap>
 }
 
 // The trap of a record, as a reply.
-fn trapped(given: ReplyRecord) -> Option<Reply>
+fn trap_from(given: ReplyRecord) -> Option<Reply>
     ensures { result ≡ records.trap_reply (records.trap_of_number given.trap) }
 {
     match trap_numbered(given.trap) {
@@ -166,7 +166,7 @@ fn trapped(given: ReplyRecord) -> Option<Reply>
 }
 
 // What a record shows of a register.
-fn shown(given: ReplyRecord) -> Option<Reply>
+fn shown_from(given: ReplyRecord) -> Option<Reply>
     ensures { result ≡ records.shown_of_record given }
 {
     if given.tag < 2 {
@@ -206,8 +206,8 @@ pub fn reply_of(given: ReplyRecord) -> Option<Reply>
             released: given.bytes,
         }),
         8 => Some(Reply::Begun { cleared }),
-        9 => shown(given),
-        10 => trapped(given),
+        9 => shown_from(given),
+        10 => trap_from(given),
         _ => None,
     }
 }

@@ -52,7 +52,7 @@ pub fn first(alloc: Global, base: u64, pages: u32, out: &mut [u8]) -> Result<(),
 }
 
 // The machine after a step from a state, and the reply.
-fn stepped(alloc: Global, state: &[u8], command: Command) -> Result<(Machine, Reply), CallFault>
+fn step_from(alloc: Global, state: &[u8], command: Command) -> Result<(Machine, Reply), CallFault>
     requires { IsValid command }
     ensures leads { IfOk result (λ done. LeadsTo Step state.now command done.1 done.0) }
     ensures room { IfOk result (λ done. text.text_length (length done.0.dirty) ≡ length state.now) }
@@ -83,7 +83,7 @@ pub fn step(
     if out.len() != state.len() {
         return Err(CallFault::Room);
     }
-    let (after, reply) = stepped(alloc, state, command)?;
+    let (after, reply) = step_from(alloc, state, command)?;
     encode_into(&after, out);
     Ok(reply)
 }

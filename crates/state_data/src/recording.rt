@@ -147,7 +147,7 @@ fn write_heap(alloc: Global, base: u64, pages: u32) -> Result<Lines, AllocError>
 }
 
 // How many granules and registers are tagged.
-fn tagged(machine: &Machine) -> u64
+fn count_tags(machine: &Machine) -> u64
     ensures { result ≡ tags_of machine.now.state }
 {
     machine.memory().invariant();
@@ -161,7 +161,7 @@ fn put_end(line: &mut DataLine, machine: &Machine) -> Result<(), AllocError>
     line.count("live", machine.live_bytes())?;
     line.count("held", machine.held_bytes())?;
     line.count("free", machine.free_bytes())?;
-    line.count("tags", tagged(machine))
+    line.count("tags", count_tags(machine))
 }
 
 fn put_end_line(line: &mut DataLine, machine: &Machine) -> Result<(), AllocError>

@@ -1,7 +1,7 @@
 use Rattle.std.proofs.Common.{◌∙◌, ℕ, ap}
 use Rattle.cap_codec.specs.Bytes.{bytes_of}
 use Rattle.byte_machine.proofs.RecordLaws.{halves_back}
-use Rattle.byte_machine.proofs.commands.written.Goals as goal
+use Rattle.byte_machine.proofs.commands.write_record.Goals as goal
 
 pub returns-clause-back : goal.returns-clause-back
 returns-clause-back c =

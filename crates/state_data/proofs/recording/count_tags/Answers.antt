@@ -4,7 +4,7 @@ use Rattle.std.proofs.lemmas.List.{length-drop}
 use Rattle.std.proofs.lemmas.List.Sums.{count_by-le-length}
 use Rattle.std.specs.Prelude.{nat_le}
 use Rattle.tag_memory.specs.Cells.{Cell, Granule}
-use Rattle.state_data.proofs.recording.tagged.Goals as goal
+use Rattle.state_data.proofs.recording.count_tags.Goals as goal
 
 pub overflow_add-result : goal.overflow_add-result
 overflow_add-result c =

@@ -1,6 +1,6 @@
 use Rattle.std.proofs.Common.{length}
 use Rattle.byte_machine.proofs.RoomLaws.{room_after}
-use Rattle.byte_machine.proofs.stepping.stepped.Goals as goal
+use Rattle.byte_machine.proofs.stepping.step_from.Goals as goal
 
 pub returns-clause-room : goal.returns-clause-room
 returns-clause-room c =
