@@ -209,6 +209,8 @@ impl Storage {
 }
 
 // The first check that fails of an access to the granule at a word's address, which is allowed so.
+// Inlined, as `granule_index` is.
+#[inline(always)]
 fn access_fault(word: Word, tag: bool, allowed: bool) -> Option<Trap>
     ensures { result ≡ first_failed (access (word, tag) allowed) }
 {
