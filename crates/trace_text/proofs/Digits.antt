@@ -16,8 +16,8 @@ and_true false b h = cc
 pub all_digits_are : (radix : ℕ) (ds : List ℕ) → all_digits_in radix ds ≡ true → AllDigits radix ds
 all_digits_are radix [] h = tt
 all_digits_are radix (c ∷ cs) h =
-    let both = and_true (is_digit c radix) (all_digits_in radix cs) h in
-    (grind (arith, nat_tests, both.0), all_digits_are radix cs both.1)
+    let (digit, all) = and_true (is_digit c radix) (all_digits_in radix cs) h in
+    (grind (arith, nat_tests, digit), all_digits_are radix cs all)
 
 -- ---- digit by digit
 

@@ -12,8 +12,8 @@ fails t is_false is_true = absurd cc
 first_byte : (test : ℕ → Bool) (bs : List ℕ) (found : Option ℕ) → position test bs ≡ found → IsFirstByte test bs found
 first_byte test bs None e = λ k low lt. fails (test (get_or bs k 0)) (position-None test bs k e lt)
 first_byte test bs (Some i) e =
-    let first = position-Some test bs i 0 e in
-    (record { low = omega arith; high = first.0; before = λ k low lt. fails (test (get_or bs k 0)) (first.2 k lt) }, first.1)
+    let (within, here, before) = position-Some test bs i 0 e in
+    (record { low = omega arith; high = within; before = λ k low lt. fails (test (get_or bs k 0)) (before k lt) }, here)
 
 pub first_place : (test : ℕ → Bool) (bs all later : List ℕ) (found : Option ℕ) → all ≡ places test bs → TakesFirst all found later → found ≡ position test bs
 unfolding first_of

@@ -23,8 +23,8 @@ position-None p xs k e lt =
 
 pub ends : (p : ℕ → Bool) (xs : List ℕ) (found : Option ℕ) → found ≡ position p xs → Ends p xs (unwrap_or found (length xs))
 ends p xs (Some i) e =
-    let first = position-Some p xs i 0 (sym e) in
-    record { within = omega arith; before = first.2; here = λ _. first.1 }
+    let (within, here, before) = position-Some p xs i 0 (sym e) in
+    record { within = omega arith; before = before; here = λ _. here }
 ends p xs None e = record { within = omega arith; before = λ k lt. position-None p xs k (sym e) lt; here = λ lt. absurd (omega arith) }
 
 -- behind so many bytes, if it passes at none of these
@@ -105,14 +105,14 @@ starts_word line start begins lt =
     (omega (arith, lt, length-drop start line), ap is_blank same ∙ not-true (is_blank (get_or line start 0)) (begins.here lt))
 
 pub words_of-front : (line : List ℕ) (end : ℕ) → StartsWord line → Ends is_blank line end → words_of line ≡ take end line ∷ words_of (drop end line)
-words_of-front line end word stops = words_of-word line end (some_before_blank line end word.1 word.0 stops) word.0 stops
+words_of-front line end (some, starts) stops = words_of-word line end (some_before_blank line end starts some stops) some stops
 
 pub passed_over-front : (line : List ℕ) → StartsWord line → is_passed_over (words_of line) ≡ starts_with nat_eq line (codes "#")
-passed_over-front line word =
+passed_over-front line (some, starts) =
     let found = position is_blank line in
     let end = unwrap_or found (length line) in
     let stops = ends is_blank line found refl in
-    ap is_passed_over (words_of-front line end word stops) ∙ same_start line end (words_of (drop end line)) word.0 (some_before_blank line end word.1 word.0 stops) where
+    ap is_passed_over (words_of-front line end (some, starts) stops) ∙ same_start line end (words_of (drop end line)) some (some_before_blank line end starts some stops) where
       same_start : (line : List ℕ) (end : ℕ) (words : List (List ℕ)) → 0 < length line → 0 < end → is_passed_over (take end line ∷ words) ≡ starts_with nat_eq line (codes "#")
       same_start [] end words some any = absurd (omega arith)
       same_start (b ∷ bs) zero words some any = absurd (omega arith)

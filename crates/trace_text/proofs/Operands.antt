@@ -20,22 +20,22 @@ when false x y e = absurd cc
 
 all_digits_from : (radix : ℕ) (digits : List ℕ) → AllDigits radix digits → all_digits_in radix digits ≡ true
 all_digits_from radix [] all = refl
-all_digits_from radix (d ∷ digits) all =
-    let first : nat_lt (digit_value d) radix ≡ true = grind (arith, nat_tests, all.0) in
-    rw first (all_digits_from radix digits all.1)
+all_digits_from radix (d ∷ digits) (digit, all) =
+    let first : nat_lt (digit_value d) radix ≡ true = grind (arith, nat_tests, digit) in
+    rw first (all_digits_from radix digits all)
 
 AreDigits-read : (radix most : ℕ) (digits : List ℕ) (number : ℕ) → numeral_of radix most digits ≡ Some number → AreDigits radix most digits number
 AreDigits-read radix most digits number e =
-    let tests = when (are_digits radix most digits && nat_lt (digits_value radix digits) (2 ^ 64)) (digits_value radix digits) number e in
-    let both = and_true (are_digits radix most digits) (nat_lt (digits_value radix digits) (2 ^ 64)) tests.0 in
-    let lengths = and_true (nat_lt 0 (length digits)) (nat_le (length digits) most && all_digits_in radix digits) both.0 in
-    let rest = and_true (nat_le (length digits) most) (all_digits_in radix digits) lengths.1 in
+    let (tests, value) = when (are_digits radix most digits && nat_lt (digits_value radix digits) (2 ^ 64)) (digits_value radix digits) number e in
+    let (written, fits) = and_true (are_digits radix most digits) (nat_lt (digits_value radix digits) (2 ^ 64)) tests in
+    let (some, rest) = and_true (nat_lt 0 (length digits)) (nat_le (length digits) most && all_digits_in radix digits) written in
+    let (few, all) = and_true (nat_le (length digits) most) (all_digits_in radix digits) rest in
     record {
-      some = grind (arith, nat_tests, lengths.0);
-      few = grind (arith, nat_tests, rest.0);
-      all = all_digits_are radix digits rest.1;
-      value = tests.1;
-      fits = grind (arith, nat_tests, both.1, tests.1);
+      some = grind (arith, nat_tests, some);
+      few = grind (arith, nat_tests, few);
+      all = all_digits_are radix digits all;
+      value = value;
+      fits = grind (arith, nat_tests, fits, value);
     }
 
 numeral_of-AreDigits : (radix most : ℕ) (digits : List ℕ) (number : ℕ) → AreDigits radix most digits number → numeral_of radix most digits ≡ Some number
@@ -65,15 +65,15 @@ IsNumber-read word number e = go (bytes_eq (take 2 word) (codes "0x")) refl e wh
 no_letter : (word : List ℕ) → AllDigits 10 word → bytes_eq (take 2 word) (codes "0x") ≡ false
 no_letter [] all = refl
 no_letter (a ∷ []) all = second_fails (nat_eq a 48)
-no_letter (a ∷ b ∷ bs) all =
-    let letter : nat_eq b 120 ≡ false = grind (arith, nat_tests, all.1.0) in
+no_letter (a ∷ b ∷ bs) (first, (second, rest)) =
+    let letter : nat_eq b 120 ≡ false = grind (arith, nat_tests, second) in
     rw letter (second_fails (nat_eq a 48))
 
 pub number_of-IsNumber : (word : List ℕ) (number : ℕ) → IsNumber word number → number_of word ≡ Some number
-number_of-IsNumber word number (inl h) =
-    let decimal_only : bytes_eq (take 2 word) (codes "0x") ≡ false = no_letter word h.all in
-    rw decimal_only (numeral_of-AreDigits 10 20 word number h)
-number_of-IsNumber word number (inr h) = ap number_of h.1 ∙ numeral_of-AreDigits 16 16 h.0 number h.2
+number_of-IsNumber word number (inl are) =
+    let decimal_only : bytes_eq (take 2 word) (codes "0x") ≡ false = no_letter word are.all in
+    rw decimal_only (numeral_of-AreDigits 10 20 word number are)
+number_of-IsNumber word number (inr (digits, word_is, are)) = ap number_of word_is ∙ numeral_of-AreDigits 16 16 digits number are
 
 -- ---- registers
 
@@ -83,8 +83,8 @@ own = numerals_by_value (AllDigits 10) tells_digits
 limited-some : (limit : ℕ) (found : Option ℕ) (number : ℕ) → below_limit limit found ≡ Some number → (found ≡ Some number) × (number < limit)
 limited-some limit None number e = absurd cc
 limited-some limit (Some n) number e =
-    let test = when (nat_lt n limit) n number e in
-    (ap Some test.1, grind (arith, nat_tests, test.0, test.1))
+    let (below, same) = when (nat_lt n limit) n number e in
+    (ap Some same, grind (arith, nat_tests, below, same))
 
 limited-is : (limit number : ℕ) → number < limit → below_limit limit (Some number) ≡ Some number
 limited-is limit number lt = let t : nat_lt number limit ≡ true = grind (arith, nat_tests, lt) in rw t refl
@@ -98,11 +98,11 @@ pub IsRegister-read : (word : List ℕ) (register : ℕ) → register_of word �
 IsRegister-read word register e = go (bytes_eq (take 1 word) (codes "c")) (not (has_leading_zero (drop 1 word))) refl refl e where
   go : (t u : Bool) → bytes_eq (take 1 word) (codes "c") ≡ t → not (has_leading_zero (drop 1 word)) ≡ u → cond (t && u) (below_limit 32 (numeral_of 10 2 (drop 1 word))) None ≡ Some register → IsRegister word register
   go true true is plain h =
-      let found = limited-some 32 (numeral_of 10 2 (drop 1 word)) register h in
-      let digits = AreDigits-read 10 2 (drop 1 word) register found.0 in
+      let (found, small) = limited-some 32 (numeral_of 10 2 (drop 1 word)) register h in
+      let digits = AreDigits-read 10 2 (drop 1 word) register found in
       let value : digits_value 10 (drop 1 word) < 2 ^ 64 = omega (arith, digits.value, digits.fits) in
       let text : decimal (digits_value 10 (drop 1 word)) ≡ drop 1 word = decimal-digits_value own (drop 1 word) digits.all (omega (arith, digits.some)) (only_zero (drop 1 word) plain (omega (arith, digits.some))) value in
-      (found.1, sym (take-append-drop 1 word) ∙ ap (λ xs. xs ++ drop 1 word) (same_bytes (take 1 word) (codes "c") is) ∙ ap (λ xs. codes "c" ++ xs) (sym text ∙ ap decimal digits.value))
+      (small, sym (take-append-drop 1 word) ∙ ap (λ xs. xs ++ drop 1 word) (same_bytes (take 1 word) (codes "c") is) ∙ ap (λ xs. codes "c" ++ xs) (sym text ∙ ap decimal digits.value))
   go true false is plain h = absurd cc
   go false u is plain h = absurd cc
 
@@ -117,22 +117,22 @@ no_zero zero lt = ap has_leading_zero (decimal_digit 0 (omega arith))
 no_zero (suc r) lt = starts_above (decimal (suc r)) (first_decimal (suc r) (omega arith) (omega arith))
 
 pub register_of-IsRegister : (word : List ℕ) (register : ℕ) → IsRegister word register → register_of word ≡ Some register
-register_of-IsRegister word register h =
+register_of-IsRegister word register (small, word_is) =
     let digits : AreDigits 10 2 (decimal register) register = record {
       some = omega (arith, decimal_nonempty register (omega arith));
-      few = length-decimal-le 2 register (omega arith) (omega (arith, h.0)) (omega (arith, h.0));
-      all = digits_decimal own register (omega (arith, h.0));
-      value = digits_value-decimal own register (omega (arith, h.0));
-      fits = omega (arith, h.0);
+      few = length-decimal-le 2 register (omega arith) (omega (arith, small)) (omega (arith, small));
+      all = digits_decimal own register (omega (arith, small));
+      value = digits_value-decimal own register (omega (arith, small));
+      fits = omega (arith, small);
     } in
-    ap register_of h.1 ∙ rw (no_zero register h.0, numeral_of-AreDigits 10 2 (decimal register) register digits) (limited-is 32 register h.0)
+    ap register_of word_is ∙ rw (no_zero register small, numeral_of-AreDigits 10 2 (decimal register) register digits) (limited-is 32 register small)
 
 -- ---- masks
 
 pub IsMask-read : (word : List ℕ) (mask : ℕ) → below_limit 65536 (number_of word) ≡ Some mask → IsMask word mask
 IsMask-read word mask e =
-    let found = limited-some 65536 (number_of word) mask e in
-    (IsNumber-read word mask found.0, omega arith)
+    let (found, small) = limited-some 65536 (number_of word) mask e in
+    (IsNumber-read word mask found, omega arith)
 
 pub limited-IsMask : (word : List ℕ) (mask : ℕ) → IsMask word mask → below_limit 65536 (number_of word) ≡ Some mask
-limited-IsMask word mask h = ap (below_limit 65536) (number_of-IsNumber word mask h.0) ∙ limited-is 65536 mask (omega arith)
+limited-IsMask word mask (number, small) = ap (below_limit 65536) (number_of-IsNumber word mask number) ∙ limited-is 65536 mask (omega arith)

@@ -42,19 +42,19 @@ cut_read word (first ∷ others) before after e = go (λ front back. cut_read wo
       let rest : others ≡ after = ap (λ parts. parts.1) same in
       subst (λ (ws : List (List ℕ)). CutRead word (first ∷ others) ws after) none (ap₂ (λ w ws. w ∷ ws) ((bytes_eq-Decides first word).0 is) rest, tt)
   go read false None is h e = absurd cc
-  go read false (Some parts) is h e =
-      let same = same_parts (first ∷ parts.0, parts.1) (before, after) e in
-      let front : first ∷ parts.0 ≡ before = ap (λ both. both.0) same in
-      let back : parts.1 ≡ after = ap (λ both. both.1) same in
-      let rest = read parts.0 parts.1 h in
+  go read false (Some (others', after')) is h e =
+      let same = same_parts (first ∷ others', after') (before, after) e in
+      let front : first ∷ others' ≡ before = ap (λ both. both.0) same in
+      let back : after' ≡ after = ap (λ both. both.1) same in
+      let (words_are, other) = read others' after' h in
       subst (λ (ws : List (List ℕ)). CutRead word (first ∷ others) ws after) front
-      (ap (λ ws. first ∷ ws) (rest.0 ∙ ap (λ ws. parts.0 ++ word ∷ ws) back), (is_other first word is, rest.1))
+      (ap (λ ws. first ∷ ws) (words_are ∙ ap (λ ws. others' ++ word ∷ ws) back), (is_other first word is, other))
 
 pub cut_of : (word : List ℕ) (words before after : List (List ℕ)) → CutRead word words before after → split_at_first word words ≡ Some (before, after)
-cut_of word words before after h = ap (split_at_first word) h.0 ∙ go before h.1 where
+cut_of word words before after (words_are, other) = ap (split_at_first word) words_are ∙ go before other where
   go : (before : List (List ℕ)) → AreOther word before → split_at_first word (before ++ word ∷ after) ≡ Some (before, after)
   go [] other = rw (same_word word) refl
-  go (first ∷ others) other = rw (not_same first word other.0) (ap (option_map (λ parts. (first ∷ parts.0, parts.1))) (go others other.1))
+  go (first ∷ others) (other, rest) = rw (not_same first word other) (ap (option_map (λ parts. (first ∷ parts.0, parts.1))) (go others rest))
 
 pub lack_read : (word : List ℕ) (words : List (List ℕ)) → split_at_first word words ≡ None → AreOther word words
 lack_read word [] e = tt
@@ -67,4 +67,4 @@ lack_read word (first ∷ others) e = go (lack_read word others) (bytes_eq first
 
 pub lack_of : (word : List ℕ) (words : List (List ℕ)) → AreOther word words → split_at_first word words ≡ None
 lack_of word [] other = refl
-lack_of word (first ∷ others) other = rw (not_same first word other.0) (ap (option_map (λ parts. (first ∷ parts.0, parts.1))) (lack_of word others other.1))
+lack_of word (first ∷ others) (other, rest) = rw (not_same first word other) (ap (option_map (λ parts. (first ∷ parts.0, parts.1))) (lack_of word others rest))
