@@ -13,21 +13,35 @@ use Rattle.sweep_masks.specs.Tasks.{Cut, IsTaskCount, page_count}
 use Rattle.sweep_masks.specs.declared.task.Swept.{Swept}
 use Rattle.tag_memory.specs.Cells.{MemoryState}
 
--- What one more claimed task leaves.
-pub grown : {G : Type 0} (shared : Shared G) (ws ws' saw saw' : List ℕ) (from next : ℕ) (list list' : List Swept) (s : Swept)
-    → list' ≡ list ++ s ∷ [] → IsSweptBy shared s → s.task / 64 < length ws → Within saw saw'
-    → All (IsSweptBy shared) list → Accounts ws list → HasAll saw from next
-    → (has ws s.task ≡ 0) × (ws' ≡ with_task ws s.task) × HasAll saw' next (s.task + 1)
-    → All (IsSweptBy shared) list' × Accounts ws' list' × HasAll saw' from (s.task + 1)
-grown shared ws ws' saw saw' from next list list' s is swept inside more all accounts run got =
-    subst (λ (z : List Swept). All (IsSweptBy shared) z × Accounts ws' z × HasAll saw' from (s.task + 1)) (sym is)
-    (All-push (IsSweptBy shared) list s all swept, Accounts-more ws ws' list s inside got.0 got.1 accounts, HasAll-next saw saw' from next (s.task + 1) more run got.2)
+-- What a seat has come to: the tasks of the list were swept, its bits account for them, and it has tried those from one task up to another.
+pub record HasSwept {G : Type 0} (shared : Shared G) (seat : SeatState) (from next : ℕ) (list : List Swept) : Type 0 where
+  pub swept : All (IsSweptBy shared) list
+  pub accounts : Accounts seat.mine list
+  pub tried : HasAll seat.seen from next
+
+-- One more task, claimed and swept, with the seat before and after.
+pub record IsNext {G : Type 0} (shared : Shared G) (old new : SeatState) (next : ℕ) (s : Swept) : Type 0 where
+  pub swept : IsSweptBy shared s
+  pub inside : s.task / 64 < length old.mine
+  pub fresh : has old.mine s.task ≡ 0
+  pub mine : new.mine ≡ with_task old.mine s.task
+  pub seen : Within old.seen new.seen
+  pub run : HasAll new.seen next (s.task + 1)
+
+-- What it leaves.
+pub grown : {G : Type 0} {shared : Shared G} {old new : SeatState} {from next : ℕ} {list : List Swept} {s : Swept}
+    → HasSwept shared old from next list → IsNext shared old new next s → HasSwept shared new from (s.task + 1) (list ++ s ∷ [])
+grown {shared} {old} {new} {from} {next} {list} {s} before one = record {
+  swept = All-push (IsSweptBy shared) list s before.swept one.swept;
+  accounts = Accounts-more old.mine new.mine list s one.inside one.fresh one.mine before.accounts;
+  tried = HasAll-next old.seen new.seen from next (s.task + 1) one.seen before.tried one.run;
+}
 
 -- Two lists with the seats that account for them.
-pub together : {G : Type 0} (shared : Shared G) (a b both : SeatState) (xs ys zs : List Swept)
+pub together : {G : Type 0} {a b both : SeatState} {xs ys zs : List Swept} (shared : Shared G)
     → zs ≡ xs ++ ys → Apart a.mine b.mine → both.mine ≡ union a.mine b.mine → both.seen ≡ union a.seen b.seen
     → IsDoneBy shared a xs → IsDoneBy shared b ys → IsDoneBy shared both zs
-together shared a b both xs ys zs is apart mine seen one two =
+together {a} {b} {both} {xs} {ys} shared is apart mine seen one two =
     let swept : All (IsSweptBy shared) (xs ++ ys) = All-append (IsSweptBy shared) xs ys one.swept two.swept in
     let accounts : Accounts (union a.mine b.mine) (xs ++ ys) = Accounts-join a.mine b.mine xs ys apart one.accounts two.accounts in
     let tried : HasAll (union a.seen b.seen) 0 shared.board.now.bits = HasAll-join a.seen b.seen 0 shared.board.now.bits one.tried in

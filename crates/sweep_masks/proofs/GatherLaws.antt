@@ -8,7 +8,7 @@ use Rattle.std.proofs.lemmas.Nat.{mul-le}
 use Rattle.std.proofs.lemmas.Option.{get_or_from_slice_get, slice_get_within}
 use Rattle.std.specs.Prelude.{slice_get}
 use Rattle.sweep_masks.specs.ClaimLaws.{times-hit, times-miss, times-push_hit, times-push_miss}
-use Rattle.sweep_masks.specs.Gather.{IsFaultAt, IsFaultOf, IsGathered, IsPlaced, IsSized, times}
+use Rattle.sweep_masks.specs.Gather.{IsFaultAt, IsFaultOf, IsFirstOf, IsGathered, IsNewItem, IsPlaced, IsSized, times}
 use Rattle.sweep_masks.specs.declared.gathering.GatherFault.{GatherFault}
 use Rattle.sweep_masks.specs.declared.gathering.GatherFault.TheVariants.{Double, Memory, Missing, Stranger, WrongSize}
 use Rattle.sweep_masks.specs.Tasks.{Cut, task_words}
@@ -55,40 +55,38 @@ apart c pages k n j w two n_le w_lt =
 abbrev pub HasItsWords : Cut → ℕ → Swept → Type 0
 HasItsWords c pages s = length s.masks.items ≡ task_words c pages s.task
 
-still_there : (c : Cut) (pages k n : ℕ) (masks masks' : List ℕ) (items : List Swept)
-    → n ≤ task_words c pages k
-    → ((w : ℕ) → ((w < 4 * (k * c.pages_per_task)) ⊎ (4 * (k * c.pages_per_task) + n ≤ w)) → get_or masks' w 0 ≡ get_or masks w 0)
+-- These words were written from `at` on, and no others.
+pub record IsWritten (at : ℕ) (words masks masks' : List ℕ) : Type 0 where
+  pub here : (w : ℕ) → w < length words → get_or masks' (at + w) 0 ≡ get_or words w 0
+  pub rest : (w : ℕ) → ((w < at) ⊎ (at + length words ≤ w)) → get_or masks' w 0 ≡ get_or masks w 0
+
+still_there : {words masks masks' : List ℕ} (c : Cut) (pages k : ℕ) (items : List Swept)
+    → IsWritten (4 * (k * c.pages_per_task)) words masks masks' → length words ≤ task_words c pages k
     → times k items ≡ 0 → All (HasItsWords c pages) items → All (IsPlaced c masks) items → All (IsPlaced c masks') items
-still_there c pages k n masks masks' [] small rest none sized placed = All-nil (IsPlaced c masks')
-still_there c pages k n masks masks' (s ∷ ss) small rest none sized placed =
+still_there {masks'} c pages k [] written small none sized placed = All-nil (IsPlaced c masks')
+still_there {words} {masks} {masks'} c pages k (s ∷ ss) written small none sized placed =
     let other = other_task k s ss none in
     let size = All-head (HasItsWords c pages) s ss sized in
     All-cons (IsPlaced c masks') s ss
-    (λ w lt. rest (4 * (s.task * c.pages_per_task) + w) (apart c pages k n s.task w other small (let z = size in omega arith)) ∙ All-head (IsPlaced c masks) s ss placed w lt)
-    (still_there c pages k n masks masks' ss small rest (none_behind k s ss none) (All-tail (HasItsWords c pages) s ss sized) (All-tail (IsPlaced c masks) s ss placed))
+    (λ w lt. written.rest (4 * (s.task * c.pages_per_task) + w) (apart c pages k (length words) s.task w other small (let z = size in omega arith)) ∙ All-head (IsPlaced c masks) s ss placed w lt)
+    (still_there c pages k ss written small (none_behind k s ss none) (All-tail (HasItsWords c pages) s ss sized) (All-tail (IsPlaced c masks) s ss placed))
 
 -- One more item is placed, of a task that no other has.
-pub placed-more : (c : Cut) (pages at : ℕ) (items : List Swept) (s : Swept) (masks masks' : List ℕ)
-    → at ≡ 4 * (s.task * c.pages_per_task) → All (HasItsWords c pages) items → HasItsWords c pages s → times s.task items ≡ 0
-    → ((w : ℕ) → w < length s.masks.items → get_or masks' (at + w) 0 ≡ get_or s.masks.items w 0)
-    → ((w : ℕ) → ((w < at) ⊎ (at + length s.masks.items ≤ w)) → get_or masks' w 0 ≡ get_or masks w 0)
+pub placed-more : {at : ℕ} {masks masks' : List ℕ} (c : Cut) (pages : ℕ) (items : List Swept) (s : Swept)
+    → IsWritten at s.masks.items masks masks' → at ≡ 4 * (s.task * c.pages_per_task)
+    → All (HasItsWords c pages) items → HasItsWords c pages s → times s.task items ≡ 0
     → All (IsPlaced c masks) items → All (IsPlaced c masks') (items ++ s ∷ [])
-placed-more c pages at items s masks masks' at_is words whole none here rest placed =
-    let here' : (w : ℕ) → w < length s.masks.items → get_or masks' (4 * (s.task * c.pages_per_task) + w) 0 ≡ get_or s.masks.items w 0 =
-    subst (λ (z : ℕ). (w : ℕ) → w < length s.masks.items → get_or masks' (z + w) 0 ≡ get_or s.masks.items w 0) at_is here in
-    let rest' : (w : ℕ) → ((w < 4 * (s.task * c.pages_per_task)) ⊎ (4 * (s.task * c.pages_per_task) + length s.masks.items ≤ w)) → get_or masks' w 0 ≡ get_or masks w 0 =
-    subst (λ (z : ℕ). (w : ℕ) → ((w < z) ⊎ (z + length s.masks.items ≤ w)) → get_or masks' w 0 ≡ get_or masks w 0) at_is rest in
-    All-push (IsPlaced c masks') items s (still_there c pages s.task (length s.masks.items) masks masks' items (omega arith) rest' none words placed) here'
+placed-more {masks} {masks'} c pages items s written at_is words whole none placed =
+    let there = subst (λ (z : ℕ). IsWritten z s.masks.items masks masks') at_is written in
+    All-push (IsPlaced c masks') items s (still_there c pages s.task items there (omega arith) none words placed) there.here
 
 -- What one more item leaves.
-pub gathered-more : (c : Cut) (tasks pages at : ℕ) (items : List Swept) (s : Swept) (done : List Bool) (masks masks' : List ℕ)
-    → at ≡ 4 * (s.task * c.pages_per_task)
-    → length done ≡ tasks → s.task < tasks → get_or done s.task false ≡ false → length s.masks.items ≡ task_words c pages s.task
-    → ((w : ℕ) → w < length s.masks.items → get_or masks' (at + w) 0 ≡ get_or s.masks.items w 0)
-    → ((w : ℕ) → ((w < at) ⊎ (at + length s.masks.items ≤ w)) → get_or masks' w 0 ≡ get_or masks w 0)
-    → IsGathered c tasks pages items done masks
+pub gathered-more : {c : Cut} {tasks pages at : ℕ} {items : List Swept} {done : List Bool} {masks masks' : List ℕ} (s : Swept)
+    → IsGathered c tasks pages items done masks → length done ≡ tasks → IsNewItem c pages done s
+    → IsWritten at s.masks.items masks masks' → at ≡ 4 * (s.task * c.pages_per_task)
     → IsGathered c tasks pages (items ++ s ∷ []) (set done s.task true) masks'
-gathered-more c tasks pages at items s done masks masks' at_is width known fresh sized here rest before =
+gathered-more {c} {tasks} {pages} {items} {done} s before width (within, fresh, sized) written at_is =
+    let known : s.task < tasks = omega arith in
     let none : times s.task items ≡ 0 = before.counted s.task known ∙ ap (λ (b : Bool). cond b 1 0) fresh in
     record {
       sound = record {
@@ -99,36 +97,25 @@ gathered-more c tasks pages at items s done masks masks' at_is width known fresh
       };
       counted = λ k lt. dite (ℕ_discrete s.task k)
           (λ same. subst (λ (y : ℕ). times y (items ++ s ∷ []) ≡ cond (get_or (set done s.task true) y false) 1 0) same
-          (times-push_hit s.task items s refl ∙ ap (λ (y : ℕ). y + 1) none ∙ sym (ap (λ (b : Bool). cond b 1 0) (get_or-set_same done s.task true false (omega arith)))))
+          (times-push_hit s.task items s refl ∙ ap (λ (y : ℕ). y + 1) none ∙ sym (ap (λ (b : Bool). cond b 1 0) (get_or-set_same done s.task true false within))))
           (λ other. times-push_miss k items s other ∙ before.counted k lt ∙ sym (ap (λ (b : Bool). cond b 1 0) (get_or-set_other done s.task k true false (λ e. other (sym e)))));
-      placed = placed-more c pages at items s masks masks' at_is (All-weaker (IsSized c tasks pages) (HasItsWords c pages) (λ t size. size.1) items before.sound.sized) sized none here rest before.placed;
+      placed = placed-more c pages items s written at_is (All-weaker (IsSized c tasks pages) (HasItsWords c pages) (λ t size. size.1) items before.sound.sized) sized none before.placed;
     }
 
 -- What is wrong with an item is what is wrong with the list.
-pub fault_told : (c : Cut) (tasks pages place : ℕ) (list : List Swept) (s : Swept) (done : List Bool) (masks : List ℕ) (fault : GatherFault)
-    → length done ≡ tasks → slice_get list place ≡ Some s
-    → IsGathered c tasks pages (take place list) done masks
+pub fault_told : {c : Cut} {tasks pages : ℕ} {done : List Bool} {masks : List ℕ} (place : ℕ) (list : List Swept) (s : Swept) (fault : GatherFault)
+    → IsGathered c tasks pages (take place list) done masks → length done ≡ tasks → slice_get list place ≡ Some s
     → IsFaultAt c pages done s fault → IsFaultOf c tasks pages list fault
-fault_told c tasks pages place list s done masks Memory width here before at = absurd at
-fault_told c tasks pages place list s done masks (Stranger k) width here before at =
-    (take place list, s, record { place = place; here = here; before_it = refl; sound = before.sound }, at.0, (let z = at.1 in omega arith))
-fault_told c tasks pages place list s done masks (Double k) width here before at =
-    let known : k < tasks = (let z = at.1 in omega arith) in (
-      take place list,
-      s,
-      record { place = place; here = here; before_it = refl; sound = before.sound },
-      at.0,
-      known,
-      before.counted k known ∙ ap (λ (b : Bool). cond b 1 0) at.2,
-    )
-fault_told c tasks pages place list s done masks (WrongSize k) width here before at =
-    let known : k < tasks = (let z = at.1 in omega arith) in (
-      take place list,
-      s,
-      record { place = place; here = here; before_it = refl; sound = before.sound },
-      at.0,
-      known,
-      before.counted k known ∙ ap (λ (b : Bool). cond b 1 0) at.2,
-      at.3,
-    )
-fault_told c tasks pages place list s done masks (Missing k) width here before at = absurd at
+fault_told {c} {tasks} {pages} {done} place list s fault before width here = go fault where
+  first : IsFirstOf c tasks pages list (take place list) s
+  first = record { place = place; here = here; before_it = refl; sound = before.sound }
+
+  so_far : (k : ℕ) (flag : Bool) → k < tasks → get_or done k false ≡ flag → times k (take place list) ≡ cond flag 1 0
+  so_far k flag known is = before.counted k known ∙ ap (λ (b : Bool). cond b 1 0) is
+
+  go : (fault : GatherFault) → IsFaultAt c pages done s fault → IsFaultOf c tasks pages list fault
+  go Memory at = absurd at
+  go (Stranger k) (task, past) = (take place list, s, first, task, omega arith)
+  go (Double k) (task, within, again) = let known : k < tasks = omega arith in (take place list, s, first, task, known, so_far k true known again)
+  go (WrongSize k) (task, within, fresh, size) = let known : k < tasks = omega arith in (take place list, s, first, task, known, so_far k false known fresh, size)
+  go (Missing k) at = absurd at

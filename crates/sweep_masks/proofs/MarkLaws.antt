@@ -7,8 +7,8 @@ use Rattle.std.specs.Int.{bit_at, bit_not, w64}
 use Rattle.std.proofs.lemmas.Nat.{one_shl, div-add-mod', mod_below, and_comm}
 use Rattle.std.proofs.lemmas.Nat.Bits.{and_pow, bit_at-lt, bit_at_or, bit_at-pow_same}
 use Rattle.mark_board.specs.Bits.{Within, with_bits, bits_without}
-use Rattle.mark_board.specs.Board.{BoardState, IsMaskOf}
-use Rattle.mark_board.specs.Laws.{bit-gains_same, gains-keep, gains-none, mask-one}
+use Rattle.mark_board.specs.Board.{BoardState, IsMaskOf, IsOf, IsSeat, SeatState}
+use Rattle.mark_board.specs.Laws.{bit-gains_same, gains-keep, gains-none, mask-one, seat-of_board}
 use Rattle.sweep_masks.specs.Claims.{HasAll, with_task}
 use Rattle.mark_board.specs.Bits.{has}
 
@@ -56,21 +56,32 @@ run_on ws a k found inside run j low high =
 kept : (first ws : List ℕ) (k found : ℕ) → k / 64 < length ws → Within first ws → Within first (with_bits ws (k / 64) (bit_or found (mask k)))
 kept first ws k found inside h i j = let a = h i j in let g = gains-keep ws (k / 64) (bit_or found (mask k)) i j inside in omega arith
 
--- What the seat has seen after one more mark.
-pub saw : (first ws ws' : List ℕ) (a k found : ℕ) → k / 64 < length ws → ws' ≡ with_bits ws (k / 64) (bit_or found (mask k)) → Within first ws → HasAll ws a k
-    → Within first ws' × HasAll ws' a (k + 1)
-saw first ws ws' a k found inside is h run = subst (λ (z : List ℕ). Within first z × HasAll z a (k + 1)) (sym is) (kept first ws k found inside h, run_on ws a k found inside run)
+-- What a mark of task k found and answered, with the seat before and after.
+pub record IsMarked (k answer : ℕ) (old new : SeatState) : Type 0 where
+  pub found : ℕ
+  pub answered : answer ≡ bits_without (mask k) found
+  pub seen : new.seen ≡ with_bits old.seen (k / 64) (bit_or found (mask k))
+  pub mine : new.mine ≡ with_bits old.mine (k / 64) answer
+
+pub bit_inside : (board : BoardState) (seat : SeatState) (k : ℕ) → IsOf board seat → IsSeat seat → k < board.bits → k / 64 < length seat.seen
+bit_inside board seat k of is below = let (mine, seen, parts, inside) = seat-of_board board seat of is in omega arith
+
+-- What the seat has seen after it.
+pub saw : {k answer : ℕ} {old new : SeatState} (first : List ℕ) (a : ℕ) → IsMarked k answer old new → k / 64 < length old.seen → Within first old.seen → HasAll old.seen a k
+    → Within first new.seen × HasAll new.seen a (k + 1)
+saw {k} {old} first a m inside within run =
+    subst (λ (z : List ℕ). Within first z × HasAll z a (k + 1)) (sym m.seen) (kept first old.seen k m.found inside within, run_on old.seen a k m.found inside run)
 
 -- A seat's own bits after a mark that answered something, and after one that answered nothing.
-pub took : (first ws ws' : List ℕ) (k found answer : ℕ) → ws ≡ first → answer ≡ bits_without (mask k) found → ws' ≡ with_bits ws (k / 64) answer → answer ≢ 0 → ws' ≡ with_task first k
-took first ws ws' k found answer same of is some_bit = is ∙ (λ i. with_bits (same i) (k / 64) ((of ∙ won k found (λ z. some_bit (of ∙ z))) i))
+pub took : {k answer : ℕ} {old new : SeatState} (first : List ℕ) → IsMarked k answer old new → old.mine ≡ first → answer ≢ 0 → new.mine ≡ with_task first k
+took {k} first m same some_bit = m.mine ∙ (λ i. with_bits (same i) (k / 64) ((m.answered ∙ won k m.found (λ z. some_bit (m.answered ∙ z))) i))
 
-pub missed : (first ws ws' : List ℕ) (i answer : ℕ) → ws ≡ first → ws' ≡ with_bits ws i answer → answer ≡ 0 → ws' ≡ first
-missed first ws ws' i answer same is none = is ∙ ap (with_bits ws i) none ∙ gains-none ws i ∙ same
+pub missed : {k answer : ℕ} {old new : SeatState} (first : List ℕ) → IsMarked k answer old new → old.mine ≡ first → answer ≡ 0 → new.mine ≡ first
+missed {k} {old} first m same none = m.mine ∙ ap (with_bits old.mine (k / 64)) none ∙ gains-none old.mine (k / 64) ∙ same
 
 -- The bit that a mark won was not the seat's own before.
-pub free : (first ws : List ℕ) (k found answer : ℕ) → ws ≡ first → answer ≡ bits_without (mask k) found → answer ≢ 0 → bit_at answer (k % 64) + has ws k ≤ 1 → has first k ≡ 0
-free first ws k found answer same of some_bit apart =
-    let is : answer ≡ 2 ^ (k % 64) = of ∙ won k found (λ z. some_bit (of ∙ z)) in
+pub free : {k answer : ℕ} {old new : SeatState} (first : List ℕ) → IsMarked k answer old new → old.mine ≡ first → answer ≢ 0 → bit_at answer (k % 64) + has old.mine k ≤ 1 → has first k ≡ 0
+free {k} {answer} {old} first m same some_bit apart =
+    let is : answer ≡ 2 ^ (k % 64) = m.answered ∙ won k m.found (λ z. some_bit (m.answered ∙ z)) in
     let one : bit_at answer (k % 64) ≡ 1 = ap (λ (z : ℕ). bit_at z (k % 64)) is ∙ bit_at-pow_same (k % 64) in
-    let e : has ws k ≡ has first k = ap (λ (z : List ℕ). has z k) same in omega arith
+    let e : has old.mine k ≡ has first k = ap (λ (z : List ℕ). has z k) same in omega arith

@@ -29,11 +29,11 @@ pages-more test old new page made kept before i lt = elim (cases_eq (i / 256) pa
 ]
 
 -- One page more, that the pass looks at.
-pub IsPassedTo-looked : (m : MemoryState) (shadow : List Bool) (dirty_only : Bool) (page : ℕ) (old new : List ℕ) → is_looked_at m dirty_only page ≡ true
+pub IsPassedTo-looked : {m : MemoryState} {shadow : List Bool} {dirty_only : Bool} {page : ℕ} {old new : List ℕ} → is_looked_at m dirty_only page ≡ true
     → ((i : ℕ) → i / 256 ≡ page - 0 → is_set_for new i ≡ is_hit_at m shadow (256 * 0 + i))
     → ((w : ℕ) → w / 4 ≢ page - 0 → get_or new w 0 ≡ get_or old w 0)
     → IsPassedTo m shadow dirty_only page old → IsPassedTo m shadow dirty_only (page + 1) new
-IsPassedTo-looked m shadow dirty_only page old new looked made kept before = record {
+IsPassedTo-looked {m} {shadow} {dirty_only} {page} {old} {new} looked made kept before = record {
   made = pages-more (is_pass_hit_at m shadow dirty_only) old new page
       (λ i same. let place : 256 * 0 + i ≡ i = omega arith in
       made i (omega arith) ∙ (ap (is_hit_at m shadow) place ∙ hit-looked m shadow dirty_only i (subst (λ k. is_looked_at m dirty_only k ≡ true) (sym same) looked)))
@@ -42,9 +42,9 @@ IsPassedTo-looked m shadow dirty_only page old new looked made kept before = rec
 }
 
 -- And one that it passes over.
-pub IsPassedTo-passed : (m : MemoryState) (shadow : List Bool) (dirty_only : Bool) (page : ℕ) (masks : List ℕ) → is_looked_at m dirty_only page ≡ false
+pub IsPassedTo-passed : {m : MemoryState} {shadow : List Bool} {dirty_only : Bool} {page : ℕ} {masks : List ℕ} → is_looked_at m dirty_only page ≡ false
     → IsPassedTo m shadow dirty_only page masks → IsPassedTo m shadow dirty_only (page + 1) masks
-IsPassedTo-passed m shadow dirty_only page masks looked before = record {
+IsPassedTo-passed {m} {shadow} {dirty_only} {page} {masks} looked before = record {
   made = pages-more (is_pass_hit_at m shadow dirty_only) masks masks page
       (λ i same. ap (λ (word : ℕ). is_set word (i % 64)) (before.rest (i / 64) (omega arith)) ∙ is_set_zero (i % 64) ∙ hit-passed m shadow dirty_only i (subst (λ k. is_looked_at m dirty_only k ≡ false) (sym same) looked))
       (λ w other. refl) before.made;

@@ -9,12 +9,12 @@ loop-page-preserved c =
     elim c.if-looks_at.branch [
       | then-looks_at w ↦ record {
         count = search rules;
-        made = rw w.masks-is (IsPassedTo-looked _ _ _ _ _ _ (sym c.looks_at.ensures ∙ w.if-looks_at.true) w.fill_page.ensures.made w.fill_page.ensures.kept h.made);
+        made = rw w.masks-is (IsPassedTo-looked (sym c.looks_at.ensures ∙ w.if-looks_at.true) w.fill_page.ensures.made w.fill_page.ensures.kept h.made);
         looked = search rules;
       }
       | else-looks_at w ↦ record {
         count = search rules;
-        made = rw w.masks-is (IsPassedTo-passed _ _ _ _ _ (sym c.looks_at.ensures ∙ w.if-looks_at.false) h.made);
+        made = rw w.masks-is (IsPassedTo-passed (sym c.looks_at.ensures ∙ w.if-looks_at.false) h.made);
         looked = search rules;
       }
     ]

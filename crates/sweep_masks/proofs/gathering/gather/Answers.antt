@@ -1,11 +1,11 @@
-use Rattle.std.proofs.Common.{rules, ◌≡◌, ◌<◌, ◌*◌, ◌+◌, ◌++◌, ◌∷◌, [], ℕ, Bool, Err, List, Some, get_or, length, subst, sym, ap, ◌∙◌, take, true, refl, slice_set, arith}
+use Rattle.std.proofs.Common.{rules, ◌≡◌, ◌<◌, ◌*◌, ◌+◌, ◌++◌, ◌∷◌, [], ℕ, Bool, Err, List, Some, get_or, length, subst, sym, ap, ◌∙◌, take, refl, arith}
 use Rattle.std.specs.Prelude.{IfErr, slice_get}
 use Rattle.std.proofs.lemmas.List.{take_more}
 use Rattle.std.proofs.lemmas.Option.{slice_get_read}
-use Rattle.sweep_masks.specs.Gather.{IsFaultAt, IsFaultOf, IsGathered, IsNewItem}
+use Rattle.sweep_masks.specs.Gather.{IsFaultAt, IsFaultOf, IsNewItem}
 use Rattle.sweep_masks.specs.declared.gathering.GatherFault.{GatherFault}
 use Rattle.sweep_masks.specs.declared.task.Swept.{Swept}
-use Rattle.sweep_masks.proofs.GatherLaws.{fault_told, gathered-more}
+use Rattle.sweep_masks.proofs.GatherLaws.{IsWritten, fault_told, gathered-more}
 use Rattle.sweep_masks.proofs.gathering.gather.Goals as goal
 
 pub returns-in_err-judge-clause-err : goal.returns-in_err-judge-clause-err
@@ -19,8 +19,7 @@ returns-in_err-judge-clause-err c =
     let done : c.deref.result.now ≡ c.loop-swept.done.items = search rules in
     let fault : GatherFault = c.in_err-judge.field-0.0 in
     let at : IsFaultAt c.args.cutting.now c.args.pages c.loop-swept.done.items s fault = subst (λ (z : List Bool). IsFaultAt c.args.cutting.now c.args.pages z s fault) done c.in_err-judge.ensures in
-    let told : IsFaultOf c.args.cutting.now c.args.tasks c.args.pages list fault =
-    fault_told c.args.cutting.now c.args.tasks c.args.pages i list s c.loop-swept.done.items c.loop-swept.masks.items fault h.flags here h.gathered at in
+    let told : IsFaultOf c.args.cutting.now c.args.tasks c.args.pages list fault = fault_told i list s fault h.gathered h.flags here at in
     let is : c.from_residual.result ≡ Err fault = search rules in
     subst (λ r. IfErr r (λ f. IsFaultOf c.args.cutting.now c.args.tasks c.args.pages list f)) (sym is) told
 
@@ -37,12 +36,10 @@ loop-swept-preserved c =
     let done : c.deref.result.now ≡ c.loop-swept.done.items = search rules in
     let words : c.deref-in-loop-swept.result.now ≡ s.masks.items = search rules in
     let new : IsNewItem c.args.cutting.now c.args.pages c.loop-swept.done.items s = subst (λ (z : List Bool). IsNewItem c.args.cutting.now c.args.pages z s) done c.in_ok-judge.ensures in
-    let after : IsGathered c.args.cutting.now c.args.tasks c.args.pages (take i list ++ s ∷ []) (slice_set c.loop-swept.done.items s.task true) c.place.new.masks.items =
-    gathered-more c.args.cutting.now c.args.tasks c.args.pages (s.task * (4 * c.pages_per_task.result)) (take i list) s c.loop-swept.done.items c.loop-swept.masks.items c.place.new.masks.items
-    (let p = c.pages_per_task.ensures in rw p (omega arith)) h.flags (let f = h.flags in let n = new.0 in omega arith) new.1 new.2
-    (rw (← words) c.place.ensures.here) (rw (← words) c.place.ensures.rest) h.gathered in
+    let written : IsWritten (s.task * (4 * c.pages_per_task.result)) s.masks.items c.loop-swept.masks.items c.place.new.masks.items =
+    record { here = rw (← words) c.place.ensures.here; rest = rw (← words) c.place.ensures.rest } in
     record {
       count = search rules;
       flags = search rules;
-      gathered = rw more after;
+      gathered = rw more (gathered-more s h.gathered h.flags new written (rw c.pages_per_task.ensures (omega arith)));
     }

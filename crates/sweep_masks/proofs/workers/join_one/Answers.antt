@@ -11,5 +11,4 @@ returns-clause-done g c =
     let ok : one.found ≡ Ok found = search rules in
     let two : IsDoneBy c.args.shared.now one.seat found.items = (let q = c.requires.one.found in rw ok at q) in
     let items : c.append.new.self.items ≡ c.args.done.list.items ++ found.items = search rules in
-    together c.args.shared.now c.args.done.seat one.seat c.join.result c.args.done.list.items found.items c.append.new.self.items
-    items c.join.ensures.apart c.join.ensures.mine c.join.ensures.seen c.requires.done two
+    together c.args.shared.now items c.join.ensures.apart c.join.ensures.mine c.join.ensures.seen c.requires.done two

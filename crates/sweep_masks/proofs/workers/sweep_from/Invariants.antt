@@ -1,7 +1,6 @@
-use Rattle.std.proofs.Common.{◌≡◌, ◌≤◌, ◌-◌, All}
+use Rattle.std.proofs.Common.{◌≡◌, ◌≤◌, ◌-◌}
 use Rattle.mark_board.specs.Board.{IsOf, IsSeat}
-use Rattle.sweep_masks.specs.Claims.{Accounts, HasAll}
-use Rattle.sweep_masks.specs.Work.{IsSweptBy}
+use Rattle.sweep_masks.proofs.CountLaws.{HasSwept}
 use Rattle.sweep_masks.proofs.workers.sweep_from.Given as goal
 
 abbrev pub invariant-loop-next : goal.invariant-loop-next
@@ -10,9 +9,7 @@ invariant-loop-next g l = record {
   parts : l.seat.parts ≡ l.initial.seat.parts;
   low : l.from ≤ l.next;
   high : l.next ≤ l.tasks;
-  swept : All (IsSweptBy l.shared) l.found.items;
-  accounts : Accounts l.seat.mine l.found.items;
-  tried : HasAll l.seat.seen l.from l.next;
+  done : HasSwept l.shared l.seat l.from l.next l.found.items;
   sound : IsSeat l.seat;
 }
 
