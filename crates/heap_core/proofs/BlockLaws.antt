@@ -29,25 +29,25 @@ All-blocks_of P keeps base i (n ∷ lengths) (mark ∷ marks) d each =
     ]
 
 -- What holds of each in the list holds of the block at granule k.
-pub All-block : (P : Span → Type 0) (keeps : Bool → Bool) (base i : ℕ) (lengths : List ℕ) (marks : List Bool) (d : Bool) (k start : ℕ)
+pub All-block : (P : Span → Type 0) (keeps : Bool → Bool) (base i : ℕ) (lengths : List ℕ) (marks : List Bool) (d : Bool) (k : ℕ) {start : ℕ}
     → All P (blocks_of keeps base i lengths marks) → length marks ≡ length lengths → start ≡ base + 16 * (i + k)
     → k < length lengths → 0 < get_or lengths k 0 → keeps (get_or marks k d) ≡ true
     → P (start, 16 * get_or lengths k 0)
-All-block P keeps base i [] marks d k start all same at lt some kept = absurd (omega arith)
-All-block P keeps base i (n ∷ lengths) [] d k start all same at lt some kept = absurd (omega arith)
-All-block P keeps base i (n ∷ lengths) (mark ∷ marks) d zero start all same at lt some kept =
+All-block P keeps base i [] marks d k all same at lt some kept = absurd (omega arith)
+All-block P keeps base i (n ∷ lengths) [] d k all same at lt some kept = absurd (omega arith)
+All-block P keeps base i (n ∷ lengths) (mark ∷ marks) d zero {start} all same at lt some kept =
     let later = blocks_of keeps base (i + 1) lengths marks in
     let is : (nat_lt 0 n && keeps mark) ≡ true = and_from (nat_lt 0 n) (keeps mark) (lt-ltb 0 n some) kept in
     let first : start ≡ base + 16 * i = omega arith in
     rw first (All-head P (base + 16 * i, 16 * n) later (rw is at all))
-All-block P keeps base i (n ∷ lengths) (mark ∷ marks) d (suc k) start all same at lt some kept =
+All-block P keeps base i (n ∷ lengths) (mark ∷ marks) d (suc k) all same at lt some kept =
     let later = blocks_of keeps base (i + 1) lengths marks in
     let rest : All P later =
     elim (cases_Bool (nat_lt 0 n && keeps mark)) [
       | inl is ↦ All-tail P (base + 16 * i, 16 * n) later (rw is at all)
       | inr is ↦ rw is at all
     ] in
-    All-block P keeps base (i + 1) lengths marks d k start rest (omega arith) (omega arith) (omega arith) some kept
+    All-block P keeps base (i + 1) lengths marks d k rest (omega arith) (omega arith) (omega arith) some kept
 
 -- The blocks are in order where none reaches into the next.
 pub AllPairs-blocks_of : (keeps : Bool → Bool) (base i : ℕ) (lengths : List ℕ) (marks : List Bool)
@@ -82,18 +82,18 @@ blocks_with_first keeps base i (n ∷ lengths) (mark ∷ marks) start bytes lt =
     ]
 
 -- A block at a granule is one more, where its mark passes and none there did.
-pub blocks_of-set : (keeps : Bool → Bool) (base i : ℕ) (lengths : List ℕ) (marks : List Bool) (d : Bool) (k n start : ℕ) (mark : Bool)
+pub blocks_of-set : (keeps : Bool → Bool) (base i : ℕ) (lengths : List ℕ) (marks : List Bool) (d : Bool) (k n : ℕ) {start : ℕ} {mark : Bool}
     → k < length lengths → length marks ≡ length lengths → (nat_lt 0 (get_or lengths k 0) && keeps (get_or marks k d)) ≡ false
     → 0 < n → keeps mark ≡ true → start ≡ base + 16 * (i + k)
     → blocks_of keeps base i (set lengths k n) (set marks k mark) ≡ blocks_with (start, 16 * n) (blocks_of keeps base i lengths marks)
-blocks_of-set keeps base i [] marks d k n start mark lt same none some kept at = absurd (omega arith)
-blocks_of-set keeps base i (m ∷ lengths) [] d k n start mark lt same none some kept at = absurd (omega arith)
-blocks_of-set keeps base i (m ∷ lengths) (old ∷ marks) d zero n start mark lt same none some kept at =
+blocks_of-set keeps base i [] marks d k n lt same none some kept at = absurd (omega arith)
+blocks_of-set keeps base i (m ∷ lengths) [] d k n lt same none some kept at = absurd (omega arith)
+blocks_of-set keeps base i (m ∷ lengths) (old ∷ marks) d zero n {start} lt same none some kept at =
     let first : base + 16 * i ≡ start = omega arith in
     let later = blocks_with_first keeps base (i + 1) lengths marks start (16 * n) (omega arith) in
     rw (none, lt-ltb 0 n some, kept, first) (sym later)
-blocks_of-set keeps base i (m ∷ lengths) (old ∷ marks) d (suc k) n start mark lt same none some kept at =
-    let rest = blocks_of-set keeps base (i + 1) lengths marks d k n start mark (omega arith) (omega arith) none some kept (omega arith) in
+blocks_of-set keeps base i (m ∷ lengths) (old ∷ marks) d (suc k) n {start} lt same none some kept at =
+    let rest = blocks_of-set keeps base (i + 1) lengths marks d k n {start = start} (omega arith) (omega arith) none some kept (omega arith) in
     elim (cases_Bool (nat_lt 0 m && keeps old)) [
       | inl is ↦ rw (is, le-ltb start (base + 16 * i) (omega arith)) (ap (λ blocks. (base + 16 * i, 16 * m) ∷ blocks) rest)
       | inr is ↦ rw is rest

@@ -24,26 +24,23 @@ pub record AreGranules (base start top p n : ℕ) : Type 0 where
   pub length : 16 * n ≡ top - start
   pub order : start < top
 
-pub IsClaimable-gap : (base : ℕ) (lengths : List ℕ) (marks lates : List Bool) (is_open : Bool) (start top p n : ℕ) → IsTable base lengths marks
+pub IsClaimable-gap : {base : ℕ} {lengths : List ℕ} {marks : List Bool} (lates : List Bool) {is_open : Bool} {start top p n : ℕ} → IsTable base lengths marks
     → AreGranules base start top p n → IsGap lengths p n → IsExact start top → IsClaimable (heap_state base lengths marks lates is_open) start top
-IsClaimable-gap base lengths marks lates is_open start top p n table are run exact =
-    record { order = are.order; free = rw (are.at, are.length) at (IsFreeBlock-from_run base lengths marks lates is_open p n table run); exact = exact }
+IsClaimable-gap lates {is_open} table are run exact =
+    record { order = are.order; free = rw (are.at, are.length) at (IsFreeBlock-from_run lates {is_open = is_open} table run); exact = exact }
 
 -- Granules of which no block has any are free.
-pub IsGap-unused : (base : ℕ) (lengths : List ℕ) (marks lates : List Bool) (is_open : Bool) (start top p n : ℕ) → IsTable base lengths marks → AreLate lengths marks lates is_open
+pub IsGap-unused : {base : ℕ} {lengths : List ℕ} {marks lates : List Bool} {is_open : Bool} {start top p n : ℕ} → IsTable base lengths marks → AreLate lengths marks lates is_open
     → AreGranules base start top p n → IsClaimable (heap_state base lengths marks lates is_open) start top → IsGap lengths p n
-IsGap-unused base lengths marks lates is_open start top p n table late are may =
-    IsGap-from_block base lengths marks lates is_open p n table late (rw (are.at, are.length) may.free)
+IsGap-unused table late are may = IsGap-from_block table late (rw (are.at, are.length) may.free)
 
-pub heap_state-claimed : (base : ℕ) (lengths : List ℕ) (marks lates : List Bool) (is_open : Bool) (start top p n : ℕ) → length marks ≡ length lengths → AreLate lengths marks lates is_open
+pub heap_state-claimed : {base : ℕ} {lengths : List ℕ} {marks lates : List Bool} {is_open : Bool} {start top p n : ℕ} → length marks ≡ length lengths → AreLate lengths marks lates is_open
     → AreGranules base start top p n → IsGap lengths p n
     → heap_state base (set lengths p n) (set marks p false) lates is_open ≡ with_block (heap_state base lengths marks lates is_open) start (top - start)
-heap_state-claimed base lengths marks lates is_open start top p n same late are run =
-    rw (are.at, are.length) at (heap_state-set base lengths marks lates is_open p n same late run)
+heap_state-claimed {base} same late are run = rw (are.at, are.length) at (heap_state-set {base = base} same late run)
 
-pub AreGranules-fit : (base : ℕ) (lengths : List ℕ) (marks lates : List Bool) (is_open : Bool) (start top p n : ℕ)
-    → AreFitting (heap_state base lengths marks lates is_open) start top p n → AreGranules base start top p n
-AreGranules-fit base lengths marks lates is_open start top p n fit = record { at = fit.at; length = fit.length; order = fit.could.order }
+pub AreGranules-fit : {s : HeapState} {start top p n : ℕ} → AreFitting s start top p n → AreGranules s.base start top p n
+AreGranules-fit fit = record { at = fit.at; length = fit.length; order = fit.could.order }
 
 -- What holds of each block of two lists holds of each of either.
 module _ (P : Span → Type 0) (xs ys : List Span) (all : All P (xs ++ ys)) where
@@ -54,9 +51,9 @@ module _ (P : Span → Type 0) (xs ys : List Span) (all : All P (xs ++ ys)) wher
   All-right = All-weaker (Contains ys) P (λ x is. All-contains P (xs ++ ys) x all (Contains-append_right xs ys x is)) ys (All-contains_itself ys)
 
 -- Where no block is in the way they may be claimed.
-pub IsClaimable-unused : (s : HeapState) (start top : ℕ) → CouldBeClaimed s start top → All (IsApart (start, top - start)) s.live
+pub IsClaimable-unused : {s : HeapState} {start top : ℕ} → CouldBeClaimed s start top → All (IsApart (start, top - start)) s.live
     → All (IsApart (start, top - start)) (s.waiting ++ s.painted) → IsClaimable s start top
-IsClaimable-unused s start top could live held = record {
+IsClaimable-unused {s} {start} {top} could live held = record {
   order = could.order;
   free = record {
     start = could.even.0;
@@ -75,7 +72,7 @@ IsClaimable-unused s start top could live held = record {
 pub some_due : (s : HeapState) (start top : ℕ) (found : Option Block) → CouldBeClaimed s start top → ¬ IsClaimable s start top → All (IsApart (start, top - start)) s.live
     → FindsOver (s.waiting ++ s.painted) start top found → IsSome found
 some_due s start top (Some block) could refused live found = refl
-some_due s start top None could refused live found = absurd (refused (IsClaimable-unused s start top could live found))
+some_due s start top None could refused live found = absurd (refused (IsClaimable-unused could live found))
 
 -- Where bounds may be claimed, the claim is not refused, whatever was before.
 pub IsClaim-again : (before now : HeapState) (start top : ℕ) (claim : Claim) (new : HeapState) → IsClaimable now start top → IsClaim now now start top claim new
@@ -88,21 +85,24 @@ IsClaim-again before now start top Inexact new may is = absurd (no_reason now st
 IsClaim-again before now start top (OverLive block) new may is = absurd (no_reason now start top (OverLive block) may is.0)
 IsClaim-again before now start top (OverHeld block) new may is = absurd (no_reason now start top (OverHeld block) may is.0)
 
+-- They may not, for this reason.
+pub record IsRefused (now : HeapState) (start top : ℕ) (reason : Claim) : Type 0 where
+  pub is : IsReason now start top reason
+
 -- A refused claim changes nothing.
-pub IsClaim-refused : (before now : HeapState) (start top : ℕ) (reason : Claim) → IsReason now start top reason → IsClaim before now start top reason before
-IsClaim-refused before now start top Claimed is = absurd is
-IsClaim-refused before now start top Uneven is = (is, refl)
-IsClaim-refused before now start top Empty is = (is, refl)
-IsClaim-refused before now start top Outside is = (is, refl)
-IsClaim-refused before now start top Inexact is = (is, refl)
-IsClaim-refused before now start top (OverLive block) is = (is, refl)
-IsClaim-refused before now start top (OverHeld block) is = (is, refl)
+pub IsClaim-refused : (before : HeapState) {now : HeapState} {start top : ℕ} {reason : Claim} → IsRefused now start top reason → IsClaim before now start top reason before
+IsClaim-refused before {reason = Claimed} refused = absurd refused.is
+IsClaim-refused before {reason = Uneven} refused = (refused.is, refl)
+IsClaim-refused before {reason = Empty} refused = (refused.is, refl)
+IsClaim-refused before {reason = Outside} refused = (refused.is, refl)
+IsClaim-refused before {reason = Inexact} refused = (refused.is, refl)
+IsClaim-refused before {reason = OverLive block} refused = (refused.is, refl)
+IsClaim-refused before {reason = OverHeld block} refused = (refused.is, refl)
 
 -- Once the blocks that wait are free, where no live block is in the way and no epoch is open.
-pub IsClaimable-dropped : (s : HeapState) (start top p n : ℕ) → s.is_open ≡ false → IsSound s → AreFitting s start top p n
+pub IsClaimable-dropped : {s : HeapState} {start top p n : ℕ} → s.is_open ≡ false → IsSound s → AreFitting s start top p n
     → All (IsApart (s.base + 16 * p, s.base + 16 * (p + n) - (s.base + 16 * p))) s.live → IsClaimable (without_waiting s) start top
-IsClaimable-dropped s start top p n closed sound fit live =
+IsClaimable-dropped {s} {start} {top} {p} {n} closed sound fit live =
     let end : s.base + 16 * (p + n) ≡ top = omega (arith, fit.at, fit.length, fit.could.order) in
-    IsClaimable-unused (without_waiting s) start top
-    (record { even = fit.could.even; order = fit.could.order; inside = fit.could.inside; exact = fit.could.exact })
+    IsClaimable-unused (record { even = fit.could.even; order = fit.could.order; inside = fit.could.inside; exact = fit.could.exact })
     (rw (fit.at, end) at live) (rw (sound.closed closed) (All-nil (IsApart (start, top - start))))

@@ -65,4 +65,4 @@ heap_state-zeros base n pages count =
     rw (length-replicate n zero, size, either-none_left n (replicate n false) (length-replicate n false), blocks_of-zeros is_unmarked base 0 n, blocks_of-zeros is_marked base 0 n) refl
 
 pub AreLate-zeros : (n : ℕ) → AreLate (zeros n) (replicate n false) (replicate n false) false
-AreLate-zeros n = AreLate-none (zeros n) (replicate n false) (replicate n false) false (length-replicate n false ∙ sym (length-replicate n zero)) (get_or-falses n)
+AreLate-zeros n = AreLate-none (length-replicate n false ∙ sym (length-replicate n zero)) (get_or-falses n)

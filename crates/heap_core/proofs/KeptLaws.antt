@@ -66,18 +66,18 @@ kept_lengths-live new lengths marks same long due live =
 -- ---- the addresses
 
 -- What passes at a block of the table passes at one in the list.
-pub any-block : (test : Span → Bool) (keeps : Bool → Bool) (base i : ℕ) (lengths : List ℕ) (marks : List Bool) (d : Bool) (k start : ℕ)
+pub any-block : (test : Span → Bool) (keeps : Bool → Bool) (base i : ℕ) (lengths : List ℕ) (marks : List Bool) (d : Bool) (k : ℕ) {start : ℕ}
     → length marks ≡ length lengths → start ≡ base + 16 * (i + k) → k < length lengths → 0 < get_or lengths k 0
     → keeps (get_or marks k d) ≡ true → test (start, 16 * get_or lengths k 0) ≡ true → list_any test (blocks_of keeps base i lengths marks) ≡ true
-any-block test keeps base i [] marks d k start same at lt some kept passes = absurd (omega arith)
-any-block test keeps base i (n ∷ lengths) [] d k start same at lt some kept passes = absurd (omega arith)
-any-block test keeps base i (n ∷ lengths) (mark ∷ marks) d zero start same at lt some kept passes =
+any-block test keeps base i [] marks d k same at lt some kept passes = absurd (omega arith)
+any-block test keeps base i (n ∷ lengths) [] d k same at lt some kept passes = absurd (omega arith)
+any-block test keeps base i (n ∷ lengths) (mark ∷ marks) d zero {start} same at lt some kept passes =
     let is : (nat_lt 0 n && keeps mark) ≡ true = and_from (nat_lt 0 n) (keeps mark) (lt-ltb 0 n some) kept in
     let first : start ≡ base + 16 * i = omega arith in
     let here : test (base + 16 * i, 16 * n) ≡ true = subst (λ (x : ℕ). test (x, 16 * n) ≡ true) first passes in
     rw (is, here) refl
-any-block test keeps base i (n ∷ lengths) (mark ∷ marks) d (suc k) start same at lt some kept passes =
-    let rest = any-block test keeps base (i + 1) lengths marks d k start (omega arith) (omega arith) (omega arith) some kept passes in
+any-block test keeps base i (n ∷ lengths) (mark ∷ marks) d (suc k) same at lt some kept passes =
+    let rest = any-block test keeps base (i + 1) lengths marks d k (omega arith) (omega arith) (omega arith) some kept passes in
     elim (cases_Bool (nat_lt 0 n && keeps mark)) [
       | inl is ↦ rw (is, rest) (grind arith)
       | inr is ↦ rw is rest
@@ -108,7 +108,7 @@ lies_in-blocks_of keeps base a k lengths marks same from before lt =
           let n = get_or lengths by.0 0 in
           let start = base + 16 * by.0 in
           let here = has_address-within a (start, 16 * n) (omega (arith, by.1.0)) (omega (arith, by.1.1, n_is)) in
-          rw taken (any-block (has_address a) keeps base 0 lengths marks true by.0 start same (omega arith) inside (omega (arith, by.1.0, by.1.1, n_is)) is here)
+          rw taken (any-block (has_address a) keeps base 0 lengths marks true by.0 same (omega arith) inside (omega (arith, by.1.0, by.1.1, n_is)) is here)
       | inr free ↦
           rw free (any-no_block (has_address a) keeps base lengths marks true
           (λ j start at j_lt some is.
@@ -137,9 +137,9 @@ held_blocks-kept base i (n ∷ lengths) (mark ∷ marks) same =
       | inr is ↦ rw (is, held_blocks-kept base (i + 1) lengths marks (omega arith)) (grind arith)
     ]
 
-pub IsTable-kept : (base : ℕ) (lengths : List ℕ) (marks : List Bool) → IsTable base lengths marks
+pub IsTable-kept : {base : ℕ} {lengths : List ℕ} {marks : List Bool} → IsTable base lengths marks
     → IsTable base (kept_lengths is_unmarked lengths marks) (replicate (length lengths) false)
-IsTable-kept base lengths marks table =
+IsTable-kept {lengths} {marks} table =
     let long : length (kept_lengths is_unmarked lengths marks) ≡ length lengths = length-kept_lengths is_unmarked lengths marks table.same in
     record {
       same = length-replicate (length lengths) false ∙ sym long;

@@ -188,8 +188,8 @@ bits_of-set old new start same inside bits =
 
 -- ---- late blocks
 
-pub AreLate-none : (lengths : List ℕ) (marks lates : List Bool) (is_open : Bool) → length lates ≡ length lengths → ((k : ℕ) → get_or lates k false ≡ false) → AreLate lengths marks lates is_open
-AreLate-none lengths marks lates is_open same none = record {
+pub AreLate-none : {lengths : List ℕ} {marks lates : List Bool} {is_open : Bool} → length lates ≡ length lengths → ((k : ℕ) → get_or lates k false ≡ false) → AreLate lengths marks lates is_open
+AreLate-none same none = record {
   same = same;
   some = λ k is. absurd (true≢false (sym is ∙ none k));
   apart = λ k is. absurd (true≢false (sym is ∙ none k));
@@ -197,31 +197,31 @@ AreLate-none lengths marks lates is_open same none = record {
 }
 
 -- No block is late where an epoch is open and the late ones have no bytes, and where none is open.
-pub none_late : (base : ℕ) (lengths : List ℕ) (marks lates : List Bool) (is_open : Bool) → AreLate lengths marks lates is_open
+pub none_late : (base : ℕ) {lengths : List ℕ} {marks lates : List Bool} {is_open : Bool} → AreLate lengths marks lates is_open
     → (is_open ≡ true → bytes_in (heap_state base lengths marks lates is_open).waiting ≡ 0) → (k : ℕ) → get_or lates k false ≡ false
-none_late base lengths marks lates true are none = no_bytes base 0 lengths lates are.same are.some (none refl)
-none_late base lengths marks lates false are none = are.closed refl
+none_late base {lengths} {lates} {is_open = true} are none = no_bytes base 0 lengths lates are.same are.some (none refl)
+none_late base {is_open = false} are none = are.closed refl
 
 -- An epoch is open where a block is late.
-pub is_open-late : (base : ℕ) (lengths : List ℕ) (marks lates : List Bool) (is_open : Bool) (late : ℕ) → AreLate lengths marks lates is_open
+pub is_open-late : (base : ℕ) {lengths : List ℕ} {marks lates : List Bool} {is_open : Bool} (late : ℕ) → AreLate lengths marks lates is_open
     → 16 * late ≡ bytes_in (blocks_of is_marked base 0 lengths lates) → late ≢ 0 → is_open ≡ true
-is_open-late base lengths marks lates true late are bytes some = refl
-is_open-late base lengths marks lates false late are bytes some =
+is_open-late base {is_open = true} late are bytes some = refl
+is_open-late base {lengths} {lates} {is_open = false} late are bytes some =
     let none : bytes_in (blocks_of is_marked base 0 lengths lates) ≡ 0 = ap bytes_in (no_due base 0 lengths lates (are.closed refl)) in
     absurd (some (omega (arith, bytes, none)))
 
 -- No late block starts in a gap.
-pub none_in_gap : (lengths : List ℕ) (marks lates : List Bool) (is_open : Bool) (p n : ℕ) → AreLate lengths marks lates is_open → IsGap lengths p n → get_or lates p false ≡ false
-none_in_gap lengths marks lates is_open p n are run =
+pub none_in_gap : {lengths : List ℕ} {marks lates : List Bool} {is_open : Bool} {p n : ℕ} → AreLate lengths marks lates is_open → IsGap lengths p n → get_or lates p false ≡ false
+none_in_gap {lates} {p} are run =
     elim (cases_Bool (get_or lates p false)) [
-      | inl is ↦ absurd (omega (arith, are.some p is, run_is_empty lengths p n p run (omega arith) (omega (arith, run.some))))
+      | inl is ↦ absurd (omega (arith, are.some p is, run_is_empty p run (omega arith) (omega (arith, run.some))))
       | inr is ↦ is
     ]
 
-pub AreLate-put : (lengths : List ℕ) (marks lates : List Bool) (is_open : Bool) (p n : ℕ) → AreLate lengths marks lates is_open → IsGap lengths p n
+pub AreLate-put : {lengths : List ℕ} {marks lates : List Bool} {is_open : Bool} {p n : ℕ} → AreLate lengths marks lates is_open → IsGap lengths p n
     → AreLate (set lengths p n) (set marks p false) lates is_open
-AreLate-put lengths marks lates is_open p n are run =
-    let none = none_in_gap lengths marks lates is_open p n are run in
+AreLate-put {lengths} {marks} {lates} {p} {n} are run =
+    let none = none_in_gap are run in
     let elsewhere : (k : ℕ) → get_or lates k false ≡ true → k ≢ p = λ k is here. true≢false (sym is ∙ (ap (λ (j : ℕ). get_or lates j false) here ∙ none)) in
     record {
       same = are.same ∙ sym (length-set lengths p n);
@@ -231,9 +231,9 @@ AreLate-put lengths marks lates is_open p n are run =
     }
 
 -- One late block more, in an open epoch.
-pub AreLate-late : (lengths : List ℕ) (marks lates : List Bool) (is_open : Bool) (k : ℕ) → is_open ≡ true → AreLate lengths marks lates is_open → 0 < get_or lengths k 0 → get_or marks k false ≡ false
+pub AreLate-late : {lengths : List ℕ} {marks lates : List Bool} {is_open : Bool} (k : ℕ) → is_open ≡ true → AreLate lengths marks lates is_open → 0 < get_or lengths k 0 → get_or marks k false ≡ false
     → AreLate lengths marks (set lates k true) is_open
-AreLate-late lengths marks lates is_open k open_now are block live =
+AreLate-late {lengths} {marks} {lates} k open_now are block live =
     let before : (j : ℕ) → j ≢ k → get_or (set lates k true) j false ≡ true → get_or lates j false ≡ true = λ j other is. sym (get_or-set_other lates k j true false other) ∙ is in
     record {
       same = length-set lates k true ∙ are.same;
@@ -245,9 +245,9 @@ AreLate-late lengths marks lates is_open k open_now are block live =
 -- ---- the end of an epoch
 
 -- A late block stays where the blocks that are due are dropped.
-pub late_stays : (lengths : List ℕ) (marks : List Bool) (words : List ℕ) (is_open : Bool) → length marks ≡ length lengths → AreLate lengths marks (bits_of words) is_open
+pub late_stays : {lengths : List ℕ} {marks : List Bool} (words : List ℕ) {is_open : Bool} → length marks ≡ length lengths → AreLate lengths marks (bits_of words) is_open
     → (k : ℕ) → is_set_for words k ≡ true → 0 < get_or (kept_lengths is_unmarked lengths marks) k 0
-late_stays lengths marks words is_open same are k row =
+late_stays {lengths} {marks} words same are k row =
     let inside : k < 64 * length words = elim (cases_lt k (64 * length words)) [
       | inl lt ↦ lt
       | inr past ↦

@@ -180,7 +180,7 @@ lies_in-part base lengths marks from to k table order within cut_from cut_to =
           let m_part : get_or part_m j true ≡ get_or marks by.0 true = get_or-part marks true from to order within_m j short ∙ ap (λ (x : ℕ). get_or marks x true) at in
           let start : ℕ = base + 16 * by.0 in
           let here = has_address-within a (start, 16 * get_or part_l j 0) (omega (arith, by.1.0)) (omega (arith, by.1.1, n_is, n_part)) in
-          rw is (any-block (has_address a) is_marked base from part_l part_m true j start (count_m ∙ sym count_l) (omega (arith, at)) (omega (arith, short, count_l)) (omega (arith, by.1.0, by.1.1, n_is, n_part)) (m_part ∙ mark) here)
+          rw is (any-block (has_address a) is_marked base from part_l part_m true j (count_m ∙ sym count_l) (omega (arith, at)) (omega (arith, short, count_l)) (omega (arith, by.1.0, by.1.1, n_is, n_part)) (m_part ∙ mark) here)
       | inr none ↦
           rw none (list_any_none (has_address a) (blocks_of is_marked base from part_l part_m) (All-blocks_of (λ block. has_address a block ≡ false) is_marked base from part_l part_m true
           (λ i start start_is lt some mark.
@@ -204,10 +204,10 @@ lies_in-part base lengths marks from to k table order within cut_from cut_to =
 
 -- So granules lie in blocks that are due and told by their numbers exactly where they are between the starts, and in one
 -- that the table has as due.
-pub in_due : (base : ℕ) (lengths : List ℕ) (marks lates : List Bool) (is_open : Bool) (first last from to : ℕ) → IsTable base lengths marks → AreBlocks lengths marks → first ≤ last
+pub in_due : {base : ℕ} {lengths : List ℕ} {marks : List Bool} (lates : List Bool) (is_open : Bool) {first last from to : ℕ} → IsTable base lengths marks → AreBlocks lengths marks → first ≤ last
     → IsDueStart lengths marks first from → IsDueStart lengths marks last to → (k : ℕ)
     → is_in_due (heap_state base lengths marks lates is_open) first last k ≡ (is_within from to k && is_occupied k (kept_lengths is_marked lengths marks))
-in_due base lengths marks lates is_open first last from to table some order a b k =
+in_due {base} {lengths} {marks} lates is_open {first} {last} {from} {to} table some order a b k =
     let starts = start_order lengths marks first last from to table.same a b order in
     ap (λ (blocks : List Span). lies_in (take (last - first) (drop first blocks)) (base + 16 * k)) (due-heap_state base lengths marks lates is_open)
     ∙ ap (λ (blocks : List Span). lies_in blocks (base + 16 * k)) (blocks-part base lengths marks first last from to table.same some a b starts)

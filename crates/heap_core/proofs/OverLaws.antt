@@ -89,22 +89,22 @@ module _ (keeps : Bool → Bool) (base : ℕ) (lengths : List ℕ) (marks : List
       ])
 
 -- The block at granule p is one of the list.
-pub Contains-at : (keeps : Bool → Bool) (base : ℕ) (lengths : List ℕ) (marks : List Bool) (p : ℕ) (block : Block) → length marks ≡ length lengths → p < length lengths
+pub Contains-at : (keeps : Bool → Bool) (base : ℕ) (lengths : List ℕ) (marks : List Bool) (p : ℕ) {block : Block} → length marks ≡ length lengths → p < length lengths
     → 0 < get_or lengths p 0 → keeps (get_or marks p false) ≡ true → block.base ≡ base + 16 * p → block.top ≡ base + 16 * p + 16 * get_or lengths p 0
     → Contains (blocks_of keeps base 0 lengths marks) (block.base, block.top - block.base)
-Contains-at keeps base lengths marks p block same lt some kept at top =
+Contains-at keeps base lengths marks p {block} same lt some kept at top =
     let here : has_bounds block.base block.top (base + 16 * p, 16 * get_or lengths p 0) ≡ true =
     and_from (base + 16 * p == block.base) (base + 16 * p + 16 * get_or lengths p 0 == block.top) (eq-eqb (base + 16 * p) block.base (sym at)) (eq-eqb (base + 16 * p + 16 * get_or lengths p 0) block.top (sym top)) in
     Contains-block block.base block.top (blocks_of keeps base 0 lengths marks)
-    (any-block (has_bounds block.base block.top) keeps base 0 lengths marks false p (base + 16 * p) same (omega arith) lt some kept here)
+    (any-block (has_bounds block.base block.top) keeps base 0 lengths marks false p same (omega arith) lt some kept here)
 
 -- ---- in the heap
 
-pub live_first : (base : ℕ) (lengths : List ℕ) (marks lates : List Bool) (is_open : Bool) (first end p : ℕ) (block : Block) → IsTable base lengths marks → end ≤ length lengths
+pub live_first : {base : ℕ} {lengths : List ℕ} {marks : List Bool} (lates : List Bool) {first : ℕ} (end : ℕ) {p : ℕ} {block : Block} → IsTable base lengths marks → end ≤ length lengths
     → p < end → IsFirstPast is_unmarked lengths (either_mark marks lates) first p → block.base ≡ base + 16 * p → block.top ≡ base + 16 * p + 16 * get_or lengths p 0
-    → IsFirstOver (heap_state base lengths marks lates is_open).live (base + 16 * first) (base + 16 * end) block
-live_first base lengths marks lates is_open first end p block table within before is at top = record {
-  there = Contains-at is_unmarked base lengths (either_mark marks lates) p block (length-either marks lates ∙ table.same) (omega arith) is.reaches.some is.reaches.kept at top;
+    → IsFirstOver (blocks_of is_unmarked base 0 lengths (either_mark marks lates)) (base + 16 * first) (base + 16 * end) block
+live_first {base} {lengths} {marks} lates {first} end {p} {block} table within before is at top = record {
+  there = Contains-at is_unmarked base lengths (either_mark marks lates) p (length-either marks lates ∙ table.same) (omega arith) is.reaches.some is.reaches.kept at top;
   over = (omega arith, omega (arith, is.reaches.past));
   first = first_before is_unmarked base lengths (either_mark marks lates) first end p is block at;
 }
@@ -122,14 +122,14 @@ module _ (lengths : List ℕ) (marks lates : List Bool) (first end : ℕ) (same 
         or_right true b is = refl
         or_right false b is = is
 
-pub due_none : (base : ℕ) (lengths : List ℕ) (marks lates : List Bool) (is_open : Bool) (first end : ℕ) → IsTable base lengths marks → AreLate lengths marks lates is_open
+pub due_none : {base : ℕ} {lengths : List ℕ} {marks lates : List Bool} {is_open : Bool} (first end : ℕ) → IsTable base lengths marks → AreLate lengths marks lates is_open
     → (from to : ℕ) → from ≡ base + 16 * first → to ≡ base + 16 * end → NonePast is_marked lengths (either_mark marks lates) first end → first < end
     → All (IsApart (from, to - from)) ((heap_state base lengths marks lates is_open).waiting ++ (heap_state base lengths marks lates is_open).painted)
-due_none base lengths marks lates true first end table late from to from_is to_is none some =
+due_none {base} {lengths} {marks} {lates} {is_open = true} first end table late from to from_is to_is none some =
     All-append (IsApart (from, to - from)) (blocks_of is_marked base 0 lengths lates) (blocks_of is_marked base 0 lengths marks)
     (none_over is_marked base lengths lates first end from to from_is to_is (none_late lengths marks lates first end (late.same ∙ sym table.same) none) some)
     (none_over is_marked base lengths marks first end from to from_is to_is (none_due lengths marks lates first end (late.same ∙ sym table.same) none) some)
-due_none base lengths marks lates false first end table late from to from_is to_is none some =
+due_none {base} {lengths} {marks} {lates} {is_open = false} first end table late from to from_is to_is none some =
     All-append (IsApart (from, to - from)) (blocks_of is_marked base 0 lengths marks) []
     (none_over is_marked base lengths marks first end from to from_is to_is (none_due lengths marks lates first end (late.same ∙ sym table.same) none) some)
     (All-nil (IsApart (from, to - from)))
@@ -151,27 +151,27 @@ module _ (base : ℕ) (lengths : List ℕ) (marks lates : List Bool) (first p : 
         | inr ends ↦ omega arith
       ])
 
-pub due_first : (base : ℕ) (lengths : List ℕ) (marks lates : List Bool) (is_open : Bool) (first end p : ℕ) (block : Block) → IsTable base lengths marks → AreLate lengths marks lates is_open
+pub due_first : {base : ℕ} {lengths : List ℕ} {marks lates : List Bool} {is_open : Bool} {first : ℕ} (end : ℕ) {p : ℕ} {block : Block} → IsTable base lengths marks → AreLate lengths marks lates is_open
     → end ≤ length lengths → p < end → IsFirstPast is_marked lengths (either_mark marks lates) first p → block.base ≡ base + 16 * p → block.top ≡ base + 16 * p + 16 * get_or lengths p 0
     → IsFirstOver ((heap_state base lengths marks lates is_open).waiting ++ (heap_state base lengths marks lates is_open).painted) (base + 16 * first) (base + 16 * end) block
-due_first base lengths marks lates true first end p block table late within before is at top =
+due_first {base} {lengths} {marks} {lates} {is_open = true} {first} end {p} {block} table late within before is at top =
     let same = late.same ∙ sym table.same in
     let due = blocks_of is_marked base 0 lengths marks in
     let lately = blocks_of is_marked base 0 lengths lates in
     record {
       there = elim (or_cases (get_or marks p false) (get_or lates p false) (sym (get_or-either marks lates p same) ∙ is.reaches.kept)) [
-        | inl marked ↦ Contains-append_right lately due _ (Contains-at is_marked base lengths marks p block table.same (omega arith) is.reaches.some marked at top)
-        | inr was_late ↦ Contains-append_left lately due _ (Contains-at is_marked base lengths lates p block late.same (omega arith) is.reaches.some was_late at top)
+        | inl marked ↦ Contains-append_right lately due _ (Contains-at is_marked base lengths marks p table.same (omega arith) is.reaches.some marked at top)
+        | inr was_late ↦ Contains-append_left lately due _ (Contains-at is_marked base lengths lates p late.same (omega arith) is.reaches.some was_late at top)
       ];
       over = (omega arith, omega (arith, is.reaches.past));
       first = All-append (λ b. start_of b < block.base → end_of b ≤ base + 16 * first) lately due (before_late base lengths marks lates first p same is block at) (before_due base lengths marks lates first p same is block at);
     }
-due_first base lengths marks lates false first end p block table late within before is at top =
+due_first {base} {lengths} {marks} {lates} {is_open = false} {first} end {p} {block} table late within before is at top =
     let same = late.same ∙ sym table.same in
     let due = blocks_of is_marked base 0 lengths marks in
     record {
       there = elim (or_cases (get_or marks p false) (get_or lates p false) (sym (get_or-either marks lates p same) ∙ is.reaches.kept)) [
-        | inl marked ↦ Contains-append_left due [] _ (Contains-at is_marked base lengths marks p block table.same (omega arith) is.reaches.some marked at top)
+        | inl marked ↦ Contains-append_left due [] _ (Contains-at is_marked base lengths marks p table.same (omega arith) is.reaches.some marked at top)
         | inr was_late ↦ absurd (true≢false (sym was_late ∙ late.closed refl p))
       ];
       over = (omega arith, omega (arith, is.reaches.past));

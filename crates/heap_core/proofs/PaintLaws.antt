@@ -61,10 +61,10 @@ none_of (suc zero) below unset = absurd (true≢false unset)
 none_of (suc (suc bit)) below unset = absurd (omega (arith, below))
 
 -- A mark paints the bits of its mask.
-pub painted-mark : (board : BoardState) (old new : SeatState) (w mask answer found : ℕ) → IsOf board new → new.parts ≡ old.parts → IsSeat new → w < word_count board → mask < 2 ^ 64 → found < 2 ^ 64
+pub painted-mark : {board : BoardState} {old new : SeatState} (w mask : ℕ) {answer : ℕ} (found : ℕ) → IsOf board new → new.parts ≡ old.parts → IsSeat new → w < word_count board → mask < 2 ^ 64 → found < 2 ^ 64
     → answer ≡ bits_without mask found → new.seen ≡ with_bits old.seen w (bit_or found mask) → new.mine ≡ with_bits old.mine w answer
     → IsPainted (λ k. (k / 64 == w) && is_set mask (k % 64)) board old new
-painted-mark board old new w mask answer found of parts sound inside fits fits_found answer_is seen_is mine_is =
+painted-mark {board} {old} {new} w mask {answer} found of parts sound inside fits fits_found answer_is seen_is mine_is =
     let width_seen : length old.seen ≡ word_count board = sym (length-gains old.seen w (bit_or found mask)) ∙ (ap length (sym seen_is) ∙ (sound.seen_width ∙ ap word_count of)) in
     let width_mine : length old.mine ≡ word_count board = sym (length-gains old.mine w answer) ∙ (ap length (sym mine_is) ∙ (sound.mine_width ∙ ap word_count of)) in
     record {

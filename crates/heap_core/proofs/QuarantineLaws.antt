@@ -28,16 +28,16 @@ has_bounds_other start bytes base top other =
     ]
 
 -- The block at granule k is one of those whose marks pass, where its mark does.
-pub is_block_at : (keeps : Bool → Bool) (base : ℕ) (lengths : List ℕ) (marks : List Bool) (start top k : ℕ) → length marks ≡ length lengths
+pub is_block_at : (keeps : Bool → Bool) {base : ℕ} {lengths : List ℕ} (marks : List Bool) {start top k : ℕ} → length marks ≡ length lengths
     → IsBlockAt base lengths start top k → keeps (get_or marks k false) ≡ true → is_block (blocks_of keeps base 0 lengths marks) start top ≡ true
-is_block_at keeps base lengths marks start top k same at kept =
-    any-block (has_bounds start top) keeps base 0 lengths marks false k start same (omega (arith, at.start_is)) at.within at.some kept
+is_block_at keeps {base} {lengths} marks {start} {top} {k} same at kept =
+    any-block (has_bounds start top) keeps base 0 lengths marks false k same (omega (arith, at.start_is)) at.within at.some kept
     (has_bounds_same start (16 * get_or lengths k 0) start top refl (sym at.top_is))
 
 -- And otherwise it isn't.
-is_other_block : (keeps : Bool → Bool) (base : ℕ) (lengths : List ℕ) (marks : List Bool) (start top k : ℕ)
+is_other_block : (keeps : Bool → Bool) {base : ℕ} {lengths : List ℕ} (marks : List Bool) {start top k : ℕ}
     → IsBlockAt base lengths start top k → keeps (get_or marks k false) ≡ false → is_block (blocks_of keeps base 0 lengths marks) start top ≡ false
-is_other_block keeps base lengths marks start top k at other =
+is_other_block keeps {base} {lengths} marks {start} {top} {k} at other =
     any-no_block (has_bounds start top) keeps base lengths marks false
     (λ j s s_is lt some kept. has_bounds_other s (16 * get_or lengths j 0) start top
     (λ first last.
@@ -45,50 +45,48 @@ is_other_block keeps base lengths marks start top k at other =
     absurd (true≢false (sym kept ∙ subst (λ (i : ℕ). keeps (get_or marks i false) ≡ false) (sym same) other))))
 
 -- Where no block has these bounds, none in a list has.
-is_no_block : (keeps : Bool → Bool) (base : ℕ) (lengths : List ℕ) (marks : List Bool) (start top : ℕ)
+is_no_block : (keeps : Bool → Bool) {base : ℕ} {lengths : List ℕ} (marks : List Bool) {start top : ℕ}
     → ((k : ℕ) → IsBlockAt base lengths start top k → ⊥) → is_block (blocks_of keeps base 0 lengths marks) start top ≡ false
-is_no_block keeps base lengths marks start top none =
+is_no_block keeps {base} {lengths} marks {start} {top} none =
     any-no_block (has_bounds start top) keeps base lengths marks false
     (λ j s s_is lt some kept. has_bounds_other s (16 * get_or lengths j 0) start top
     (λ first last. none j (record { within = lt; some = some; start_is = omega arith; top_is = omega arith })))
 
 -- ---- what is answered
 
-pub freed_of-none : (base : ℕ) (lengths : List ℕ) (marks lates : List Bool) (is_open : Bool) (start top : ℕ) → ((k : ℕ) → IsBlockAt base lengths start top k → ⊥)
+pub freed_of-none : {base : ℕ} {lengths : List ℕ} (marks lates : List Bool) (is_open : Bool) {start top : ℕ} → ((k : ℕ) → IsBlockAt base lengths start top k → ⊥)
     → freed_of (heap_state base lengths marks lates is_open) start top ≡ NotBlock
-freed_of-none base lengths marks lates true start top none =
-    rw (is_no_block is_unmarked base lengths (either_mark marks lates) start top none, is_no_block is_marked base lengths lates start top none, is_no_block is_marked base lengths marks start top none) refl
-freed_of-none base lengths marks lates false start top none =
-    rw (is_no_block is_unmarked base lengths (either_mark marks lates) start top none, is_no_block is_marked base lengths marks start top none) refl
+freed_of-none marks lates true none =
+    rw (is_no_block is_unmarked (either_mark marks lates) none, is_no_block is_marked lates none, is_no_block is_marked marks none) refl
+freed_of-none marks lates false none = rw (is_no_block is_unmarked (either_mark marks lates) none, is_no_block is_marked marks none) refl
 
 -- A block that is due.
-pub freed_of-due : (base : ℕ) (lengths : List ℕ) (marks lates : List Bool) (is_open : Bool) (start top k : ℕ) → length marks ≡ length lengths → AreLate lengths marks lates is_open
+pub freed_of-due : {base : ℕ} {lengths : List ℕ} {marks lates : List Bool} {is_open : Bool} {start top k : ℕ} → length marks ≡ length lengths → AreLate lengths marks lates is_open
     → IsBlockAt base lengths start top k → get_or marks k false ≡ true → freed_of (heap_state base lengths marks lates is_open) start top ≡ AlreadyHeld
-freed_of-due base lengths marks lates true start top k same are at held =
+freed_of-due {marks} {lates} {is_open = true} {k} same are at held =
     let either : get_or (either_mark marks lates) k false ≡ true = get_or-either marks lates k (are.same ∙ sym same) ∙ ap (λ b. b || get_or lates k false) held in
     let other : get_or lates k false ≡ false = false_from_ne_true (get_or lates k false) (λ late. true≢false (sym held ∙ are.apart k late)) in
-    rw (is_other_block is_unmarked base lengths (either_mark marks lates) start top k at (ap not either), is_other_block is_marked base lengths lates start top k at other, is_block_at is_marked base lengths marks start top k same at held) refl
-freed_of-due base lengths marks lates false start top k same are at held =
+    rw (is_other_block is_unmarked (either_mark marks lates) at (ap not either), is_other_block is_marked lates at other, is_block_at is_marked marks same at held) refl
+freed_of-due {marks} {lates} {is_open = false} {k} same are at held =
     let either : get_or (either_mark marks lates) k false ≡ true = get_or-either marks lates k (are.same ∙ sym same) ∙ ap (λ b. b || get_or lates k false) held in
-    rw (is_other_block is_unmarked base lengths (either_mark marks lates) start top k at (ap not either), is_block_at is_marked base lengths marks start top k same at held) refl
+    rw (is_other_block is_unmarked (either_mark marks lates) at (ap not either), is_block_at is_marked marks same at held) refl
 
 -- A late block.
-pub freed_of-late : (base : ℕ) (lengths : List ℕ) (marks lates : List Bool) (is_open : Bool) (start top k : ℕ) → length marks ≡ length lengths → AreLate lengths marks lates is_open
+pub freed_of-late : {base : ℕ} {lengths : List ℕ} {marks lates : List Bool} {is_open : Bool} {start top k : ℕ} → length marks ≡ length lengths → AreLate lengths marks lates is_open
     → IsBlockAt base lengths start top k → get_or lates k false ≡ true → freed_of (heap_state base lengths marks lates is_open) start top ≡ AlreadyHeld
-freed_of-late base lengths marks lates true start top k same are at late =
+freed_of-late {marks} {lates} {is_open = true} {k} same are at late =
     let either : get_or (either_mark marks lates) k false ≡ true = get_or-either marks lates k (are.same ∙ sym same) ∙ (λ i. are.apart k late i || late i) in
-    rw (is_other_block is_unmarked base lengths (either_mark marks lates) start top k at (ap not either), is_block_at is_marked base lengths lates start top k are.same at late) refl
-freed_of-late base lengths marks lates false start top k same are at late = absurd (true≢false (sym late ∙ are.closed refl k))
+    rw (is_other_block is_unmarked (either_mark marks lates) at (ap not either), is_block_at is_marked lates are.same at late) refl
+freed_of-late {is_open = false} {k} same are at late = absurd (true≢false (sym late ∙ are.closed refl k))
 
 -- The mark of a live block.
-pub live_mark : (lengths : List ℕ) (marks lates : List Bool) (is_open : Bool) (k : ℕ) → length marks ≡ length lengths → AreLate lengths marks lates is_open
+pub live_mark : {lengths : List ℕ} {marks lates : List Bool} {is_open : Bool} (k : ℕ) → length marks ≡ length lengths → AreLate lengths marks lates is_open
     → get_or marks k false ≡ false → get_or lates k false ≡ false → get_or (either_mark marks lates) k false ≡ false
-live_mark lengths marks lates is_open k same are not_due not_late = get_or-either marks lates k (are.same ∙ sym same) ∙ (λ i. not_due i || not_late i)
+live_mark {marks} {lates} k same are not_due not_late = get_or-either marks lates k (are.same ∙ sym same) ∙ (λ i. not_due i || not_late i)
 
-pub freed_of-live : (base : ℕ) (lengths : List ℕ) (marks lates : List Bool) (is_open : Bool) (start top k : ℕ) → length marks ≡ length lengths → AreLate lengths marks lates is_open
+pub freed_of-live : {base : ℕ} {lengths : List ℕ} {marks lates : List Bool} {is_open : Bool} {start top k : ℕ} → length marks ≡ length lengths → AreLate lengths marks lates is_open
     → IsBlockAt base lengths start top k → get_or (either_mark marks lates) k false ≡ false → freed_of (heap_state base lengths marks lates is_open) start top ≡ Held
-freed_of-live base lengths marks lates is_open start top k same are at live =
-    rw (is_block_at is_unmarked base lengths (either_mark marks lates) start top k (length-either marks lates ∙ same) at (ap not live)) refl
+freed_of-live {marks} {lates} same are at live = rw (is_block_at is_unmarked (either_mark marks lates) (length-either marks lates ∙ same) at (ap not live)) refl
 
 -- ---- the table once the block is held
 
@@ -124,29 +122,29 @@ live_blocks-held base i (n ∷ lengths) (mark ∷ marks) start top (suc k) same 
     ]
 
 -- And it is one more of the held ones.
-pub held_blocks-held : (base : ℕ) (lengths : List ℕ) (marks : List Bool) (start top k : ℕ) → length marks ≡ length lengths
+pub held_blocks-held : {base : ℕ} {lengths : List ℕ} (marks : List Bool) {start top k : ℕ} → length marks ≡ length lengths
     → IsBlockAt base lengths start top k → get_or marks k false ≡ false
     → blocks_of is_marked base 0 lengths (set marks k true) ≡ blocks_with (start, top - start) (blocks_of is_marked base 0 lengths marks)
-held_blocks-held base lengths marks start top k same at live =
+held_blocks-held {base} {lengths} marks {start} {top} {k} same at live =
     let n = get_or lengths k 0 in
     let bytes : 16 * get_or lengths k 0 ≡ top - start = omega (arith, at.top_is) in
-    let more = blocks_of-set is_marked base 0 lengths marks false k n start true at.within same (and_right (nat_lt 0 n) (get_or marks k false) live) at.some refl (omega (arith, at.start_is)) in
+    let more = blocks_of-set is_marked base 0 lengths marks false k n at.within same (and_right (nat_lt 0 n) (get_or marks k false) live) at.some refl (omega (arith, at.start_is)) in
     subst (λ (xs : List ℕ). blocks_of is_marked base 0 xs (set marks k true) ≡ blocks_with (start, top - start) (blocks_of is_marked base 0 lengths marks))
     (set-get_or lengths k 0) (more ∙ ap (λ (x : ℕ). blocks_with (start, x) (blocks_of is_marked base 0 lengths marks)) bytes)
 
-pub IsTable-held : (base : ℕ) (lengths : List ℕ) (marks : List Bool) (k : ℕ) → IsTable base lengths marks → IsTable base lengths (set marks k true)
-IsTable-held base lengths marks k table = IsTable-marks base lengths marks (set marks k true) (length-set marks k true ∙ table.same) table
+pub IsTable-held : {base : ℕ} {lengths : List ℕ} {marks : List Bool} (k : ℕ) → IsTable base lengths marks → IsTable base lengths (set marks k true)
+IsTable-held {marks} k table = IsTable-marks (length-set marks k true ∙ table.same) table
 
 -- The bytes of the block go from the live to the held ones.
 pub record HasMoved (base : ℕ) (lengths : List ℕ) (marks : List Bool) (k : ℕ) : Type 0 where
   pub live : bytes_in (blocks_of is_unmarked base 0 lengths (set marks k true)) + 16 * get_or lengths k 0 ≡ bytes_in (blocks_of is_unmarked base 0 lengths marks)
   pub held : bytes_in (blocks_of is_marked base 0 lengths (set marks k true)) ≡ bytes_in (blocks_of is_marked base 0 lengths marks) + 16 * get_or lengths k 0
 
-pub HasMoved-held : (base : ℕ) (lengths : List ℕ) (marks : List Bool) (start top k : ℕ) → length marks ≡ length lengths
+pub HasMoved-held : {base : ℕ} {lengths : List ℕ} {marks : List Bool} {start top k : ℕ} → length marks ≡ length lengths
     → IsBlockAt base lengths start top k → get_or marks k false ≡ false → HasMoved base lengths marks k
-HasMoved-held base lengths marks start top k same at live =
+HasMoved-held {base} {lengths} {marks} {start} {top} {k} same at live =
     let before = bytes_of_both base 0 lengths marks same in
     let after = bytes_of_both base 0 lengths (set marks k true) (length-set marks k true ∙ same) in
-    let more = ap bytes_in (held_blocks-held base lengths marks start top k same at live)
+    let more = ap bytes_in (held_blocks-held marks same at live)
     ∙ bytes_in-blocks_with (start, top - start) (blocks_of is_marked base 0 lengths marks) in
     record { live = omega (arith, at.top_is); held = omega (arith, at.top_is) }

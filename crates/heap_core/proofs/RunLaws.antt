@@ -49,9 +49,9 @@ is_occupied-set_other (m ∷ lengths) (suc p) n (suc k) none other =
 -- ---- free runs
 
 -- A block shares no granule with a free run.
-pub run_is_apart : (lengths : List ℕ) (p n k : ℕ) → IsGap lengths p n → 0 < get_or lengths k 0
+pub run_is_apart : {lengths : List ℕ} {p n : ℕ} (k : ℕ) → IsGap lengths p n → 0 < get_or lengths k 0
     → (k + get_or lengths k 0 ≤ p) ⊎ (p + n ≤ k)
-run_is_apart lengths p n k run some =
+run_is_apart {lengths} {p} {n} k run some =
     elim (cases_lt p (k + get_or lengths k 0)) [
       | inl reaches ↦ elim (cases_lt k (p + n)) [
         | inl before ↦ elim (cases_lt k p) [
@@ -68,26 +68,26 @@ run_is_apart lengths p n k run some =
     ]
 
 -- No block starts in it.
-pub run_is_empty : (lengths : List ℕ) (p n k : ℕ) → IsGap lengths p n → p ≤ k → k < p + n → get_or lengths k 0 ≡ 0
-run_is_empty lengths p n k run le lt =
+pub run_is_empty : {lengths : List ℕ} {p n : ℕ} (k : ℕ) → IsGap lengths p n → p ≤ k → k < p + n → get_or lengths k 0 ≡ 0
+run_is_empty {lengths} k run le lt =
     elim (cases_lt 0 (get_or lengths k 0)) [
-      | inl some ↦ elim (run_is_apart lengths p n k run some) [ inl before ↦ absurd (omega arith) | inr after ↦ absurd (omega arith) ]
+      | inl some ↦ elim (run_is_apart k run some) [ inl before ↦ absurd (omega arith) | inr after ↦ absurd (omega arith) ]
       | inr none ↦ omega arith
     ]
 
 -- None from before reaches into it.
-run_is_clear : (lengths : List ℕ) (p n j : ℕ) → IsGap lengths p n → j < p → j + get_or lengths j 0 ≤ p
-run_is_clear lengths p n j run lt =
+run_is_clear : {lengths : List ℕ} {p n : ℕ} (j : ℕ) → IsGap lengths p n → j < p → j + get_or lengths j 0 ≤ p
+run_is_clear {lengths} j run lt =
     elim (cases_lt 0 (get_or lengths j 0)) [
-      | inl some ↦ elim (run_is_apart lengths p n j run some) [ inl before ↦ before | inr after ↦ absurd (omega (arith, run.some)) ]
+      | inl some ↦ elim (run_is_apart j run some) [ inl before ↦ before | inr after ↦ absurd (omega (arith, run.some)) ]
       | inr none ↦ omega arith
     ]
 
 -- ---- a block at a free run
 
-inside-set : (lengths : List ℕ) (p n j : ℕ) → ((j : ℕ) → j < length lengths → j + get_or lengths j 0 ≤ length lengths)
+inside-set : {lengths : List ℕ} {p n : ℕ} (j : ℕ) → ((j : ℕ) → j < length lengths → j + get_or lengths j 0 ≤ length lengths)
     → IsGap lengths p n → j < length lengths → j + get_or (set lengths p n) j 0 ≤ length lengths
-inside-set lengths p n j inside run lt =
+inside-set {lengths} {p} {n} j inside run lt =
     elim (cases_eq j p) [
       | inl is ↦
           let here : get_or (set lengths p n) j 0 ≡ n = rw is (get_or-set_same lengths p n 0 (omega arith)) in
@@ -97,28 +97,28 @@ inside-set lengths p n j inside run lt =
           omega (arith, inside j lt)
     ]
 
-apart-set : (lengths : List ℕ) (p n j k : ℕ) → ((j k : ℕ) → j < k → 0 < get_or lengths k 0 → j + get_or lengths j 0 ≤ k)
+apart-set : {lengths : List ℕ} {p n : ℕ} (j k : ℕ) → ((j k : ℕ) → j < k → 0 < get_or lengths k 0 → j + get_or lengths j 0 ≤ k)
     → IsGap lengths p n → j < k → 0 < get_or (set lengths p n) k 0 → j + get_or (set lengths p n) j 0 ≤ k
-apart-set lengths p n j k apart run lt some =
+apart-set {lengths} {p} {n} j k apart run lt some =
     elim (cases_eq k p) [
       | inl is ↦
           let other : get_or (set lengths p n) j 0 ≡ get_or lengths j 0 = get_or-set_other lengths p j n 0 (λ same. omega arith) in
-          omega (arith, run_is_clear lengths p n j run (omega arith))
+          omega (arith, run_is_clear j run (omega arith))
       | inr is_not ↦
           let there : get_or (set lengths p n) k 0 ≡ get_or lengths k 0 = get_or-set_other lengths p k n 0 is_not in
           elim (cases_eq j p) [
             | inl is ↦
                 let here : get_or (set lengths p n) j 0 ≡ n = rw is (get_or-set_same lengths p n 0 (omega (arith, run.end, run.some))) in
-                elim (run_is_apart lengths p n k run (omega arith)) [ inl before ↦ absurd (omega arith) | inr after ↦ omega arith ]
+                elim (run_is_apart k run (omega arith)) [ inl before ↦ absurd (omega arith) | inr after ↦ omega arith ]
             | inr j_is_not ↦
                 let other : get_or (set lengths p n) j 0 ≡ get_or lengths j 0 = get_or-set_other lengths p j n 0 j_is_not in
                 omega (arith, apart j k lt (omega arith))
           ]
     ]
 
-pub IsTable-set : (base : ℕ) (lengths : List ℕ) (marks : List Bool) (p n : ℕ) → IsTable base lengths marks → IsGap lengths p n
+pub IsTable-set : {base : ℕ} {lengths : List ℕ} {marks : List Bool} {p n : ℕ} → IsTable base lengths marks → IsGap lengths p n
     → IsTable base (set lengths p n) (set marks p false)
-IsTable-set base lengths marks p n table run =
+IsTable-set {lengths} {marks} {p} {n} table run =
     let long : length (set lengths p n) ≡ length lengths = length-set lengths p n in
     record {
       same = length-set marks p false ∙ (table.same ∙ sym long);
@@ -126,21 +126,21 @@ IsTable-set base lengths marks p n table run =
       count = long ∙ table.count;
       size = table.size;
       place = table.place;
-      inside = λ j lt. rw long (inside-set lengths p n j table.inside run (omega arith));
-      apart = λ j k lt some. apart-set lengths p n j k table.apart run lt some;
+      inside = λ j lt. rw long (inside-set j table.inside run (omega arith));
+      apart = λ j k lt some. apart-set j k table.apart run lt some;
     }
 
 -- One more block is live.
-pub live_blocks-set : (base : ℕ) (lengths : List ℕ) (marks : List Bool) (p n : ℕ) → length marks ≡ length lengths → IsGap lengths p n
+pub live_blocks-set : (base : ℕ) {lengths : List ℕ} (marks : List Bool) {p n : ℕ} → length marks ≡ length lengths → IsGap lengths p n
     → blocks_of is_unmarked base 0 (set lengths p n) (set marks p false)
     ≡ blocks_with (base + 16 * p, 16 * n) (blocks_of is_unmarked base 0 lengths marks)
-live_blocks-set base lengths marks p n same run =
-    let none = run_is_empty lengths p n p run (omega arith) (omega (arith, run.some)) in
-    blocks_of-set is_unmarked base 0 lengths marks true p n (base + 16 * p) false (omega (arith, run.end, run.some)) same (rw none refl) run.some refl (omega arith)
+live_blocks-set base {lengths} marks {p} {n} same run =
+    let none = run_is_empty p run (omega arith) (omega (arith, run.some)) in
+    blocks_of-set is_unmarked base 0 lengths marks true p n (omega (arith, run.end, run.some)) same (rw none refl) run.some refl (omega arith)
 
 -- The same blocks are due.
-pub held_blocks-set : (base : ℕ) (lengths : List ℕ) (marks : List Bool) (p n : ℕ) → IsGap lengths p n
+pub held_blocks-set : (base : ℕ) {lengths : List ℕ} (marks : List Bool) {p n : ℕ} → IsGap lengths p n
     → blocks_of is_marked base 0 (set lengths p n) (set marks p false) ≡ blocks_of is_marked base 0 lengths marks
-held_blocks-set base lengths marks p n run =
-    let none = run_is_empty lengths p n p run (omega arith) (omega (arith, run.some)) in
+held_blocks-set base {lengths} marks {p} {n} run =
+    let none = run_is_empty p run (omega arith) (omega (arith, run.some)) in
     blocks_of-set_other is_marked base 0 lengths marks p n false none refl

@@ -14,10 +14,10 @@ due-heap_state base lengths marks lates true = refl
 due-heap_state base lengths marks lates false = refl
 
 -- Painted granules are the shadow of the heap.
-pub IsShadow-painted : (base : ℕ) (lengths : List ℕ) (marks lates : List Bool) (is_open : Bool) (shadow : List Bool) → IsTable base lengths marks → length shadow ≡ length lengths
+pub IsShadow-painted : {base : ℕ} {lengths : List ℕ} {marks : List Bool} (lates : List Bool) {is_open : Bool} {shadow : List Bool} → IsTable base lengths marks → length shadow ≡ length lengths
     → ((k : ℕ) → k < length lengths → get_or shadow k false ≡ is_occupied k (kept_lengths is_marked lengths marks))
     → IsShadow (heap_state base lengths marks lates is_open) shadow
-IsShadow-painted base lengths marks lates is_open shadow table long painted = record {
+IsShadow-painted {base} {lengths} {marks} lates {is_open} table long painted = record {
   granules = ap (λ n. 16 * n) long;
   painted = λ a from before.
       let inside : (a - base) / 16 < length lengths = omega arith in

@@ -430,7 +430,7 @@ kept_lengths-hold lengths marks i same inside =
           ∙ sym (get_or-set_other (kept_lengths is_marked lengths marks) i k (get_or lengths i 0) 0 other))
     ])
 
-module _ (t : Inside) (stored : AreStored t) (s : Rows) (i : ℕ) (inside : i < length (lengths_of t.rows.starts.items t.lengths.items))
+module _ {t : Inside} (stored : AreStored t) (s : Rows) (i : ℕ) (inside : i < length (lengths_of t.rows.starts.items t.lengths.items))
     (block : 0 < get_or (lengths_of t.rows.starts.items t.lengths.items) i 0)
     (apart : (j k : ℕ) → j < k → 0 < get_or (lengths_of t.rows.starts.items t.lengths.items) k 0 → j + get_or (lengths_of t.rows.starts.items t.lengths.items) j 0 ≤ k)
     (starts : s.starts.items ≡ t.rows.starts.items)
@@ -479,8 +479,8 @@ module _ (t : Inside) (stored : AreStored t) (s : Rows) (i : ℕ) (inside : i < 
             ∙ sym (get_or-set_other marks_now i k true false other ∙ get_or-marks_of t.rows.starts.items t.rows.due.items (length t.lengths.items) k inside_k)
       ]))
 
-  pub AreStored-hold : get_or marks_now i false ≡ false → (new : Inside) → new.rows ≡ s → new.lengths ≡ t.lengths → AreRows s → row_granules s ≡ row_granules t.rows → s.free ≡ t.rows.free → AreStored new
-  AreStored-hold live new rows_are items are_rows count free =
+  pub AreStored-hold : {new : Inside} → get_or marks_now i false ≡ false → new.rows ≡ s → new.lengths ≡ t.lengths → AreRows s → row_granules s ≡ row_granules t.rows → s.free ≡ t.rows.free → AreStored new
+  AreStored-hold live rows_are items are_rows count free =
       let none : get_or (kept_lengths is_marked (lengths_of t.rows.starts.items t.lengths.items) marks_now) i 0 ≡ 0 =
       get_or-not_kept is_marked (lengths_of t.rows.starts.items t.lengths.items) marks_now i false (same_count t stored) inside live in
       let kept_long = length-kept_lengths is_marked (lengths_of t.rows.starts.items t.lengths.items) marks_now (same_count t stored) in

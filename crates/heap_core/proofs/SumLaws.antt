@@ -56,9 +56,9 @@ sum_fits taken (n ∷ lengths) none inside apart le =
     omega (arith, sum_by-cons (λ x. x) n lengths)
 
 -- So do those of blocks with a mark and without together.
-pub granules_fit : (base : ℕ) (lengths : List ℕ) (marks : List Bool) (live held : ℕ) → IsTable base lengths marks
+pub granules_fit : {base : ℕ} {lengths : List ℕ} {marks : List Bool} (live held : ℕ) → IsTable base lengths marks
     → 16 * live ≡ bytes_in (blocks_of is_unmarked base 0 lengths marks) → 16 * held ≡ bytes_in (blocks_of is_marked base 0 lengths marks)
     → live + held ≤ length lengths
-granules_fit base lengths marks live held table live_is held_is =
+granules_fit {base} {lengths} {marks} live held table live_is held_is =
     let all = sum_fits 0 lengths (λ k lt. absurd (omega arith)) table.inside table.apart (omega arith) in
     omega (arith, bytes_of_both base 0 lengths marks table.same)

@@ -15,7 +15,7 @@ returns-then-mask-ne0 c =
     let mask = bit_and (get_or c.args.row.now c.args.w 0) c.range_word.result in
     let fits : mask < 2 ^ 64 = omega (arith, and_le_l (get_or c.args.row.now c.args.w 0) c.range_word.result, (c.type_inv.row c.args.w).fits) in
     let found = c.mark.ensures.found in
-    let marked = painted-mark c.args.board.now c.args.seat.now c.mark.new.seat c.args.w mask c.mark.result found.0 c.mark.ensures.board c.mark.ensures.parts c.mark.ensures.sound
+    let marked = painted-mark c.args.w mask found.0 c.mark.ensures.board c.mark.ensures.parts c.mark.ensures.sound
     (omega (arith, c.requires.bits, c.requires.inside)) fits found.1 found.3 found.4 c.mark.ensures.mine in
     painted-by _ _ c.args.board.now c.args.seat.now c.mark.new.seat (word_painted c.args.row.now c.args.w c.range_word.result c.args.from c.args.to c.range_word.ensures) marked
 

@@ -1,6 +1,5 @@
-use Rattle.std.proofs.Common.{◌≡◌, ◌∙◌, ap, false, true}
+use Rattle.std.proofs.Common.{◌≡◌, ◌∙◌, ap, false}
 use Rattle.heap_model.specs.Heap.{HeapState}
-use Rattle.heap_model.specs.Shadow.{bits_of}
 use Rattle.heap_core.proofs.HeapLaws.{heap_state-begun}
 use Rattle.heap_core.proofs.LateLaws.{AreLate-none}
 use Rattle.heap_core.proofs.SoundLaws.{IsSound-from_table}
@@ -10,10 +9,10 @@ pub returns-clause-begun : goal.returns-clause-begun
 returns-clause-begun c =
     let inside = c.self.inside in
     let closed : c.self.inside.is_open ≡ false = ap (λ (s : HeapState). s.is_open) c.self.view_is ∙ c.requires in
-    rw (← c.self.view_is) (heap_state-begun inside.base inside.table.lengths inside.table.marks (bits_of inside.late.items) inside.is_open closed c.self.invariant.lates)
+    rw (← c.self.view_is) (heap_state-begun closed c.self.invariant.lates)
 
 pub returns-clause-sound : goal.returns-clause-sound
 returns-clause-sound c =
     let closed : c.self.inside.is_open ≡ false = ap (λ (s : HeapState). s.is_open) c.self.view_is ∙ c.requires in
     let lates = c.self.invariant.lates in
-    IsSound-from_table _ _ _ _ true c.self.invariant.table (AreLate-none _ _ _ true lates.same (lates.closed closed))
+    IsSound-from_table c.self.invariant.table (AreLate-none lates.same (lates.closed closed))

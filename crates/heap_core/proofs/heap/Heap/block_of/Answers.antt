@@ -6,19 +6,19 @@ use Rattle.heap_core.proofs.heap.Heap.block_of.Goals as goal
 
 pub returns-then-address-self-clause-none : goal.returns-then-address-self-clause-none
 returns-then-address-self-clause-none c _ =
-    rw (← c.self.view_is) (IsInNoBlock-outside _ _ _ _ _ c.args.address c.self.invariant.table (inl c.if-address-self.true))
+    rw (← c.self.view_is) (IsInNoBlock-outside c.self.inside c.args.address c.self.invariant.table (inl c.if-address-self.true))
 
 pub returns-then-granule-granules-clause-none : goal.returns-then-granule-granules-clause-none
 returns-then-granule-granules-clause-none c _ =
     let above : c.self.inside.base + 16 * length c.self.inside.table.lengths ≤ c.args.address = omega (arith, c.if-address-self.false, c.if-granule-granules.true, c.granules.ensures) in
-    rw (← c.self.view_is) (IsInNoBlock-outside _ _ _ _ _ c.args.address c.self.invariant.table (inr above))
+    rw (← c.self.view_is) (IsInNoBlock-outside c.self.inside c.args.address c.self.invariant.table (inr above))
 
 pub returns-then-start-length_at-clause-none : goal.returns-then-start-length_at-clause-none
 returns-then-start-length_at-clause-none c _ =
     let g = (c.args.address - c.self.inside.base) / 16 in
     let p = c.reaching_start-start.result in
     let lengths = c.self.inside.table.lengths in
-    rw (← c.self.view_is) (IsInNoBlock-ends _ _ _ _ _ c.args.address g (omega (arith, c.if-address-self.false)) (omega (arith, c.if-address-self.false))
+    rw (← c.self.view_is) (IsInNoBlock-ends c.self.inside c.args.address g (omega (arith, c.if-address-self.false)) (omega (arith, c.if-address-self.false))
     (λ k le. elim (cases_lt k p) [
       | inl less ↦ c.reaching_start-start.ensures.before k less
       | inr from ↦ elim (cases_lt p k) [
@@ -36,7 +36,6 @@ returns-clause-some c =
     let block = c.block_from-block in
     let late = c.kind_at-kind.ensures.late in
     let live = c.kind_at-kind.ensures.live in
-    let p = c.reaching_start-start.result in
     let lies : LiesAt c.self.inside.base c.self.inside.table.lengths c.args.address c.block_from-block.result.base c.block_from-block.result.top c.reaching_start-start.result = record {
       at = record {
         within = omega (arith, c.reaching_start-start.ensures.within, c.if-granule-granules.false, c.granules.ensures);
@@ -47,5 +46,4 @@ returns-clause-some c =
       from = omega (arith, block.ensures.base, c.reaching_start-start.ensures.within, c.if-address-self.false);
       before = omega (arith, block.ensures.top, c.if-start-length_at.false, c.length_at.ensures, c.if-address-self.false);
     } in
-    rw (← c.self.view_is) (IsFound-kind _ _ _ _ _ c.args.address _ _ p c.kind_at-kind.result h.table h.lates lies c.kind_at-kind.ensures.due
-    (rw c.deref.ensures.value at late) (rw c.deref.ensures.value at live))
+    rw (← c.self.view_is) (IsFound-kind h.table h.lates lies c.kind_at-kind.ensures.due (rw c.deref.ensures.value at late) (rw c.deref.ensures.value at live))

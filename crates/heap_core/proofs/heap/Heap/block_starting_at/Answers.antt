@@ -6,7 +6,7 @@ use Rattle.heap_core.proofs.heap.Heap.block_starting_at.Goals as goal
 pub returns-then-length_at-eq0-clause-none : goal.returns-then-length_at-eq0-clause-none
 returns-then-length_at-eq0-clause-none c _ =
     let none : get_or c.self.inside.table.lengths c.args.granule 0 ≡ 0 = omega (arith, c.length_at.ensures, c.if-length_at-eq0.true) in
-    rw (← c.self.view_is) (none_start _ _ _ _ _ c.args.granule none)
+    rw (← c.self.view_is) (none_start c.self.inside c.args.granule none)
 
 pub kind_at-kind-requires-clause-bits : goal.kind_at-kind-requires-clause-bits
 kind_at-kind-requires-clause-bits c = omega (arith, c.self.invariant.lates.same, length-bits_of c.self.inside.late.items, ap length c.deref.ensures.value)
@@ -28,5 +28,4 @@ returns-clause-some c =
       from = omega (arith, block.ensures.base);
       before = omega (arith, block.ensures.top, c.length_at.ensures, c.if-length_at-eq0.false);
     } in
-    rw (← c.self.view_is) (IsFound-kind _ _ _ _ _ _ _ _ c.args.granule c.kind_at-kind.result h.table h.lates lies c.kind_at-kind.ensures.due
-    (rw c.deref.ensures.value at late) (rw c.deref.ensures.value at live))
+    rw (← c.self.view_is) (IsFound-kind h.table h.lates lies c.kind_at-kind.ensures.due (rw c.deref.ensures.value at late) (rw c.deref.ensures.value at live))

@@ -13,7 +13,7 @@ use Rattle.heap_core.proofs.SumLaws.{bytes_in-blocks_with}
 use Rattle.heap_core.proofs.heap.Heap.claim.Goals as goal
 
 pub returns-in-Err-clause-claim : goal.returns-in-Err-clause-claim
-returns-in-Err-clause-claim c = IsClaim-refused _ _ _ _ _ (c.in-Err.ensures.reason c.args.self.now refl refl)
+returns-in-Err-clause-claim c = IsClaim-refused _ (record { is = c.in-Err.ensures.reason c.args.self.now refl refl })
 
 pub in_the_way-requires-clause-taken : goal.in_the_way-requires-clause-taken
 in_the_way-requires-clause-taken c =
@@ -21,19 +21,19 @@ in_the_way-requires-clause-taken c =
     let fit = c.in-Ok.ensures.fit in
     let here = rw (← c.self.view_is) at fit in
     rw (c.put_at.ensures.unchanged c.if-not-put_at.true) (λ may. c.put_at.ensures.taken c.if-not-put_at.true
-    (IsGap-unused _ _ _ _ _ c.args.base c.args.top _ _ h.table h.lates (AreGranules-fit _ _ _ _ _ c.args.base c.args.top _ _ here) may))
+    (IsGap-unused h.table h.lates (AreGranules-fit here) may))
 
 pub returns-then-not-put_at-clause-claim : goal.returns-then-not-put_at-clause-claim
 returns-then-not-put_at-clause-claim c =
     let same : c.put_at.new.self ≡ c.self.inside.table = c.put_at.ensures.unchanged c.if-not-put_at.true in
     let reason = rw (same, c.self.view_is) at c.in_the_way.ensures in
-    rw (same, c.self.view_is) (IsClaim-refused _ _ _ _ _ reason)
+    rw (same, c.self.view_is) (IsClaim-refused _ (record { is = reason }))
 
 pub overflow_add-self : goal.overflow_add-self
 overflow_add-self c =
     let h = c.self.invariant in
     let run = c.put_at.ensures.gap c.if-not-put_at.false in
-    omega (arith, granules_of_all _ _ _ _ _ _ _ _ h.table h.lates h.live h.due h.late, run.end, h.table.count, (LiesWithin-table _ _ _ h.table).limit)
+    omega (arith, granules_of_all h, run.end, h.table.count, (LiesWithin-table h.table).limit)
 
 pub invariant_of-self-2 : goal.invariant_of-self-2
 invariant_of-self-2 c =
@@ -42,16 +42,14 @@ invariant_of-self-2 c =
     let lengths = put.lengths c.if-not-put_at.false in
     let marks = put.marks c.if-not-put_at.false in
     let run = put.gap c.if-not-put_at.false in
-    let p = c.in-Ok.place.0 in
-    let n = c.in-Ok.place.1 in
     let block : Span = (c.self.inside.base + 16 * c.in-Ok.place.0, 16 * c.in-Ok.place.1) in
     let live = blocks_of is_unmarked c.self.inside.base 0 c.self.inside.table.lengths (either_mark c.self.inside.table.marks (bits_of c.self.inside.late.items)) in
     record {
-      table = rw (lengths, marks) (IsTable-set _ _ _ p n h.table run);
-      lates = rw (lengths, marks) (AreLate-put _ _ _ _ p n h.lates run);
-      live = rw (lengths, marks, live_blocks-put _ _ _ _ _ p n h.table.same h.lates run) (omega (arith, bytes_in-blocks_with block live, h.live));
-      due = rw (lengths, marks, held_blocks-set _ _ _ p n run) h.due;
-      late = rw (lengths, late_blocks-set _ _ _ _ _ p n h.lates run) h.late;
+      table = rw (lengths, marks) (IsTable-set h.table run);
+      lates = rw (lengths, marks) (AreLate-put h.lates run);
+      live = rw (lengths, marks, live_blocks-put _ h.table.same h.lates run) (omega (arith, bytes_in-blocks_with block live, h.live));
+      due = rw (lengths, marks, held_blocks-set _ _ run) h.due;
+      late = rw (lengths, late_blocks-set _ h.lates run) h.late;
     }
 
 pub returns-clause-claim : goal.returns-clause-claim
@@ -60,10 +58,10 @@ returns-clause-claim c =
     let put = c.put_at.ensures in
     let fit = c.in-Ok.ensures.fit in
     let here = rw (← c.self.view_is) at fit in
-    let are = AreGranules-fit _ _ _ _ _ c.args.base c.args.top _ _ here in
+    let are = AreGranules-fit here in
     rw (← c.self.view_is, put.lengths c.if-not-put_at.false, put.marks c.if-not-put_at.false) (
-      IsClaimable-gap _ _ _ _ _ c.args.base c.args.top _ _ h.table are (put.gap c.if-not-put_at.false) fit.could.exact,
-      heap_state-claimed _ _ _ _ _ c.args.base c.args.top _ _ h.table.same h.lates are (put.gap c.if-not-put_at.false),
+      IsClaimable-gap _ h.table are (put.gap c.if-not-put_at.false) fit.could.exact,
+      heap_state-claimed h.table.same h.lates are (put.gap c.if-not-put_at.false),
     )
 
 pub returns-clause-sound : goal.returns-clause-sound
@@ -71,5 +69,4 @@ returns-clause-sound c =
     let h = c.self.invariant in
     let put = c.put_at.ensures in
     let run = put.gap c.if-not-put_at.false in
-    rw (put.lengths c.if-not-put_at.false, put.marks c.if-not-put_at.false)
-    (IsSound-from_table _ _ _ _ _ (IsTable-set _ _ _ _ _ h.table run) (AreLate-put _ _ _ _ _ _ h.lates run))
+    rw (put.lengths c.if-not-put_at.false, put.marks c.if-not-put_at.false) (IsSound-from_table (IsTable-set h.table run) (AreLate-put h.lates run))

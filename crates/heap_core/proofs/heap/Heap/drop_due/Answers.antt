@@ -14,10 +14,10 @@ invariant_of-self c =
     let marks = c.self.inside.table.marks in
     let lates = bits_of c.self.inside.late.items in
     let none = c.requires in
-    let none_are : (k : ℕ) → get_or (bits_of c.self.inside.late.items) k false ≡ false = none_late inside.base lengths marks lates inside.is_open h.lates (rw (← c.self.view_is) at none) in
+    let none_are : (k : ℕ) → get_or (bits_of c.self.inside.late.items) k false ≡ false = none_late inside.base h.lates (rw (← c.self.view_is) at none) in
     record {
-      table = rw (dropped.lengths, dropped.marks) (IsTable-kept _ _ _ h.table);
-      lates = rw (dropped.lengths, dropped.marks) (AreLate-none _ _ lates false (h.lates.same ∙ sym (length-kept_lengths _ lengths marks h.table.same)) none_are);
+      table = rw (dropped.lengths, dropped.marks) (IsTable-kept h.table);
+      lates = rw (dropped.lengths, dropped.marks) (AreLate-none (h.lates.same ∙ sym (length-kept_lengths _ lengths marks h.table.same)) none_are);
       live = rw (dropped.lengths, dropped.marks, either-none_left _ lates h.lates.same, live_blocks-dropped inside.base 0 lengths marks lates h.table.same h.lates.same) h.live;
       due = rw (dropped.lengths, dropped.marks, held_blocks-kept inside.base 0 lengths marks h.table.same) refl;
       late = rw (dropped.lengths, late_blocks-dropped inside.base 0 lengths marks lates h.table.same h.lates.same h.lates.apart) h.late;
@@ -32,5 +32,5 @@ returns c =
     let marks = inside.table.marks in
     let lates = bits_of inside.late.items in
     let none = c.requires in
-    let none_are : (k : ℕ) → get_or (bits_of c.self.inside.late.items) k false ≡ false = none_late inside.base lengths marks lates inside.is_open h.lates (rw (← c.self.view_is) at none) in
+    let none_are : (k : ℕ) → get_or (bits_of c.self.inside.late.items) k false ≡ false = none_late inside.base h.lates (rw (← c.self.view_is) at none) in
     rw (← c.self.view_is, dropped.lengths, dropped.marks) (heap_state-dropped inside.base lengths marks lates inside.is_open h.table.same h.lates.same none_are)

@@ -16,51 +16,34 @@ use Rattle.heap_core.proofs.heap.Heap.end_epoch.Goals as goal
 
 pub make_starts_due-requires-clause-bits : goal.make_starts_due-requires-clause-bits
 make_starts_due-requires-clause-bits c =
-    let inside = c.self.inside in
     let h = c.self.invariant in
-    let dropped = c.free_due.ensures in
-    let lengths = inside.table.lengths in
-    let marks = inside.table.marks in
-    let lates = bits_of inside.late.items in
-    omega (arith, ap length c.deref.ensures.value, ap length dropped.lengths, length-kept_lengths is_unmarked lengths marks h.table.same, h.lates.same, length-bits_of inside.late.items)
+    let now = c.self.inside.table in
+    omega (arith, ap length c.deref.ensures.value, ap length c.free_due.ensures.lengths, length-kept_lengths is_unmarked now.lengths now.marks h.table.same, h.lates.same, length-bits_of c.self.inside.late.items)
 
 pub make_starts_due-requires-clause-limit : goal.make_starts_due-requires-clause-limit
 make_starts_due-requires-clause-limit c =
-    let inside = c.self.inside in
     let h = c.self.invariant in
-    let dropped = c.free_due.ensures in
-    let lengths = inside.table.lengths in
-    let marks = inside.table.marks in
-    let lates = bits_of inside.late.items in
-    omega (arith, ap length dropped.lengths, length-kept_lengths is_unmarked lengths marks h.table.same, h.table.count, (LiesWithin-table _ _ _ h.table).limit)
+    let now = c.self.inside.table in
+    omega (arith, ap length c.free_due.ensures.lengths, length-kept_lengths is_unmarked now.lengths now.marks h.table.same, h.table.count, (LiesWithin-table h.table).limit)
 
 pub make_starts_due-requires-clause-same : goal.make_starts_due-requires-clause-same
 make_starts_due-requires-clause-same c =
-    let inside = c.self.inside in
     let h = c.self.invariant in
-    let dropped = c.free_due.ensures in
-    let lengths = inside.table.lengths in
-    let marks = inside.table.marks in
-    let lates = bits_of inside.late.items in
-    ap length dropped.marks ∙ (length-replicate (length lengths) false ∙ sym (ap length dropped.lengths ∙ length-kept_lengths is_unmarked lengths marks h.table.same))
+    let now = c.self.inside.table in
+    ap length c.free_due.ensures.marks ∙ (length-replicate (length now.lengths) false ∙ sym (ap length c.free_due.ensures.lengths ∙ length-kept_lengths is_unmarked now.lengths now.marks h.table.same))
 
 pub make_starts_due-requires-clause-blocks : goal.make_starts_due-requires-clause-blocks
 make_starts_due-requires-clause-blocks c =
-    let inside = c.self.inside in
     let h = c.self.invariant in
-    let dropped = c.free_due.ensures in
-    let lengths = inside.table.lengths in
-    let marks = inside.table.marks in
-    let lates = bits_of inside.late.items in
     λ k one.
     let row : is_set_for c.self.inside.late.items k ≡ true = ap (λ (xs : List ℕ). is_set_for xs k) (sym c.deref.ensures.value) ∙ one in
-    rw dropped.lengths (late_stays lengths marks inside.late.items inside.is_open h.table.same h.lates k row)
+    rw c.free_due.ensures.lengths (late_stays c.self.inside.late.items h.table.same h.lates k row)
 
 pub make_starts_due-requires-clause-end : goal.make_starts_due-requires-clause-end
-make_starts_due-requires-clause-end c = rw (c.free_due.ensures.lengths) (IsTable-kept _ _ _ c.self.invariant.table).inside
+make_starts_due-requires-clause-end c = rw (c.free_due.ensures.lengths) (IsTable-kept c.self.invariant.table).inside
 
 pub make_starts_due-requires-clause-apart : goal.make_starts_due-requires-clause-apart
-make_starts_due-requires-clause-apart c = rw (c.free_due.ensures.lengths) (IsTable-kept _ _ _ c.self.invariant.table).apart
+make_starts_due-requires-clause-apart c = rw (c.free_due.ensures.lengths) (IsTable-kept c.self.invariant.table).apart
 
 pub invariant_of-self : goal.invariant_of-self
 invariant_of-self c =
@@ -94,8 +77,8 @@ invariant_of-self c =
       long,
     ) in
     record {
-      table = rw (lengths_are, marks_are) (IsTable-marks inside.base kept _ lates (h.lates.same ∙ sym long) (IsTable-kept inside.base lengths marks h.table));
-      lates = rw (lengths_are, marks_are) (AreLate-none kept lates nones false width none);
+      table = rw (lengths_are, marks_are) (IsTable-marks (h.lates.same ∙ sym long) (IsTable-kept h.table));
+      lates = rw (lengths_are, marks_are) (AreLate-none width none);
       live = rw (lengths_are, marks_are, either-none_right lates nones none, live_blocks-dropped inside.base 0 lengths marks lates h.table.same h.lates.same) h.live;
       due = rw (lengths_are, marks_are, late_blocks-dropped inside.base 0 lengths marks lates h.table.same h.lates.same h.lates.apart) h.late;
       late = rw (lengths_are, no_due inside.base 0 kept nones none) refl;
@@ -107,11 +90,7 @@ returns c =
     let h = c.self.invariant in
     let dropped = c.free_due.ensures in
     let lengths = inside.table.lengths in
-    let marks = inside.table.marks in
-    let lates = bits_of inside.late.items in
-    let kept = kept_lengths is_unmarked lengths marks in
     let starts = c.make_starts_due.ensures in
-    let long : length (kept_lengths is_unmarked c.self.inside.table.lengths c.self.inside.table.marks) ≡ length c.self.inside.table.lengths = length-kept_lengths is_unmarked lengths marks h.table.same in
     let lengths_are : c.make_starts_due.new.self.lengths ≡ kept_lengths is_unmarked c.self.inside.table.lengths c.self.inside.table.marks = starts.lengths ∙ dropped.lengths in
     let marks_are : c.make_starts_due.new.self.marks ≡ bits_of c.self.inside.late.items =
     marks_of_bits c.make_starts_due.new.self.marks inside.late.items
@@ -121,5 +100,4 @@ returns c =
     let zeros_are : c.fill.new.self.items ≡ replicate (vec_len c.self.inside.late) 0 = c.fill.ensures.items (λ y e. e) in
     let none : (k : ℕ) → get_or (bits_of c.fill.new.self.items) k false ≡ false = bits_of-none c.fill.new.self.items (λ k. ap (λ (xs : List ℕ). is_set_for xs k) zeros_are ∙ is_set-zeros (vec_len inside.late) k) in
     let opened : c.self.inside.is_open ≡ true = ap (λ (s : HeapState). s.is_open) c.self.view_is ∙ c.requires in
-    rw (← c.self.view_is, lengths_are, marks_are)
-    (heap_state-ended inside.base lengths marks lates nones inside.is_open opened h.table.same h.lates none)
+    rw (← c.self.view_is, lengths_are, marks_are) (heap_state-ended nones opened h.table.same h.lates none)

@@ -1,13 +1,12 @@
 use Rattle.std.proofs.Common.{arith}
-use Rattle.heap_model.specs.Shadow.{bits_of}
 use Rattle.heap_core.proofs.HeapLaws.{granules_of_all, held_bytes-state}
 use Rattle.heap_core.proofs.heap.Heap.free_bytes.Goals as goal
 
 pub overflow_sub-result : goal.overflow_sub-result
-overflow_sub-result c = let h = c.self.invariant in omega (arith, granules_of_all _ _ _ _ _ _ _ _ h.table h.lates h.live h.due h.late)
+overflow_sub-result c = omega (arith, granules_of_all c.self.invariant)
 
 pub overflow_sub-result-2 : goal.overflow_sub-result-2
-overflow_sub-result-2 c = let h = c.self.invariant in omega (arith, granules_of_all _ _ _ _ _ _ _ _ h.table h.lates h.live h.due h.late)
+overflow_sub-result-2 c = omega (arith, granules_of_all c.self.invariant)
 
 pub returns : goal.returns
 returns c =
@@ -15,9 +14,9 @@ returns c =
     let inside = c.self.inside in
     rw (← c.self.view_is) (omega (
       arith,
-      granules_of_all _ _ _ _ _ _ _ _ h.table h.lates h.live h.due h.late,
+      granules_of_all h,
       h.live,
       h.due,
       h.late,
-      held_bytes-state inside.base inside.table.lengths inside.table.marks (bits_of inside.late.items) inside.is_open h.lates,
+      held_bytes-state inside.base h.lates,
     ))

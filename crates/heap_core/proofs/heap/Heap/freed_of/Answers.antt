@@ -8,9 +8,8 @@ live_at-requires-clause-bits c = omega (arith, c.self.invariant.lates.same, leng
 
 pub returns-in-Ok : goal.returns-in-Ok
 returns-in-Ok c =
-    let block = given_up _ _ c.args.base c.args.top _ c.self.invariant c.deref.ensures.value c.in-Ok.ensures.live in
-    rw (← c.self.view_is) (sym (freed_of-given_up _ c.args.base c.args.top _ c.self.invariant block))
+    let block = given_up c.self.invariant c.deref.ensures.value c.in-Ok.ensures.live in
+    rw (← c.self.view_is) (sym (freed_of-given_up c.self.invariant block))
 
 pub returns-in-Err : goal.returns-in-Err
-returns-in-Err c =
-    rw (← c.self.view_is) (sym (freed_of-other _ _ c.args.base c.args.top c.in-Err.freed c.self.invariant c.deref.ensures.value c.in-Err.ensures.other))
+returns-in-Err c = rw (← c.self.view_is) (sym (freed_of-other c.args.base c.args.top c.self.invariant c.deref.ensures.value c.in-Err.ensures.other))

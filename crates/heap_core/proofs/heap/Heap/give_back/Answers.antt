@@ -11,7 +11,7 @@ pub drop_due-requires : goal.drop_due-requires
 drop_due-requires c = rw (← c.self.view_is) (λ is. rw is (omega (arith, c.self.invariant.late, c.if-self-eq0.true)))
 
 pub end_epoch-requires : goal.end_epoch-requires
-end_epoch-requires c = rw (← c.self.view_is) (is_open-late _ _ _ _ _ c.self.inside.late_granules c.self.invariant.lates c.self.invariant.late (λ none. c.if-self-eq0.false none))
+end_epoch-requires c = rw (← c.self.view_is) (is_open-late _ c.self.inside.late_granules c.self.invariant.lates c.self.invariant.late (λ none. c.if-self-eq0.false none))
 
 pub returns-then-self-eq0-clause-bytes : goal.returns-then-self-eq0-clause-bytes
 returns-then-self-eq0-clause-bytes c =
@@ -19,7 +19,7 @@ returns-then-self-eq0-clause-bytes c =
 
 pub returns-then-self-eq0-clause-sound : goal.returns-then-self-eq0-clause-sound
 returns-then-self-eq0-clause-sound c =
-    let sound : IsSound c.args.self.now = rw (← c.self.view_is) (IsSound-from_table _ _ _ _ _ c.self.invariant.table c.self.invariant.lates) in
+    let sound : IsSound c.args.self.now = rw (← c.self.view_is) (IsSound-from_table c.self.invariant.table c.self.invariant.lates) in
     rw c.drop_due.ensures (IsSound-due c.args.self.now sound)
 
 pub returns-else-self-eq0-clause-bytes : goal.returns-else-self-eq0-clause-bytes
@@ -28,10 +28,10 @@ returns-else-self-eq0-clause-bytes c =
 
 pub returns-else-self-eq0-clause-free : goal.returns-else-self-eq0-clause-free
 returns-else-self-eq0-clause-free c =
-    let opened : c.args.self.now.is_open ≡ true = rw (← c.self.view_is) (is_open-late _ _ _ _ _ c.self.inside.late_granules c.self.invariant.lates c.self.invariant.late (λ none. c.if-self-eq0.false none)) in
+    let opened : c.args.self.now.is_open ≡ true = rw (← c.self.view_is) (is_open-late _ c.self.inside.late_granules c.self.invariant.lates c.self.invariant.late (λ none. c.if-self-eq0.false none)) in
     c.end_epoch.ensures ∙ sym (without_due-open c.args.self.now opened)
 
 pub returns-else-self-eq0-clause-sound : goal.returns-else-self-eq0-clause-sound
 returns-else-self-eq0-clause-sound c =
-    let sound : IsSound c.args.self.now = rw (← c.self.view_is) (IsSound-from_table _ _ _ _ _ c.self.invariant.table c.self.invariant.lates) in
+    let sound : IsSound c.args.self.now = rw (← c.self.view_is) (IsSound-from_table c.self.invariant.table c.self.invariant.lates) in
     rw c.end_epoch.ensures (IsSound-ended c.args.self.now sound)

@@ -5,7 +5,7 @@ use Rattle.heap_core.proofs.ClaimLaws.{IsClaim-again, IsClaim-refused, IsClaimab
 use Rattle.heap_core.proofs.heap.Heap.give_back_and_claim.Goals as goal
 
 pub returns-in-Err-clause-claim : goal.returns-in-Err-clause-claim
-returns-in-Err-clause-claim c = IsClaim-refused _ _ _ _ _ (c.in-Err.ensures.reason (without_waiting c.args.self.now) refl refl)
+returns-in-Err-clause-claim c = IsClaim-refused _ (record { is = c.in-Err.ensures.reason (without_waiting c.args.self.now) refl refl })
 
 -- Nothing is in the way, so the claim is not refused.
 pub returns-clause-claim : goal.returns-clause-claim
@@ -13,5 +13,5 @@ returns-clause-claim c =
     let s = c.args.self.now in
     let dropped : c.drop_due.new.self ≡ without_waiting c.args.self.now = c.drop_due.ensures ∙ without_due-closed s c.requires in
     let claim = rw dropped at c.claim.ensures.claim in
-    let may = IsClaimable-dropped s c.args.base c.args.top c.in-Ok.place.0 c.in-Ok.place.1 c.requires c.invariant.ensures c.in-Ok.ensures.fit c.in_default.ensures in
+    let may = IsClaimable-dropped c.requires c.invariant.ensures c.in-Ok.ensures.fit c.in_default.ensures in
     IsClaim-again s (without_waiting s) c.args.base c.args.top c.claim.result c.claim.new.self may claim

@@ -14,6 +14,6 @@ returns-clause-fit c =
         inside = (omega arith, omega arith);
         exact = c.with_bounds-exact.ensures.exact.0 c.if-not-exact.false;
       };
-      at = omega (arith, base_granule _ _ _ h.table);
+      at = omega (arith, base_granule h.table);
       length = omega arith;
     })

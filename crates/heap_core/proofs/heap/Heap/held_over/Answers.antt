@@ -1,5 +1,4 @@
 use Rattle.std.proofs.Common.{◌≤◌, ◌+◌, ◌*◌, length, refl, ap, arith}
-use Rattle.heap_model.specs.Shadow.{bits_of}
 use Rattle.heap_core.proofs.OverLaws.{due_first, due_none}
 use Rattle.heap_model.specs.ShadowLaws.{length-bits_of}
 use Rattle.heap_core.proofs.heap.Heap.held_over.Goals as goal
@@ -14,15 +13,13 @@ returns-in_err-start c =
     let h = c.self.invariant in
     let none = rw c.deref.ensures.value at c.in_err-start.ensures in
     let inside = c.self.inside in
-    rw (← c.self.view_is, c.from_residual.ensures) (due_none inside.base inside.table.lengths inside.table.marks (bits_of inside.late.items) inside.is_open c.args.first (c.args.first + c.args.granules) h.table h.lates
+    rw (← c.self.view_is, c.from_residual.ensures) (due_none c.args.first (c.args.first + c.args.granules) h.table h.lates
     (inside.base + 16 * c.args.first) (inside.base + 16 * (c.args.first + c.args.granules)) refl refl none (omega (arith, c.requires.some)))
 
 pub returns : goal.returns
 returns c =
     let h = c.self.invariant in
-    let inside = c.self.inside in
     let room = c.requires.inside in
     let within : c.args.first + c.args.granules ≤ length c.self.inside.table.lengths = omega (arith, rw (← c.self.view_is) at room) in
     let found = rw c.deref.ensures.value at c.in_ok-start.ensures in
-    rw (← c.self.view_is) (due_first inside.base inside.table.lengths inside.table.marks (bits_of inside.late.items) inside.is_open c.args.first (c.args.first + c.args.granules) c.in_ok-start.start
-    c.block_from.result h.table h.lates within found.0 found.1 c.block_from.ensures.base c.block_from.ensures.top)
+    rw (← c.self.view_is) (due_first (c.args.first + c.args.granules) h.table h.lates within found.0 found.1 c.block_from.ensures.base c.block_from.ensures.top)

@@ -9,15 +9,13 @@ use Rattle.heap_core.proofs.heap.Heap.is_due.Goals as goal
 
 pub returns-then-address-self : goal.returns-then-address-self
 returns-then-address-self c =
-    let h = c.self.inside in
-    let sound : IsSound c.args.self.now = rw (← c.self.view_is) (IsSound-from_table _ _ _ _ _ c.self.invariant.table c.self.invariant.lates) in
+    let sound : IsSound c.args.self.now = rw (← c.self.view_is) (IsSound-from_table c.self.invariant.table c.self.invariant.lates) in
     let below : c.args.address < c.args.self.now.base = rw (← c.self.view_is) (omega (arith, c.if-address-self.true)) in
     sym (lies_in-outside c.args.self.now c.args.address sound (inl below))
 
 pub returns-then-granule-granules : goal.returns-then-granule-granules
 returns-then-granule-granules c =
-    let h = c.self.inside in
-    let sound : IsSound c.args.self.now = rw (← c.self.view_is) (IsSound-from_table _ _ _ _ _ c.self.invariant.table c.self.invariant.lates) in
+    let sound : IsSound c.args.self.now = rw (← c.self.view_is) (IsSound-from_table c.self.invariant.table c.self.invariant.lates) in
     let above : c.args.self.now.base + c.args.self.now.size ≤ c.args.address = rw (← c.self.view_is) (omega (arith, c.if-address-self.false, c.if-granule-granules.true, c.granules.ensures)) in
     sym (lies_in-outside c.args.self.now c.args.address sound (inr above))
 

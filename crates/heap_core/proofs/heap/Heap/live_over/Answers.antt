@@ -25,5 +25,4 @@ returns c =
     let room = c.requires.inside in
     let within : c.args.first + c.args.granules ≤ length c.self.inside.table.lengths = omega (arith, rw (← c.self.view_is) at room) in
     let found = rw c.deref.ensures.value at c.in_ok-start.ensures in
-    rw (← c.self.view_is) (live_first inside.base inside.table.lengths inside.table.marks (bits_of inside.late.items) inside.is_open c.args.first (c.args.first + c.args.granules) c.in_ok-start.start
-    c.block_from.result h.table within found.0 found.1 c.block_from.ensures.base c.block_from.ensures.top)
+    rw (← c.self.view_is) (live_first (bits_of inside.late.items) (c.args.first + c.args.granules) h.table within found.0 found.1 c.block_from.ensures.base c.block_from.ensures.top)

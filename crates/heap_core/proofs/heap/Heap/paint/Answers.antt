@@ -23,5 +23,4 @@ returns c =
     let last : c.args.last ≤ marked_count h.table.marks = omega (arith, rw (← c.self.view_is, due-heap_state) at blocks, length-blocks h.base 0 h.table.lengths h.table.marks table.same some) in
     let from = c.due_start-from.ensures.start (omega (arith, last, c.requires.order)) in
     let to = c.due_start-to.ensures.start last in
-    rw (← c.self.view_is) (painted-by _ _ c.args.board.now c.args.seat.now c.paint_due.new.seat
-    (in_due h.base h.table.lengths h.table.marks _ _ c.args.first c.args.last c.due_start-from.result c.due_start-to.result table some c.requires.order from to) c.paint_due.ensures)
+    rw (← c.self.view_is) (painted-by _ _ c.args.board.now c.args.seat.now c.paint_due.new.seat (in_due _ _ table some c.requires.order from to) c.paint_due.ensures)

@@ -1,4 +1,4 @@
-use Rattle.std.proofs.Common.{◌≡◌, ◌∙◌, ◌+◌, ◌||◌, ℕ, List, ap, length}
+use Rattle.std.proofs.Common.{◌∙◌, ◌+◌, ◌||◌, ℕ, List, ap, length}
 use Rattle.std.proofs.lemmas.List.{with_items_is}
 use Rattle.granule_rows.specs.Runs.{is_within}
 use Rattle.heap_model.specs.Shadow.{bits_of}

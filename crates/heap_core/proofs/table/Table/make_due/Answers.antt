@@ -22,9 +22,9 @@ invariant_of-self c =
     let long = c.length_at-granules.ensures in
     let granules = rw (← c.self.view_is) at long in
     let due = c.make_due.ensures in
-    AreStored-hold c.self.inside c.self.invariant c.make_due.new.self c.args.granule (rw (← c.self.view_is) at inside) (rw (← c.self.view_is) at block) (rw (← c.self.view_is) at apart)
+    AreStored-hold c.self.invariant c.make_due.new.self c.args.granule (rw (← c.self.view_is) at inside) (rw (← c.self.view_is) at block) (rw (← c.self.view_is) at apart)
     due.starts (λ k. due.due k ∙ ap (λ n. is_within c.args.granule (c.args.granule + n) k || is_set_for c.self.inside.rows.due.items k) granules)
-    (rw (← c.self.view_is) at live) _ refl refl due.rows due.count due.free
+    (rw (← c.self.view_is) at live) refl refl due.rows due.count due.free
 
 pub returns-clause-marks : goal.returns-clause-marks
 returns-clause-marks c =
@@ -35,5 +35,5 @@ returns-clause-marks c =
     let long = c.length_at-granules.ensures in
     let granules = rw (← c.self.view_is) at long in
     let due = c.make_due.ensures in
-    rw (← c.self.view_is) (marks_hold c.self.inside c.self.invariant c.make_due.new.self c.args.granule (rw (← c.self.view_is) at inside) (rw (← c.self.view_is) at block) (rw (← c.self.view_is) at apart)
+    rw (← c.self.view_is) (marks_hold c.self.invariant c.make_due.new.self c.args.granule (rw (← c.self.view_is) at inside) (rw (← c.self.view_is) at block) (rw (← c.self.view_is) at apart)
     due.starts (λ k. due.due k ∙ ap (λ n. is_within c.args.granule (c.args.granule + n) k || is_set_for c.self.inside.rows.due.items k) granules))
