@@ -56,7 +56,7 @@ unfolding bounds_of
 IsBounds-bounds_of f =
     let small : base_place f % 2 ^ 64 < 2 ^ 64 = omega arith in
     let size = window_size-pos f in
-    IsBounds-counted f (base_place f % 2 ^ 64) (top_from (exponent_of f) (base_place f % 2 ^ 64) (top_place f % 2 ^ 65)) (record {
+    IsBounds-counted (record {
       low = window_start f;
       b = base_place f;
       t = top_place f;
@@ -70,30 +70,28 @@ IsBounds-bounds_of f =
 -- ---- nothing else meets it
 
 -- Two integers of one window that are congruent to one number are equal.
-one_of_window : (low : ℤ) (size : ℕ) (x m n : ℤ) → IsWithin low size m → IsWithin low size n → IsCongruent size m x → IsCongruent size n x → m ≡ n
-one_of_window low size x m n p q c d =
-    near_integers size m n (IsCongruent-trans size m x n c (IsCongruent-sym d)) (omega (arith, ints)) (omega (arith, ints))
+one_of_window : {low : ℤ} {size : ℕ} {x m n : ℤ} → IsWithin low size m → IsWithin low size n → IsCongruent size m x → IsCongruent size n x → m ≡ n
+one_of_window {n} p q c d = near_integers (IsCongruent-trans c (IsCongruent-sym d)) (omega (arith, ints)) (omega (arith, ints))
 
-pub IsWindow-unique : (f : Fields) (m n : ℤ) → IsWindow f m → IsWindow f n → m ≡ n
-IsWindow-unique f m n p q =
+pub IsWindow-unique : {f : Fields} {m n : ℤ} → IsWindow f m → IsWindow f n → m ≡ n
+IsWindow-unique {f} {m} {n} p q =
     let size = window_size f in
-    let c : IsCongruent (window_size f) m n = IsCongruent-trans (window_size f) m (pos (window_mark f)) n p.start (IsCongruent-sym q.start) in
-    near_integers (window_size f) m n c (omega (arith, ints)) (omega (arith, ints))
+    let c : IsCongruent (window_size f) m n = IsCongruent-trans p.start (IsCongruent-sym q.start) in
+    near_integers c (omega (arith, ints)) (omega (arith, ints))
 
-pub IsPlaceOf-unique : (f : Fields) (low : ℤ) (mantissa : ℕ) (m n : ℤ) → IsPlaceOf f low mantissa m → IsPlaceOf f low mantissa n → m ≡ n
-IsPlaceOf-unique f low mantissa m n p q =
-    one_of_window low (window_size f) (pos (mantissa * 2 ^ exponent_of f)) m n p.within q.within p.congruent q.congruent
+pub IsPlaceOf-unique : {f : Fields} {low : ℤ} {mantissa : ℕ} {m n : ℤ} → IsPlaceOf f low mantissa m → IsPlaceOf f low mantissa n → m ≡ n
+IsPlaceOf-unique p q = one_of_window p.within q.within p.congruent q.congruent
 
 -- Two numbers below m that are congruent to one integer are equal.
-below_unique : (m : ℕ) (x : ℤ) (a b : ℕ) → a < m → b < m → IsCongruent m (pos a) x → IsCongruent m (pos b) x → a ≡ b
-below_unique m x a b p q c d =
-    let e : pos a ≡ pos b = near_integers m (pos a) (pos b) (IsCongruent-trans m (pos a) x (pos b) c (IsCongruent-sym d)) (omega (arith, ints)) (omega (arith, ints)) in
+below_unique : {m : ℕ} {x : ℤ} {a b : ℕ} → a < m → b < m → IsCongruent m (pos a) x → IsCongruent m (pos b) x → a ≡ b
+below_unique {a} {b} p q c d =
+    let e : pos a ≡ pos b = near_integers (IsCongruent-trans c (IsCongruent-sym d)) (omega (arith, ints)) (omega (arith, ints)) in
     cc
 
 -- Numbers that are congruent to one integer have one remainder.
-remainder_unique : (m : ℕ) (x : ℤ) (a b : ℕ) → IsCongruent m (pos a) x → IsCongruent m (pos b) x → a % m ≡ b % m
-remainder_unique m x a b c d =
-    let k = IsCongruent-trans m (pos a) x (pos b) c (IsCongruent-sym d) in
+remainder_unique : {m : ℕ} {x : ℤ} {a b : ℕ} → IsCongruent m (pos a) x → IsCongruent m (pos b) x → a % m ≡ b % m
+remainder_unique {m} {a} {b} c d =
+    let k = IsCongruent-trans c (IsCongruent-sym d) in
     let e : a + m * k.i ≡ b + m * k.j = omega (arith, ints, k.same) in
     sym (add-mul-mod_self_left a m k.i) ∙ (ap (λ n. n % m) e ∙ add-mul-mod_self_left b m k.j)
 
@@ -102,25 +100,25 @@ pub near_unique : (base m n : ℕ) → base < 2 ^ 64 → m < 2 ^ 65 → n < 2 ^ 
     → (m / 2 ^ 63 + 4 - base / 2 ^ 63) % 4 ≤ 1 → (n / 2 ^ 63 + 4 - base / 2 ^ 63) % 4 ≤ 1 → m ≡ n
 near_unique base m n h p q e near_m near_n = omega arith
 
-IsTop-unique : (e base : ℕ) (t : ℤ) (m n : ℕ) → base < 2 ^ 64 → IsTop e base t m → IsTop e base t n → m ≡ n
-IsTop-unique e base t m n h p q =
+IsTop-unique : {e base : ℕ} {t : ℤ} {m n : ℕ} → base < 2 ^ 64 → IsTop e base t m → IsTop e base t n → m ≡ n
+IsTop-unique {e} {base} {m} {n} h p q =
     elim (cases_lt e 51) [
-      | inl small ↦ near_unique base m n h p.fits q.fits (remainder_unique (2 ^ 64) t m n p.congruent q.congruent) (p.small small) (q.small small)
-      | inr large ↦ below_unique (2 ^ 65) t m n p.fits q.fits (p.large large) (q.large large)
+      | inl small ↦ near_unique base m n h p.fits q.fits (remainder_unique p.congruent q.congruent) (p.small small) (q.small small)
+      | inr large ↦ below_unique p.fits q.fits (p.large large) (q.large large)
     ]
 
 -- The relation holds of one base and one top.
-pub IsBounds-unique : (f : Fields) (base top base' top' : ℕ) → IsBounds f base top → IsBounds f base' top' → (base ≡ base') × (top ≡ top')
-IsBounds-unique f base top base' top' p q =
-    let low : p.low ≡ q.low = IsWindow-unique f p.low q.low p.window q.window in
+pub IsBounds-unique : {f : Fields} {base top base' top' : ℕ} → IsBounds f base top → IsBounds f base' top' → (base ≡ base') × (top ≡ top')
+IsBounds-unique {f} {base} {top} {base'} {top'} p q =
+    let low : p.low ≡ q.low = IsWindow-unique p.window q.window in
     let b_moved : IsPlaceOf f p.low (base_mantissa f) q.b = rw low q.b_place in
     let t_moved : IsPlaceOf f p.low (top_mantissa f) q.t = rw low q.t_place in
-    let b : p.b ≡ q.b = IsPlaceOf-unique f p.low (base_mantissa f) p.b q.b p.b_place b_moved in
-    let t : p.t ≡ q.t = IsPlaceOf-unique f p.low (top_mantissa f) p.t q.t p.t_place t_moved in
+    let b : p.b ≡ q.b = IsPlaceOf-unique p.b_place b_moved in
+    let t : p.t ≡ q.t = IsPlaceOf-unique p.t_place t_moved in
     let base_moved : IsBase p.b base' = rw b q.base_is in
-    let base_same : base ≡ base' = below_unique (2 ^ 64) p.b base base' p.base_is.fits base_moved.fits p.base_is.congruent base_moved.congruent in
+    let base_same : base ≡ base' = below_unique p.base_is.fits base_moved.fits p.base_is.congruent base_moved.congruent in
     let top_moved : IsTop (exponent_of f) base p.t top' = rw (base_same, t) q.top_is in
-    (base_same, IsTop-unique (exponent_of f) base p.t top top' p.base_is.fits p.top_is top_moved)
+    (base_same, IsTop-unique p.base_is.fits p.top_is top_moved)
 
 -- Bounds are known by base and top.
 pub same_bounds : (p q : Bounds) → p.base ≡ q.base → p.top ≡ q.top → p ≡ q
@@ -143,10 +141,10 @@ same_ends p q =
     (forth, back)
 
 -- The function, part by part, with each part under a name of its own.
-pub bounds_of-parts : (f : Fields) (e unit size mark low b t top : ℕ) → e ≡ exponent_of f → unit ≡ 2 ^ exponent_of f → size ≡ window_size f → mark ≡ window_mark f
+pub bounds_of-parts : (f : Fields) {e unit size mark low b t top : ℕ} → e ≡ exponent_of f → unit ≡ 2 ^ exponent_of f → size ≡ window_size f → mark ≡ window_mark f
     → low ≡ place_in (origin + f.address + 1 - size) size mark
     → b ≡ place_in low size (base_mantissa f * unit) → t ≡ place_in low size (top_mantissa f * unit)
     → top ≡ top_from e (b % 2 ^ 64) (t % 2 ^ 65)
     → (let r : Bounds = record { base = b % 2 ^ 64; top = top } in r) ≡ bounds_of f
 unfolding bounds_of
-bounds_of-parts f e unit size mark low b t top ee ue se me le be te pe = cc
+bounds_of-parts f ee ue se me le be te pe = cc

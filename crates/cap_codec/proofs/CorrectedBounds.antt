@@ -31,10 +31,10 @@ moved a x (negsuc n) h e =
     record { p = 0; q = suc n; i = (a + (2 ^ 64 - suc n)) / 2 ^ 64; j = 1; z_is = omega (arith, ints); same = omega arith }
 
 -- r is a mantissa n at its exponent below x, modulo 2 ^ 64.
-pub place_with-congruent : (a e n x r : ℕ) (z : ℤ) → pos 0 ≤ℤ (z +ℤ pos (2 ^ 64)) → x ≡ (a / 2 ^ e / 2 ^ 14 + cast_unsigned w64 z) % 2 ^ 64
+pub place_with-congruent : (a e n : ℕ) {x r : ℕ} (z : ℤ) → pos 0 ≤ℤ (z +ℤ pos (2 ^ 64)) → x ≡ (a / 2 ^ e / 2 ^ 14 + cast_unsigned w64 z) % 2 ^ 64
     → r ≡ (x * 2 ^ 14 % 2 ^ 64 + n) * 2 ^ e % 2 ^ 64
     → IsCongruent (2 ^ 64) (pos r) ((pos (a / 2 ^ (e + 14)) +ℤ z) *ℤ pos (2 ^ (e + 14)) +ℤ pos (n * 2 ^ e))
-place_with-congruent a e n x r z h x_is r_is =
+place_with-congruent a e n {x} {r} z h x_is r_is =
     let u = 2 ^ e in
     let own = a / u / 2 ^ 14 in
     let w = moved own x z h x_is in
@@ -82,26 +82,26 @@ multiple_congruent m k n x =
     record { i = d.1 * k; j = d.0 * k; same = omega (arith, ints, product) }
 
 -- Numbers that are congruent to one integer have one remainder.
-remainders : (m : ℕ) (x y : ℕ) → IsCongruent m (pos x) (pos y) → x % m ≡ y % m
-remainders m x y c =
+remainders : {m : ℕ} {x y : ℕ} → IsCongruent m (pos x) (pos y) → x % m ≡ y % m
+remainders {m} {x} {y} c =
     let e : x + m * c.i ≡ y + m * c.j = omega (arith, ints, c.same) in
     sym (add-mul-mod_self_left x m c.i) ∙ (ap (λ n. n % m) e ∙ add-mul-mod_self_left y m c.j)
 
 -- Where a window is a multiple of 2 ^ 65, the top is what the mantissa says modulo 2 ^ 65.
-large-top : (k n low bit : ℕ) (x : ℤ) → low < 2 ^ 64 → bit ≡ n / 2 ^ 64 % 2 → IsCongruent (2 ^ 64) (pos low) (x *ℤ pos (k * 2 ^ 65) +ℤ pos n)
+large-top : (k n : ℕ) {low bit : ℕ} (x : ℤ) → low < 2 ^ 64 → bit ≡ n / 2 ^ 64 % 2 → IsCongruent (2 ^ 64) (pos low) (x *ℤ pos (k * 2 ^ 65) +ℤ pos n)
     → IsCongruent (2 ^ 65) (pos (bit * 2 ^ 64 + low)) (x *ℤ pos (k * 2 ^ 65) +ℤ pos n)
-large-top k n low bit x small is c =
+large-top k n {low} {bit} x small is c =
     let here : x *ℤ pos (2 * k * 2 ^ 64) +ℤ pos n ≡ x *ℤ pos (k * 2 ^ 65) +ℤ pos n =
     let s : 2 * k * 2 ^ 64 ≡ k * 2 ^ 65 = omega arith in ap (λ y. x *ℤ pos y +ℤ pos n) s in
     let lower : IsCongruent (2 ^ 64) (pos low) (pos n) =
-    IsCongruent-trans (2 ^ 64) (pos low) (x *ℤ pos (2 * k * 2 ^ 64) +ℤ pos n) (pos n) (rw here c) (multiple_congruent (2 ^ 64) (2 * k) n x) in
-    let alike : low % 2 ^ 64 ≡ n % 2 ^ 64 = remainders (2 ^ 64) low n lower in
+    IsCongruent-trans (rw here c) (multiple_congruent (2 ^ 64) (2 * k) n x) in
+    let alike : low % 2 ^ 64 ≡ n % 2 ^ 64 = remainders lower in
     let whole : IsCongruent (2 ^ 65) (pos (bit * 2 ^ 64 + low)) (pos n) = record { i = n / 2 ^ 65; j = 0; same = omega (arith, ints) } in
-    IsCongruent-trans (2 ^ 65) (pos (bit * 2 ^ 64 + low)) (pos n) (x *ℤ pos (k * 2 ^ 65) +ℤ pos n) whole (IsCongruent-sym (multiple_congruent (2 ^ 65) k n x))
+    IsCongruent-trans whole (IsCongruent-sym (multiple_congruent (2 ^ 65) k n x))
 
-IsTop-large : (f : Fields) (z : ℤ) (low bit : ℕ) → low < 2 ^ 64 → 51 ≤ exponent_of f → bit ≡ top_mantissa f / 2 ^ (64 - exponent_of f) % 2
+IsTop-large : (f : Fields) (z : ℤ) {low bit : ℕ} → low < 2 ^ 64 → 51 ≤ exponent_of f → bit ≡ top_mantissa f / 2 ^ (64 - exponent_of f) % 2
     → IsCongruent (2 ^ 64) (pos low) (place_with f z (top_mantissa f)) → IsCongruent (2 ^ 65) (pos (bit * 2 ^ 64 + low)) (place_with f z (top_mantissa f))
-IsTop-large f z low bit small large is c =
+IsTop-large f z {bit} small large is c =
     let e = exponent_of f in
     let k = 2 ^ (e - 51) in
     let le = exponent_of-le f in
@@ -111,24 +111,24 @@ IsTop-large f z low bit small large is c =
     ap (λ n. top_mantissa f * 2 ^ e / n) whole ∙ mul-div-mul_right (top_mantissa f) (2 ^ (64 - e)) (pow_pos e) in
     let x = pos (f.address / window_size f) +ℤ z in
     let same : place_with f z (top_mantissa f) ≡ x *ℤ pos (k * 2 ^ 65) +ℤ pos (top_mantissa f * 2 ^ e) = ap (λ m. x *ℤ pos m +ℤ pos (top_mantissa f * 2 ^ e)) size in
-    rw same (large-top k (top_mantissa f * 2 ^ e) low bit x small (is ∙ ap (λ n. n % 2) (sym bit_is)) (rw same at c))
+    rw same (large-top k (top_mantissa f * 2 ^ e) x small (is ∙ ap (λ n. n % 2) (sym bit_is)) (rw same at c))
 
 -- ---- the bounds
 
 -- Base and top that are congruent to what the corrections say are the word's bounds.
-IsBounds-corrected : (f : Fields) (first second : ℤ) (base low bit : ℕ) → AreCorrections f first second → base < 2 ^ 64 → low < 2 ^ 64 → bit ≤ 1
+IsBounds-corrected : {f : Fields} {first second : ℤ} {base low bit : ℕ} → AreCorrections f first second → base < 2 ^ 64 → low < 2 ^ 64 → bit ≤ 1
     → IsCongruent (2 ^ 64) (pos base) (place_with f first (base_mantissa f)) → IsCongruent (2 ^ 64) (pos low) (place_with f second (top_mantissa f))
     → (exponent_of f < 51 → (2 * bit + low / 2 ^ 63 + 4 - base / 2 ^ 63) % 4 ≤ 1)
     → (51 ≤ exponent_of f → bit ≡ top_mantissa f / 2 ^ (64 - exponent_of f) % 2)
     → IsBounds f base (bit * 2 ^ 64 + low)
-IsBounds-corrected f first second base low bit p small_base small_low small_bit base_is low_is small large =
+IsBounds-corrected {f} {second} {base} {low} {bit} p small_base small_low small_bit base_is low_is small large =
     let top = bit * 2 ^ 64 + low in
     let t = place_with f second (top_mantissa f) in
     let lower : IsCongruent (2 ^ 64) (pos top) t = record { i = low_is.i; j = low_is.j + bit; same = omega (arith, ints, low_is.same) } in
     let top_is : IsTop (exponent_of f) base t top = record {
       fits = omega arith;
       congruent = lower;
-      large = λ l. IsTop-large f second low bit small_low l (large l) low_is;
+      large = λ l. IsTop-large f second small_low l (large l) low_is;
       small = λ s. let h = small s in omega arith;
     } in
     record {
@@ -143,18 +143,18 @@ IsBounds-corrected f first second base low bit p small_base small_low small_bit 
     }
 
 -- Bounds that meet the relation are those that the function gives.
-pub bounds_of-unique : (f : Fields) (r : Bounds) → IsBounds f r.base r.top → r ≡ bounds_of f
-bounds_of-unique f r h =
-    let u = IsBounds-unique f r.base r.top (bounds_of f).base (bounds_of f).top h (IsBounds-bounds_of f) in
+pub bounds_of-unique : {f : Fields} {r : Bounds} → IsBounds f r.base r.top → r ≡ bounds_of f
+bounds_of-unique {f} {r} h =
+    let u = IsBounds-unique h (IsBounds-bounds_of f) in
     same_bounds r (bounds_of f) u.0 u.1
 
 -- The same with each part under a name of its own.
-pub IsBounds-parts : (f : Fields) (first second : ℤ) (e m n base low bit top : ℕ) → e ≡ exponent_of f → m ≡ base_mantissa f → n ≡ top_mantissa f
-    → top ≡ bit * 2 ^ 64 + low → AreCorrections f first second → base < 2 ^ 64 → low < 2 ^ 64 → bit ≤ 1
+pub IsBounds-parts : {f : Fields} {first second : ℤ} {e m n base low bit top : ℕ} → e ≡ exponent_of f → m ≡ base_mantissa f → n ≡ top_mantissa f
+    → AreCorrections f first second
     → IsCongruent (2 ^ 64) (pos base) ((pos (f.address / 2 ^ (e + 14)) +ℤ first) *ℤ pos (2 ^ (e + 14)) +ℤ pos (m * 2 ^ e))
     → IsCongruent (2 ^ 64) (pos low) ((pos (f.address / 2 ^ (e + 14)) +ℤ second) *ℤ pos (2 ^ (e + 14)) +ℤ pos (n * 2 ^ e))
-    → (e < 51 → (2 * bit + low / 2 ^ 63 + 4 - base / 2 ^ 63) % 4 ≤ 1) → (51 ≤ e → bit ≡ n / 2 ^ (64 - e) % 2)
-    → IsBounds f base top
-IsBounds-parts f first second e m n base low bit top e_is m_is n_is top_is p small_base small_low small_bit base_is low_is small large =
-    rw top_is (IsBounds-corrected f first second base low bit p small_base small_low small_bit
+    → bit ≤ 1 → (e < 51 → (2 * bit + low / 2 ^ 63 + 4 - base / 2 ^ 63) % 4 ≤ 1) → (51 ≤ e → bit ≡ n / 2 ^ (64 - e) % 2)
+    → base < 2 ^ 64 → low < 2 ^ 64 → top ≡ bit * 2 ^ 64 + low → IsBounds f base top
+IsBounds-parts e_is m_is n_is p base_is low_is small_bit small large small_base small_low top_is =
+    rw top_is (IsBounds-corrected p small_base small_low small_bit
     (rw (e_is, m_is) at base_is) (rw (e_is, n_is) at low_is) (rw e_is at small) (rw (e_is, n_is) at large))

@@ -17,11 +17,11 @@ use Rattle.cap_codec.proofs.IntegerCorrections.{start_eighth, window_start-corre
 use Rattle.cap_codec.proofs.WindowLaws.{in_window, near_start, window_offset}
 
 -- low is the window's start modulo 2 ^ 64, each part under a name of its own.
-pub start-congruent : (f : Fields) (e s n y low : ℕ) (z : ℤ) → e ≡ exponent_of f → s ≡ start_eighth f → n ≡ s * 2 ^ 11
+pub start-congruent : (f : Fields) {e s n y low : ℕ} {z : ℤ} → e ≡ exponent_of f → s ≡ start_eighth f → n ≡ s * 2 ^ 11
     → y ≡ f.address / 2 ^ (e + 11) % 8 → z ≡ pos 0 -ℤ pos (bit_of (nat_lt y s))
     → IsCongruent (2 ^ 64) (pos low) ((pos (f.address / 2 ^ (e + 14)) +ℤ z) *ℤ pos (2 ^ (e + 14)) +ℤ pos (n * 2 ^ e))
     → IsCongruent (2 ^ 64) (pos low) (pos (window_start f) -ℤ pos origin)
-start-congruent f e s n y low z e_is s_is n_is y_is z_is c =
+start-congruent f {e} {s} {n} {y} {low} {z} e_is s_is n_is y_is z_is c =
     let here : nat_lt y s ≡ nat_lt (f.address / 2 ^ (exponent_of f + 11) % 8) (start_eighth f) =
     ap (λ x. nat_lt x s) (y_is ∙ ap (λ x. f.address / 2 ^ (x + 11) % 8) e_is) ∙ ap (λ x. nat_lt (f.address / 2 ^ (exponent_of f + 11) % 8) x) s_is in
     let start = window_start-corrected f (nat_lt y s) here in

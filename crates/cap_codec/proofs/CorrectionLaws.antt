@@ -66,7 +66,7 @@ start-is f h b =
     let right : (k * v + 2 ^ (e + 14) * (o + q)) % 2 ^ (e + 14) ≡ k * v % 2 ^ (e + 14) = add-mul-mod_self_left (k * v) (2 ^ (e + 14)) (o + q) in
     let congruent : n % 2 ^ (e + 14) ≡ k * v % 2 ^ (e + 14) = cc in
     let window : IsWindowAt f n = record { holds = omega (arith, p.2, oe'); ends = omega (arith, p.3, oe', m_v); congruent = congruent } in
-    let same : window_start f ≡ n = IsWindowAt-unique f (window_start f) n (IsWindowAt-window_start f) window in
+    let same : window_start f ≡ n = IsWindowAt-unique (IsWindowAt-window_start f) window in
     ap (λ x. x + h * 2 ^ (e + 14)) same ∙ sum
 
 -- A number c below a window, from a start at the eighth k: in the window of the mark itself, or one window on.

@@ -17,8 +17,8 @@ pub record IsWindowAt (f : Fields) (low : ℕ) : Type 0 where
   pub congruent : low % window_size f ≡ window_mark f % window_size f
 
 -- No two windows of a word hold its address.
-pub IsWindowAt-unique : (f : Fields) (m n : ℕ) → IsWindowAt f m → IsWindowAt f n → m ≡ n
-IsWindowAt-unique f m n p q = near_congruent (window_size f) m n (p.congruent ∙ sym q.congruent) (omega arith) (omega arith)
+pub IsWindowAt-unique : {f : Fields} {m n : ℕ} → IsWindowAt f m → IsWindowAt f n → m ≡ n
+IsWindowAt-unique {f} {m} {n} p q = near_congruent (window_size f) m n (p.congruent ∙ sym q.congruent) (omega arith) (omega arith)
 
 pub record IsPlaceAt (low size x n : ℕ) : Type 0 where
   pub from : low ≤ n
@@ -47,16 +47,16 @@ congruent_at f n x e =
     let P : ℕ → Type 0 = λ o. IsCongruent (window_size f) (pos n -ℤ pos o) (pos x) in
     subst P (sym (origin_is_multiple f)) (IsCongruent-sym (congruent_shifted (window_size f) (2 ^ (52 - exponent_of f)) x n (sym e)))
 
-pub IsWindow-counted : (f : Fields) (low : ℕ) → IsWindowAt f low → IsWindow f (pos low -ℤ pos origin)
-IsWindow-counted f low w =
+pub IsWindow-counted : {f : Fields} {low : ℕ} → IsWindowAt f low → IsWindow f (pos low -ℤ pos origin)
+IsWindow-counted {f} {low} w =
     record {
       holds = record { from = omega (arith, ints, w.holds); before = omega (arith, ints, w.ends) };
       start = congruent_at f low (window_mark f) w.congruent;
     }
 
-pub IsPlaceOf-counted : (f : Fields) (low mantissa n : ℕ) → IsPlaceAt low (window_size f) (mantissa * 2 ^ exponent_of f) n
+pub IsPlaceOf-counted : {f : Fields} {low mantissa n : ℕ} → IsPlaceAt low (window_size f) (mantissa * 2 ^ exponent_of f) n
     → IsPlaceOf f (pos low -ℤ pos origin) mantissa (pos n -ℤ pos origin)
-IsPlaceOf-counted f low mantissa n p =
+IsPlaceOf-counted {f} {mantissa} {n} p =
     record {
       within = record { from = omega (arith, ints, p.from); before = omega (arith, ints, p.before) };
       congruent = congruent_at f n (mantissa * 2 ^ exponent_of f) p.congruent;
@@ -65,8 +65,8 @@ IsPlaceOf-counted f low mantissa n p =
 IsBase-counted : (b base : ℕ) → base ≡ b % 2 ^ 64 → IsBase (pos b -ℤ pos origin) base
 IsBase-counted b base e = record { fits = omega arith; congruent = congruent_shifted (2 ^ 64) 4 base b (omega arith) }
 
-IsTop-counted : (e base t top : ℕ) → IsTopAt e base t top → IsTop e base (pos t -ℤ pos origin) top
-IsTop-counted e base t top p =
+IsTop-counted : {e base t top : ℕ} → IsTopAt e base t top → IsTop e base (pos t -ℤ pos origin) top
+IsTop-counted {t} {top} p =
     record {
       fits = p.fits;
       congruent = congruent_shifted (2 ^ 64) 4 top t p.congruent;
@@ -75,14 +75,14 @@ IsTop-counted e base t top p =
     }
 
 -- Bounds that meet the relation counted from the origin meet it in integers.
-pub IsBounds-counted : (f : Fields) (base top : ℕ) → IsBoundsAt f base top → IsBounds f base top
-IsBounds-counted f base top p = record {
+pub IsBounds-counted : {f : Fields} {base top : ℕ} → IsBoundsAt f base top → IsBounds f base top
+IsBounds-counted {base} {top} p = record {
   low = pos p.low -ℤ pos origin;
   b = pos p.b -ℤ pos origin;
   t = pos p.t -ℤ pos origin;
-  window = IsWindow-counted f p.low p.window;
-  b_place = IsPlaceOf-counted f p.low (base_mantissa f) p.b p.b_place;
-  t_place = IsPlaceOf-counted f p.low (top_mantissa f) p.t p.t_place;
+  window = IsWindow-counted p.window;
+  b_place = IsPlaceOf-counted p.b_place;
+  t_place = IsPlaceOf-counted p.t_place;
   base_is = IsBase-counted p.b base p.base_is;
-  top_is = IsTop-counted (exponent_of f) base p.t top p.top_is;
+  top_is = IsTop-counted p.top_is;
 }

@@ -235,6 +235,6 @@ IsBoundsAt-with_bounds_of f base top order room small =
 pub bounds_of-with_bounds_of : (f : Fields) (base top : ℕ) → base ≤ top → top ≤ 2 ^ 64 → base < 2 ^ 64 → bounds_of (with_bounds_of f base top) ≡ outward_bounds base top
 bounds_of-with_bounds_of f base top order room small =
     let g = with_bounds_of f base top in
-    let meets = IsBounds-counted g (outward_base base top) (outward_top base top) (IsBoundsAt-with_bounds_of f base top order room small) in
-    let u = IsBounds-unique g (bounds_of g).base (bounds_of g).top (outward_base base top) (outward_top base top) (IsBounds-bounds_of g) meets in
+    let meets = IsBounds-counted (IsBoundsAt-with_bounds_of f base top order room small) in
+    let u = IsBounds-unique (IsBounds-bounds_of g) meets in
     same_bounds (bounds_of g) (outward_bounds base top) u.0 u.1

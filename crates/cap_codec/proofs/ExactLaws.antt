@@ -63,9 +63,9 @@ top-is : (base top b y : ℕ) → base ≡ b % 2 ^ 64 → base ≤ top → top �
     → (top / 2 ^ 63 + 4 - base / 2 ^ 63) % 4 ≤ 1 → top ≡ base + y
 top-is base top b y is order room same small near = omega arith
 
-length-is : (e base top b t : ℕ) → e < 51 → IsTopAt e base (t * 2 ^ e) top → base ≡ (b * 2 ^ e) % 2 ^ 64 → base ≤ top → top ≤ 2 ^ 64 → b ≤ t → t < b + 2 ^ 13
+length-is : {e base top : ℕ} (b t : ℕ) → e < 51 → IsTopAt e base (t * 2 ^ e) top → base ≡ (b * 2 ^ e) % 2 ^ 64 → base ≤ top → top ≤ 2 ^ 64 → b ≤ t → t < b + 2 ^ 13
     → top - base ≡ (t - b) * 2 ^ e
-length-is e base top b t h p is order room above near =
+length-is {e} {base} {top} b t h p is order room above near =
     let u = 2 ^ e in
     let limit : u ≤ 2 ^ 50 = let m : e ≤ 50 = omega arith in pow-le-pow_right (omega arith) m in
     let some : 0 < u = pow_pos e in
@@ -78,13 +78,13 @@ length-is e base top b t h p is order room above near =
     omega arith
 
 -- Multiples of 8 units are exact: they are short enough for the exponent, or the whole address space.
-IsExact-eights : (e base top b t : ℕ) → e ≤ 52 → IsTopAt e base (t * 2 ^ e) top → base ≡ (b * 2 ^ e) % 2 ^ 64 → base ≤ top → top ≤ 2 ^ 64 → b ≤ t → t < b + 2 ^ 13
+IsExact-eights : {e base top : ℕ} (b t : ℕ) → e ≤ 52 → IsTopAt e base (t * 2 ^ e) top → base ≡ (b * 2 ^ e) % 2 ^ 64 → base ≤ top → top ≤ 2 ^ 64 → b ≤ t → t < b + 2 ^ 13
     → b % 8 ≡ 0 → t % 8 ≡ 0 → IsExact base top
-IsExact-eights e base top b t h p is order room above near b_eight t_eight =
+IsExact-eights {e} {base} {top} b t h p is order room above near b_eight t_eight =
     let base_aligned = eights-aligned base b e h (omega (arith, is)) b_eight in
     let top_aligned = eights-aligned top t e h p.congruent t_eight in
     let fits : e < 51 → top - base < 2 ^ (e + 13) = λ l.
-    let long = length-is e base top b t l p is order room above near in
+    let long = length-is b t l p is order room above near in
     let most : (t - b + 1) * 2 ^ e ≤ 2 ^ 13 * 2 ^ e = mul-le-mul_right (2 ^ e) (omega arith) in
     omega (arith, pow-add 2 e 13, pow_pos e) in
     let wide : 51 ≤ e → top - base < 2 ^ 64 → top - base < 2 ^ (e + 13) = λ l s.
@@ -113,10 +113,10 @@ IsExact-decoded f base top v order room h =
     let is : base ≡ (b * 2 ^ e) % 2 ^ 64 = sym base_here ∙ ap (λ i. i % 2 ^ 64) are.base in
     ⊎_elim
     (λ s. let one : 2 ^ e ≡ 1 = ap (λ i. 2 ^ i) s.0 in
-    let long = length-is e base top b t (omega (arith, s.0)) p is order room are.order are.near in
+    let long = length-is b t (omega (arith, s.0)) p is order room are.order are.near in
     let times : (t - b) * 2 ^ e ≡ (t - b) * 1 = ap (λ i. (t - b) * i) one in
     IsExact-short base top order (omega (arith, s.1)))
-    (λ s. IsExact-eights e base top b t (exponent_of-le f) p is order room are.order are.near s.0 s.1)
+    (λ s. IsExact-eights b t (exponent_of-le f) p is order room are.order are.near s.0 s.1)
     are.form
 
 -- ---- some word decodes to exact bounds

@@ -46,20 +46,20 @@ window_start-corrected f here e =
     (omega (arith, start-is f (bit_of here) (IsBelow-test _ _ here e)))
 
 -- The corrections by comparisons of 3 bits.
-pub AreCorrections-tests : (f : Fields) (here base top : Bool) (first second : ℤ) → base_mantissa f < 2 ^ 14 → top_mantissa f < 2 ^ 14
+pub AreCorrections-tests : (f : Fields) {here base top : Bool} {first second : ℤ} → base_mantissa f < 2 ^ 14 → top_mantissa f < 2 ^ 14
     → here ≡ nat_lt (f.address / 2 ^ (exponent_of f + 11) % 8) (start_eighth f)
     → base ≡ nat_lt (base_mantissa f / 2 ^ 11) (start_eighth f) → top ≡ nat_lt (top_mantissa f / 2 ^ 11) (start_eighth f)
     → first ≡ pos (bit_of base) -ℤ pos (bit_of here) → second ≡ pos (bit_of top) -ℤ pos (bit_of here)
     → AreCorrections f first second
-AreCorrections-tests f here base top first second small_b small_t h b t first_is second_is =
+AreCorrections-tests f {here} {base} {top} {first} {second} small_b small_t h b t first_is second_is =
     let size = window_size-pos f in
     record {
       low = pos (window_start f) -ℤ pos origin;
       b = pos (base_place f) -ℤ pos origin;
       t = pos (top_place f) -ℤ pos origin;
-      window = IsWindow-counted f (window_start f) (IsWindowAt-window_start f);
-      b_place = IsPlaceOf-counted f (window_start f) (base_mantissa f) (base_place f) (IsPlaceAt-place_in (window_start f) (window_size f) (base_mantissa f * 2 ^ exponent_of f) size);
-      t_place = IsPlaceOf-counted f (window_start f) (top_mantissa f) (top_place f) (IsPlaceAt-place_in (window_start f) (window_size f) (top_mantissa f * 2 ^ exponent_of f) size);
+      window = IsWindow-counted (IsWindowAt-window_start f);
+      b_place = IsPlaceOf-counted (IsPlaceAt-place_in (window_start f) (window_size f) (base_mantissa f * 2 ^ exponent_of f) size);
+      t_place = IsPlaceOf-counted (IsPlaceAt-place_in (window_start f) (window_size f) (top_mantissa f * 2 ^ exponent_of f) size);
       b_is = place-corrected f (base_mantissa f) base here small_b h b ∙ ap (λ x. place_with f x (base_mantissa f)) (sym first_is);
       t_is = place-corrected f (top_mantissa f) top here small_t h t ∙ ap (λ x. place_with f x (top_mantissa f)) (sym second_is);
     }
@@ -71,12 +71,12 @@ correction-unique m a x y c h e =
     omega (arith, ints)
 
 -- A word has one pair of corrections.
-pub AreCorrections-unique : (f : Fields) (first second first' second' : ℤ) → AreCorrections f first second → AreCorrections f first' second' → (first ≡ first') × (second ≡ second')
-AreCorrections-unique f first second first' second' p q =
+pub AreCorrections-unique : {f : Fields} {first second first' second' : ℤ} → AreCorrections f first second → AreCorrections f first' second' → (first ≡ first') × (second ≡ second')
+AreCorrections-unique {f} {first} {second} {first'} {second'} p q =
     let size = window_size-pos f in
-    let low : p.low ≡ q.low = IsWindow-unique f p.low q.low p.window q.window in
-    let b : p.b ≡ q.b = IsPlaceOf-unique f p.low (base_mantissa f) p.b q.b p.b_place (rw low q.b_place) in
-    let t : p.t ≡ q.t = IsPlaceOf-unique f p.low (top_mantissa f) p.t q.t p.t_place (rw low q.t_place) in (
+    let low : p.low ≡ q.low = IsWindow-unique p.window q.window in
+    let b : p.b ≡ q.b = IsPlaceOf-unique p.b_place (rw low q.b_place) in
+    let t : p.t ≡ q.t = IsPlaceOf-unique p.t_place (rw low q.t_place) in (
       correction-unique (window_size f) (pos (f.address / window_size f)) first first' (base_mantissa f * 2 ^ exponent_of f) size (sym p.b_is ∙ (b ∙ q.b_is)),
       correction-unique (window_size f) (pos (f.address / window_size f)) second second' (top_mantissa f * 2 ^ exponent_of f) size (sym p.t_is ∙ (t ∙ q.t_is)),
     )

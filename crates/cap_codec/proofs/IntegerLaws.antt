@@ -9,8 +9,8 @@ use Rattle.cap_codec.specs.Integers.{IsCongruent}
 pub IsCongruent-sym : {m : ℕ} {x y : ℤ} → IsCongruent m x y → IsCongruent m y x
 IsCongruent-sym c = record { i = c.j; j = c.i; same = sym c.same }
 
-pub IsCongruent-trans : (m : ℕ) (x y z : ℤ) → IsCongruent m x y → IsCongruent m y z → IsCongruent m x z
-IsCongruent-trans m x y z c d = record { i = c.i + d.i; j = d.j + c.j; same = omega (arith, ints, c.same, d.same) }
+pub IsCongruent-trans : {m : ℕ} {x y z : ℤ} → IsCongruent m x y → IsCongruent m y z → IsCongruent m x z
+IsCongruent-trans c d = record { i = c.i + d.i; j = d.j + c.j; same = omega (arith, ints, c.same, d.same) }
 
 -- Natural numbers with one remainder are congruent, also once a multiple is taken from the second.
 pub congruent_shifted : (m o a b : ℕ) → a % m ≡ b % m → IsCongruent m (pos a) (pos b -ℤ pos (o * m))
@@ -20,8 +20,8 @@ congruent_shifted m o a b e =
     record { i = b / m; j = a / m + o; same = omega (arith, ints) }
 
 -- Congruent integers less than m apart are equal.
-pub near_integers : (m : ℕ) (x y : ℤ) → IsCongruent m x y → x <ℤ (y +ℤ pos m) → y <ℤ (x +ℤ pos m) → x ≡ y
-near_integers m x y c p q =
+pub near_integers : {m : ℕ} {x y : ℤ} → IsCongruent m x y → x <ℤ (y +ℤ pos m) → y <ℤ (x +ℤ pos m) → x ≡ y
+near_integers {m} c p q =
     let below : c.i < c.j → ⊥ = λ h. let k : (c.i + 1) * m ≤ c.j * m = mul-le-mul_right m (omega arith) in omega (arith, ints, c.same) in
     let above : c.j < c.i → ⊥ = λ h. let k : (c.j + 1) * m ≤ c.i * m = mul-le-mul_right m (omega arith) in omega (arith, ints, c.same) in
     let multiples : c.i ≡ c.j = omega arith in

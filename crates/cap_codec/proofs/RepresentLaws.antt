@@ -112,7 +112,7 @@ start-inside f a h k l i =
     let back_m : n % window_size f ≡ low % window_size f =
     coarser n low j (exponent_of f + 14) (ap (λ x. n % 2 ^ x) s ∙ (back ∙ ap (λ x. low % 2 ^ x) (sym s))) in
     let window : IsWindowAt g n = record { holds = omega arith; ends = omega (arith, i, off_is); congruent = back_m ∙ w.congruent } in
-    let same : window_start g ≡ n = IsWindowAt-unique g (window_start g) n (IsWindowAt-window_start g) window in
+    let same : window_start g ≡ n = IsWindowAt-unique (IsWindowAt-window_start g) window in
     ap (λ x. x % 2 ^ 64) same ∙ back
 
 -- The law, one way.

@@ -29,7 +29,7 @@ inside f a h near =
     record {
       low = low;
       n = low +ℤ pos x;
-      window = IsWindow-counted f start w;
+      window = IsWindow-counted w;
       within = record { from = omega (arith, ints); before = omega (arith, ints) };
       congruent = record { i = 1; j = q; same = omega (arith, ints, w.holds) };
     }
@@ -43,7 +43,7 @@ near-start : (f : Fields) (a : ℕ) → f.address < 2 ^ 64 → IsInsideWindow f 
 near-start f a h i =
     let start = window_start f in
     let w = IsWindowAt-window_start f in
-    let low : i.low ≡ pos start -ℤ pos origin = IsWindow-unique f i.low (pos start -ℤ pos origin) i.window (IsWindow-counted f start w) in
+    let low : i.low ≡ pos start -ℤ pos origin = IsWindow-unique i.window (IsWindow-counted w) in
     let d = difference i.n in
     let p = d.0 in
     let q = d.1 in

@@ -10,4 +10,4 @@ returns c =
     let correction_is : c.from.result ≡ c.args.correction = c.from.ensures ∙ to_z-of_z w8 c.args.correction c.ranges.correction in
     let x_is : x.result ≡ (c.args.address / 2 ^ c.args.exponent / 2 ^ 14 + cast_unsigned w64 c.args.correction) % 2 ^ 64 =
     x.ensures ∙ ap (λ z. (c.args.address / 2 ^ c.args.exponent / 2 ^ 14 + cast_unsigned w64 z) % 2 ^ 64) (to_z-of_z w64 c.from.result (search rules) ∙ correction_is) in
-    place_with-congruent c.args.address c.args.exponent c.args.mantissa x.result _ c.args.correction (omega (arith, ints, c.ranges.correction.sfits)) x_is refl
+    place_with-congruent c.args.address c.args.exponent c.args.mantissa c.args.correction (omega (arith, ints, c.ranges.correction.sfits)) x_is refl

@@ -7,15 +7,13 @@ use Rattle.cap_codec.proofs.corrected.corrections_in.Goals as goal
 pub returns : goal.returns
 returns c =
     let f = c.args.f in
-    let m = c.mantissas_in-exponent.result in
     let is = c.mantissas_in-exponent.ensures in
     let start = c.start_eighth-start.result in
     let here = c.eighth_at.result in
     let start_is : start ≡ start_eighth f = c.start_eighth-start.ensures.value ∙ ap (λ x. (x / 2 ^ 11 + 7) % 8) is.base in
     let here_is : here ≡ f.address / 2 ^ (exponent_of f + 11) % 8 = c.eighth_at.ensures ∙ ap (λ e. f.address / 2 ^ (e + 11) % 8) is.exponent in
     let test : (n n' : ℕ) → n ≡ n' → nat_lt n start ≡ nat_lt n' (start_eighth f) = λ n n' e. ap (λ x. nat_lt x start) e ∙ ap (λ x. nat_lt n' x) start_is in
-    AreCorrections-tests f (nat_lt here start) (nat_lt (m.1 / 2 ^ 11) start) (nat_lt (m.2 / 2 ^ 11) start) _ _
-    (subst (λ x. x < 2 ^ 14) is.base is.base_limit) (subst (λ x. x < 2 ^ 14) is.top is.top_limit)
+    AreCorrections-tests f (subst (λ x. x < 2 ^ 14) is.base is.base_limit) (subst (λ x. x < 2 ^ 14) is.top is.top_limit)
     (test _ _ here_is) (test _ _ (ap (λ x. x / 2 ^ 11) is.base)) (test _ _ (ap (λ x. x / 2 ^ 11) is.top))
     (to_z-of_z w8 c.correction.result (search rules) ∙ c.correction.ensures)
     (to_z-of_z w8 c.correction-2.result (search rules) ∙ c.correction-2.ensures)

@@ -1,4 +1,4 @@
-use Rattle.std.proofs.Common.{◌≡◌, ◌+◌, ◌*◌, ◌/◌, ◌%◌, ◌^◌, arith, rules, ap, ◌∙◌, subst, w8, to_z, of_z, IsTrue, ◌↔◌}
+use Rattle.std.proofs.Common.{◌≡◌, ◌+◌, ◌/◌, ◌%◌, ◌^◌, arith, rules, ap, ◌∙◌, subst, w8, to_z, of_z, IsTrue, ◌↔◌}
 use Rattle.std.specs.Prelude.{◌==◌, ◌-◌}
 use Rattle.std.proofs.lemmas.Int.{to_z-of_z}
 use Rattle.cap_codec.specs.declared.word.Fields.{Fields}
@@ -20,8 +20,7 @@ returns-clause-window c =
     let own = c.correction-own.result in
     let own_is : to_z w8 (of_z w8 own) ≡ own = to_z-of_z w8 own (search rules) in
     let start_is : s.result ≡ start_eighth f = s.ensures.value ∙ ap (λ x. (x / 2 ^ 11 + 7) % 8) m.ensures.base in
-    let start = start-congruent f e s.result (s.result * 2 ^ 11 % 2 ^ 64) c.eighth_at.result low.result own m.ensures.exponent start_is
-    (omega (arith, s.ensures.limit)) c.eighth_at.ensures c.correction-own.ensures (rw own_is at low.ensures) in
+    let start = start-congruent f m.ensures.exponent start_is (omega (arith, s.ensures.limit)) c.eighth_at.ensures c.correction-own.ensures (rw own_is at low.ensures) in
     subst (λ (g : Fields). IsTrue ((c.args.address + (2 ^ 64 - low.result)) % 2 ^ 64 / 2 ^ e / 2 ^ 14 == 0) ↔ IsInWindow g c.args.address) c.fields-f.ensures.value
     (in_window-test f e c.args.address low.result m.ensures.exponent (search rules) (omega arith) start)
 

@@ -27,9 +27,7 @@ returns-clause-value c =
     c.place-base_place.ensures.value ∙ ap (λ x. place_in c.place-low.result size x) (c.scaled.ensures.value ∙ ap (λ m. m * unit) base_is) in
     let t_is : c.place-top_place.result ≡ place_in c.place-low.result size (top_mantissa f * unit) =
     c.place-top_place.ensures.value ∙ ap (λ x. place_in c.place-low.result size x) (c.scaled-2.ensures.value ∙ ap (λ m. m * unit) top_is) in
-    bounds_of-parts f c.exponent_in-exponent.result unit size c.scaled-mark.result c.place-low.result c.place-base_place.result c.place-top_place.result c.corrected_top.result
-    exponent_is unit_is size_is mark_is low_is b_is t_is c.corrected_top.ensures.value
-    ∙ ap bounds_of c.fields-f.ensures.value
+    bounds_of-parts f exponent_is unit_is size_is mark_is low_is b_is t_is c.corrected_top.ensures.value ∙ ap bounds_of c.fields-f.ensures.value
 
 pub returns-clause-meets : goal.returns-clause-meets
 returns-clause-meets c =
@@ -37,4 +35,4 @@ returns-clause-meets c =
     subst P (sym (returns-clause-value c)) (IsBounds-bounds_of (fields_of c.args.w))
 
 pub returns-clause-only : goal.returns-clause-only
-returns-clause-only c = λ base top h. IsBounds-unique (fields_of c.args.w) base top _ _ h (returns-clause-meets c)
+returns-clause-only c = λ base top h. IsBounds-unique h (returns-clause-meets c)
