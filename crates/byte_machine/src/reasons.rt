@@ -50,7 +50,7 @@ fn in_the_way(claim: u8, block: Block) -> WhyRecord
         base: block.base,
         top: low_half(block.top),
         top_high: high_half(block.top),
-        ..refused(claim)
+        ..refusal_reason(claim)
     }
 }
 
