@@ -13,7 +13,7 @@ returns-then-mark-ne0-clause-seen c =
     let k : ℕ = c.loop-task.task in
     let (found, _, _, answered, seen) = c.mark.ensures.found in
     let marked : IsMarked k c.mark.result c.loop-task.seat c.mark.new.seat = record { found = found; answered = answered; seen = seen; mine = c.mark.ensures.mine } in
-    let inside = bit_inside c.args.board.now c.loop-task.seat k h.board h.sound (rw (← c.bits-task-end.ensures) c.loop-task-test.true) in
+    let inside = bit_inside c.args.board.now c.loop-task.seat k h.board h.sound (let e = c.bits-task-end.ensures in let l = c.loop-task-test.true in omega arith) in
     let (within, run) = saw c.args.seat.now.seen c.args.from marked inside h.seen h.run in
     within
 
@@ -23,7 +23,7 @@ returns-then-mark-ne0-clause-claims c =
     let k : ℕ = c.loop-task.task in
     let (found, _, _, answered, seen) = c.mark.ensures.found in
     let marked : IsMarked k c.mark.result c.loop-task.seat c.mark.new.seat = record { found = found; answered = answered; seen = seen; mine = c.mark.ensures.mine } in
-    let inside = bit_inside c.args.board.now c.loop-task.seat k h.board h.sound (rw (← c.bits-task-end.ensures) c.loop-task-test.true) in
+    let inside = bit_inside c.args.board.now c.loop-task.seat k h.board h.sound (let e = c.bits-task-end.ensures in let l = c.loop-task-test.true in omega arith) in
     let (within, run) = saw c.args.seat.now.seen c.args.from marked inside h.seen h.run in
     let first = c.args.seat.now.mine in
     let (apart, _) = c.mark.ensures.fresh (k % 64) in
@@ -37,7 +37,7 @@ loop-task-preserved c =
     let k : ℕ = c.loop-task.task in
     let (found, _, _, answered, seen) = c.mark.ensures.found in
     let marked : IsMarked k c.mark.result c.loop-task.seat c.mark.new.seat = record { found = found; answered = answered; seen = seen; mine = c.mark.ensures.mine } in
-    let inside = bit_inside c.args.board.now c.loop-task.seat k h.board h.sound (rw (← c.bits-task-end.ensures) c.loop-task-test.true) in
+    let inside = bit_inside c.args.board.now c.loop-task.seat k h.board h.sound (let e = c.bits-task-end.ensures in let l = c.loop-task-test.true in omega arith) in
     let (within, run) = saw c.args.seat.now.seen c.args.from marked inside h.seen h.run in
     record {
       board = c.mark.ensures.board;
