@@ -19,7 +19,7 @@ export function addControls(viewer) {
       view.chosen = null;
       return viewer.draw(false);
     }
-    viewer.bringPlaceIntoView(viewer.map.shape, view.cursor, byId('map'));
+    viewer.bringPlaceIntoView(viewer.map.shape, view.cursor);
     byId('detail').setAttribute('aria-live', 'polite'); // only the part in use speaks
     viewer.placeCursor();
   }
@@ -97,6 +97,7 @@ export function addControls(viewer) {
       viewer.listenToSave, viewer.listenToWhole];
     for (const listenTo of others) listenTo();
     for (const onKey of [viewer.keyOnPage, viewer.keyOfFind, viewer.keyOfHistory]) document.addEventListener('keydown', onKey, { signal });
+    byId('map').addEventListener('scroll', keepScrolled, { signal });
     addEventListener('resize', refit, { signal });
     addEventListener('hashchange', viewer.openAddress, { signal });
     addEventListener('pagehide', viewer.writeAddress, { signal });
@@ -109,6 +110,8 @@ export function addControls(viewer) {
     viewer.draw(false);
     viewer.list.refill();
   }
+
+  const keepScrolled = () => { view.scrolled = { left: byId('map').scrollLeft, top: byId('map').scrollTop }; };
 
   function measure() {
     const own = (name, pixels) => document.documentElement.style.setProperty(name, `${pixels}px`);

@@ -25,7 +25,7 @@ export function addHandout(viewer) {
     const step = run.steps[index], registers = copyOf(byId('rows').parentNode);
     registers.tBodies[0].className = 'rows';
     return element('article', {}, element('h2', {}, `Line ${step.line}`), ...viewer.notesOf(step.notes), ...[...byId('what').children].map(copyOf),
-      element('div', { class: 'map' }, copyOf(viewer.map.box)), ...(step.taken ? [copyOf(byId('taken'))] : []), registers);
+      element('div', { class: 'map' }, ...viewer.map.sheets.map(copyOf)), ...(step.taken ? [copyOf(byId('taken'))] : []), registers);
   }
 
   // Shows each of the steps in turn, and then what was shown before.

@@ -6,12 +6,13 @@ import { nameOf, rangeOf, reasonOf, stateName } from './cursor.js';
 export function addMap(viewer) {
   const { run, view, byId, cursor: state } = viewer;
 
-  const map = { shape: null, box: null, layers: {}, blocks: new Map(), marks: new Map(), edges: [], fresh: [], lost: new Set(),
+  const map = { shape: null, sheets: [], layers: {}, blocks: new Map(), marks: new Map(), edges: [], fresh: [], lost: new Set(),
     strips: [], stale: new Set() };
 
   const DRAWN_REASONS = 64, TOLD_TAGS = 200; // of the tags that a pass took: on the map, and in the table below it
   const SMALL = 14; // cells narrower than this have finer lines
   const LAYERS = ['grid', 'released', 'blocks', 'pages', 'looked', 'marks', 'changes', 'reasons', 'chosen', 'cursors'];
+  const LOWER = ['grid', 'blocks', 'pages', 'marks']; // of a dense map
 
   function remakeMap() {
     const L = map.shape = viewer.shapeOfMap();
@@ -21,9 +22,7 @@ export function addMap(viewer) {
     map.lost = new Set();
     map.chips = shape('g');
     for (const name of LAYERS) map.layers[name] = shape('g', { class: name });
-    map.body = shape('g', {}, ...Object.values(map.layers));
-    const small = L.width < SMALL ? 'small' : null;
-    map.box = shape('svg', { width: L.full, class: small, 'aria-hidden': 'true' }, viewer.patterns(), map.body, map.chips);
+    makeSheets(L);
     map.cursor = shape('rect', { class: 'cursor', width: L.width - 1, height: L.height - 1 });
     map.layers.cursors.append(map.cursor);
     drawGrid(L);
@@ -31,8 +30,17 @@ export function addMap(viewer) {
     viewer.makeStrips();
     for (const block of state.blocks.values()) drawBlock(block);
     state.granules.forEach((cell, place) => { if (!cell.isNull) drawMark(place); });
-    byId('map').replaceChildren(map.box);
+    byId('map').replaceChildren(...map.sheets);
     drawOverlays(L);
+  }
+
+  // Over a dense map what comes and goes with a step lies on a sheet of its own, so that the many blocks need not be painted again.
+  function makeSheets(L) {
+    const sheet = (kind, before, names, ...after) => shape('svg', { width: L.full, class: `${L.width < SMALL ? 'small' : ''} ${kind}`.trim() || null,
+      'aria-hidden': 'true' }, before, shape('g', {}, ...names.map(name => map.layers[name])), ...after);
+    map.sheets = run.isDense
+      ? [sheet('', viewer.patterns(), LOWER), sheet('upper', null, LAYERS.filter(name => !LOWER.includes(name)), map.chips)]
+      : [sheet('', viewer.patterns(), LAYERS, map.chips)];
   }
 
   function drawGrid(L) {
@@ -174,9 +182,11 @@ export function addMap(viewer) {
   function placeBody(L, top) {
     const height = top + L.bottom + Math.round(24 * L.scale), viewBox = `0 0 ${L.full} ${height}`;
     map.top = top;
-    if (map.box.getAttribute('viewBox') === viewBox) return; // else the browser would lay all of it out again
-    map.body.setAttribute('transform', `translate(0 ${top})`);
-    build(map.box, { height, viewBox }, []);
+    if (map.sheets[0].getAttribute('viewBox') === viewBox) return; // else the browser would lay all of it out again
+    for (const sheet of map.sheets) {
+      sheet.querySelector(':scope > g').setAttribute('transform', `translate(0 ${top})`);
+      build(sheet, { height, viewBox }, []);
+    }
   }
 
   function ringsOf(L, places) {
@@ -262,17 +272,17 @@ export function addMap(viewer) {
 
   // To what the step changed, where it is out of sight.
   function scrollMap(L) {
-    const step = run.steps[view.step], box = byId('map');
+    const step = run.steps[view.step];
     const place = step.granules.length ? step.granules[0].place : step.blocks.length ? step.blocks[0].block.start : null;
-    if (place !== null) bringPlaceIntoView(L, place, box);
+    if (place !== null) bringPlaceIntoView(L, place);
   }
 
-  // Each way only where the map is larger than its box: to ask where it is scrolled to costs a layout.
-  function bringPlaceIntoView(L, place, box) {
-    const [x, up] = viewer.spotOf(L, place), y = up + map.top;
-    if (L.full > view.mapWidth && (x < box.scrollLeft || x + L.width > box.scrollLeft + box.clientWidth)) box.scrollLeft = x - box.clientWidth / 3;
-    if (L.bottom + map.top < view.mapHeight) return;
-    if (y < box.scrollTop || y + L.height > box.scrollTop + box.clientHeight) box.scrollTop = y - box.clientHeight / 3;
+  // Each way only where the map is larger than its box. Where it is scrolled to is kept: to ask for it costs a layout.
+  function bringPlaceIntoView(L, place) {
+    const [x, up] = viewer.spotOf(L, place), y = up + map.top, { left, top } = view.scrolled, { mapWidth: width, mapHeight: height } = view;
+    if (L.full > width && (x < left || x + L.width > left + width)) byId('map').scrollLeft = view.scrolled.left = Math.max(x - width / 3, 0);
+    if (L.bottom + map.top < height) return;
+    if (y < top || y + L.height > top + height) byId('map').scrollTop = view.scrolled.top = Math.max(y - height / 3, 0);
   }
 
   function placeCursor() {

@@ -15,12 +15,19 @@ export function addSaving(viewer) {
   }
 
   // A copy in which each element has the style that the page gives it.
-  function styledMap() {
-    const copy = viewer.map.box.cloneNode(true), copies = copy.querySelectorAll('*');
-    viewer.map.box.querySelectorAll('*').forEach((node, index) => {
+  function styledCopy(sheet) {
+    const copy = sheet.cloneNode(true), copies = copy.querySelectorAll('*');
+    sheet.querySelectorAll('*').forEach((node, index) => {
       const style = getComputedStyle(node);
       for (const name of KEPT) copies[index].setAttribute(name, style.getPropertyValue(name));
     });
+    return copy;
+  }
+
+  // The map as one picture.
+  function styledMap() {
+    const [copy, ...upper] = viewer.map.sheets.map(styledCopy);
+    for (const sheet of upper) copy.append(...sheet.children);
     copy.querySelectorAll('.cursor').forEach(node => node.remove());
     const paper = getComputedStyle(byId('stage')).backgroundColor;
     copy.setAttribute('xmlns', SHAPES);

@@ -47,7 +47,7 @@ LOOK = r"""(() => {
 # For each granule that the map shows, the blocks in whose drawn area its middle lies, and whether it is in the bounds chosen.
 AREAS = r"""(() => {
   const areas = [...document.querySelectorAll('#map [data-block]:not(.released)')].map(node => [node.dataset.block, node.querySelector('.fill')]);
-  const pick = document.querySelector('#map [data-bounds]'), point = map.box.createSVGPoint(), L = map.shape, n = L.columns, found = [];
+  const pick = document.querySelector('#map [data-bounds]'), point = map.sheets[0].createSVGPoint(), L = map.shape, n = L.columns, found = [];
   for (let place = 0; place < L.shown; place++) {
     point.x = L.gutter + (place % n + .5) * L.width;
     point.y = (Math.floor(place / n) + .5) * L.height;
@@ -143,7 +143,7 @@ BAND = "JSON.stringify([byId('band').clientWidth, ...['live', 'held', 'tags', 'p
 # What a dense map's step changed; and of granules, the states of the areas and the kinds of the marks in which their middles lie,
 # and whether they are marked as new.
 DENSE = r"""(() => {
-  const all = selector => [...document.querySelectorAll(selector)], point = map.box.createSVGPoint(), L = map.shape, n = L.columns;
+  const all = selector => [...document.querySelectorAll(selector)], point = map.sheets[0].createSVGPoint(), L = map.shape, n = L.columns;
   const fills = all('#map .blocks [data-states]').map(node => [node.dataset.states, node.querySelector('.fill')]);
   const marks = all('#map .marks path').map(node => [node.getAttribute('class'), node]), fresh = all('#map .new .fill');
   const named = list => list.filter(([, path]) => path.isPointInFill(point)).map(([name]) => name);
