@@ -24,12 +24,7 @@ use trace_text::{Command, Trace, TraceFault, parse, trace_grammar_law};
 impl<R: Threads + Sync> Runner for Workers<'_, R> {
     ghost ready = { IsSync R.row };
 
-    fn run(
-        &self,
-        alloc: Global,
-        text: &[u8],
-        cutting: Cutting,
-    ) -> Result<Outcome, RunFault> {
+    fn run(&self, alloc: Global, text: &[u8], cutting: Cutting) -> Result<Outcome, RunFault> {
         run_by(self, alloc, text, cutting)
     }
 }
@@ -37,12 +32,7 @@ impl<R: Threads + Sync> Runner for Workers<'_, R> {
 impl Runner for Alone {
     ghost ready = { Unit {0} };
 
-    fn run(
-        &self,
-        alloc: Global,
-        text: &[u8],
-        cutting: Cutting,
-    ) -> Result<Outcome, RunFault> {
+    fn run(&self, alloc: Global, text: &[u8], cutting: Cutting) -> Result<Outcome, RunFault> {
         run_by(self, alloc, text, cutting)
     }
 }

@@ -26,8 +26,8 @@ use Rattle.state_data.proofs.MemoryLaws.{count-is, due-snapshot, changed_granule
 
 -- What is seen stays the state's while the blocks that wait are put in order; then, if the reply tells of a pass, they are
 -- the heap's list.
-pub snapshot-in_order : (snapshot ordered : Snapshot) (r : Reply) (s : State) → IsSnapshot snapshot s → IsPutInOrder snapshot ordered r → IsSnapshot ordered s
-snapshot-in_order snapshot ordered r s is put = record {
+pub snapshot-in_order : {snapshot ordered : Snapshot} {r : Reply} {s : State} → IsSnapshot snapshot s → IsPutInOrder snapshot ordered r → IsSnapshot ordered s
+snapshot-in_order is put = record {
   registers = put.registers ∙ is.registers;
   count = ap (λ tags. 64 * length tags.items) put.tags ∙ is.count;
   bits = λ k lt. ap (λ tags. is_set_for tags.items k) put.tags ∙ is.bits k lt;
@@ -40,10 +40,10 @@ pub waiting-in_order : (snapshot ordered : Snapshot) (r : Reply) (s : State) →
 waiting-in_order snapshot ordered r s is put sound pass =
     in_order-is (spans_of ordered.waiting.items) s.heap.waiting is.waiting (put.order pass) sound.waiting_order (some_bytes s.heap s.heap.waiting sound.waiting_inside)
 
-told-is : (old : State) (n : ℕ) (c : Command) (r : Reply) (new : State) (snapshot : Snapshot) (before : Before) → IsSnapshot snapshot old → (tells_pass r ≡ true → spans_of snapshot.waiting.items ≡ old.heap.waiting)
+told-is : {old : State} (n : ℕ) (c : Command) (r : Reply) (new : State) {snapshot : Snapshot} (before : Before) → IsSnapshot snapshot old → (tells_pass r ≡ true → spans_of snapshot.waiting.items ≡ old.heap.waiting)
     → IsSafe old → IsSafe new → Step old c r new → before ≡ before_of old c
     → step_tokens n c r snapshot before new.registers new.granules ≡ line_tokens n c r old new
-told-is old n c r new snapshot before is order safe after step read =
+told-is {old} n c r new {snapshot} before is order safe after step read =
     let held : tells_pass r ≡ true → due_in_snapshot snapshot ≡ due old.heap = λ pass. due-snapshot snapshot old is (order pass) in
     let did = Step-did old c r new step in
     let granules : changed_granules_tokens before.granule r snapshot.tags.items new.granules ≡ granules_tokens old.granules new.granules =
@@ -78,23 +78,23 @@ snapshot-is old c r new snapshot later before is order safe step read follows =
       is_open = follows.is_open ∙ (ap (open_after r) is.is_open ∙ after.is_open);
     }
 
-pub records : (old : State) (n : ℕ) (c : Command) (r : Reply) (new : State) (snapshot ordered later : Snapshot) (before : Before) (text told : List ℕ)
+pub records : {old new : State} {n : ℕ} {c : Command} {r : Reply} {snapshot ordered later : Snapshot} {before : Before} {text told : List ℕ}
     → IsSnapshot snapshot old → IsPutInOrder snapshot ordered r → IsSafe old → IsSafe new → Step old c r new → before ≡ before_of old c → IsNextSnapshot ordered later before r new
     → told ≡ text ++ data_line_text (step_tokens n c r ordered before new.registers new.granules) → Records old n c new later text told
-records old n c r new snapshot ordered later before text told is put safe after step read follows line =
-    let now : IsSnapshot ordered old = snapshot-in_order snapshot ordered r old is put in
+records {old} {new} {n} {c} {r} {snapshot} {ordered} {later} {before} {text} is put safe after step read follows line =
+    let now : IsSnapshot ordered old = snapshot-in_order is put in
     let order : tells_pass r ≡ true → spans_of ordered.waiting.items ≡ old.heap.waiting = waiting-in_order snapshot ordered r old now put safe.heap in
     record {
       reply = r;
       step = step;
       safe = after;
       is_snapshot = snapshot-is old c r new ordered later before now order safe step read follows;
-      text = line ∙ ap (λ (tokens : List Token). text ++ data_line_text tokens) (told-is old n c r new ordered before now order safe after step read);
+      text = line ∙ ap (λ (tokens : List Token). text ++ data_line_text tokens) (told-is n c r new before now order safe after step read);
     }
 
 -- There are as many granules after a command as before it.
-pub count-after : (old : State) (c : Command) (r : Reply) (new : State) (snapshot : Snapshot) → IsSnapshot snapshot old → Step old c r new → 64 * length snapshot.tags.items ≡ length new.granules
-count-after old c r new snapshot is step = is.count ∙ sym (count-is old (written_granule old c) (freed_base old c) r new (Step-did old c r new step))
+pub count-after : {old : State} (c : Command) (r : Reply) (new : State) {snapshot : Snapshot} → IsSnapshot snapshot old → Step old c r new → 64 * length snapshot.tags.items ≡ length new.granules
+count-after {old} c r new is step = is.count ∙ sym (count-is old (written_granule old c) (freed_base old c) r new (Step-did old c r new step))
 
 -- ---- one command more
 

@@ -63,8 +63,8 @@ Step-stays s Begin r new step none = After-stays (first_failed (checks s Begin))
 Step-stays s End r new step none = After-stays (first_failed (checks s End)) s End 0 r new (λ e. absurd (true≢false (sym (ap tells_registers e.0) ∙ none))) step
 
 -- Where no pass looked at registers, those that were seen stay, but for the one that was read before the command.
-pub registers-stay : (old : State) (c : Command) (r : Reply) (new : State) (snapshot : Snapshot) (before : Before) → IsSnapshot snapshot old → Step old c r new → before ≡ before_of old c
+pub registers-stay : {old : State} (c : Command) (r : Reply) (new : State) {snapshot : Snapshot} (before : Before) → IsSnapshot snapshot old → Step old c r new → before ≡ before_of old c
     → tells_registers r ≡ false → StayBut before.register snapshot.registers new.registers
-registers-stay old c r new snapshot before is step read none k other =
+registers-stay {old} c r new before is step read none k other =
     Step-stays old c r new step none k (λ same. other (same ∙ sym (ap (λ (b : Before). b.register) read)))
     ∙ ap (λ (cells : List Cell). get_or cells k null_cell) (sym is.registers)

@@ -1,7 +1,7 @@
 -- What is told of a command, by what was seen before it, its reply, and the machine after it.
-use Rattle.std.specs.Prelude.{ℕ, ◌&&◌, ◌==◌, nat_lt, ◌-◌, ◌*◌, ◌<◌, ◌≤◌, ◌≡◌, ◌≢◌, Bool, false, true, not, List, [], ◌∷◌, ◌++◌, Option, Some, None, codes, filter, if◌then◌else◌, length, slice_index_or}
+use Rattle.std.specs.Prelude.{ℕ, ◌&&◌, ◌==◌, nat_lt, ◌-◌, ◌*◌, ◌<◌, ◌≤◌, ◌≡◌, Bool, false, true, not, List, [], ◌∷◌, ◌++◌, Option, Some, None, codes, filter, if◌then◌else◌, length, slice_index_or}
 use Rattle.std.specs.List.Sorted.{IsNonDecreasingBy, IsPermutation}
-use Rattle.json.specs.Token.{Token, begin_object, end_object, key}
+use Rattle.json.specs.Token.{Token}
 use Rattle.data_tokens.specs.Taken.{is_register_taken, is_tag_gone, taken_tokens, none_taken}
 use Rattle.cap_codec.specs.Words.{base_of}
 use Rattle.heap_model.specs.Blocks.{Span, has_bounds, start_of}
@@ -10,13 +10,12 @@ use Rattle.machine_steps.specs.Safety.{IsSafe}
 use Rattle.machine_steps.specs.Step.{Step, index_in}
 use Rattle.heap_reply.specs.declared.reply.Reply.{Reply}
 use Rattle.heap_reply.specs.declared.reply.Reply.TheVariants.{Block, BlockAfter, NoSpace, NoSpaceAfter, Held, Done, Cleared, Swept, Begun, Shown, Trap}
-use Rattle.tag_memory.specs.Cells.{Cell, Granule, cell_of, null_cell}
+use Rattle.tag_memory.specs.Cells.{Cell, Granule, cell_of}
 use Rattle.tag_memory.specs.Tags.{is_set_for, is_tagged}
 use Rattle.trace_text.specs.declared.trace.Command.{Command}
 use Rattle.trace_text.specs.declared.trace.Command.TheVariants.{Malloc, Free, Copy, SetAddr, Narrow, AndPerm, StoreCap, LoadCap, Write, Show, Sweep, Begin, End}
 use Rattle.data_tokens.specs.Blocks.{named_blocks_tokens}
 use Rattle.data_tokens.specs.Changes.{below, change_tokens, registers_tokens, tag_change}
-use Rattle.data_tokens.specs.Line.{list_tokens}
 use Rattle.data_tokens.specs.Spans.{spans_of}
 use Rattle.state_data.specs.States.{Tells, data_line_text, line_tokens, parts_tokens, tells_pass, tells_registers}
 use Rattle.state_data.specs.declared.snapshot.Before.{Before}

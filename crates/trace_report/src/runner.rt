@@ -17,12 +17,7 @@ pub trait Runner {
 
     /// Runs a trace from its text to its report. Nothing runs where the text is faulty. Want of memory is
     /// `RunFault::Memory`, also while the text is read.
-    fn run(
-        &self,
-        alloc: Global,
-        text: &[u8],
-        cutting: Cutting,
-    ) -> Result<Outcome, RunFault>
+    fn run(&self, alloc: Global, text: &[u8], cutting: Cutting) -> Result<Outcome, RunFault>
         requires ready { ready }
         ensures answer { HasOutcome text.now result }
         // The same by the grammar.
