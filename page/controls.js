@@ -97,7 +97,7 @@ export function addControls(viewer) {
       viewer.listenToSave, viewer.listenToWhole];
     for (const listenTo of others) listenTo();
     for (const onKey of [viewer.keyOnPage, viewer.keyOfFind, viewer.keyOfHistory]) document.addEventListener('keydown', onKey, { signal });
-    byId('map').addEventListener('scroll', keepScrolled, { signal });
+    byId('map').addEventListener('scroll', viewer.keepPart, { signal });
     addEventListener('resize', refit, { signal });
     addEventListener('hashchange', viewer.openAddress, { signal });
     addEventListener('pagehide', viewer.writeAddress, { signal });
@@ -110,8 +110,6 @@ export function addControls(viewer) {
     viewer.draw(false);
     viewer.list.refill();
   }
-
-  const keepScrolled = () => { view.scrolled = { left: byId('map').scrollLeft, top: byId('map').scrollTop }; };
 
   function measure() {
     const own = (name, pixels) => document.documentElement.style.setProperty(name, `${pixels}px`);

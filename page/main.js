@@ -31,7 +31,7 @@ const PARTS = [addWords, addList, addFind, addHistory, addBlocks, addComparison,
 // What the reader looks at.
 const viewOf = run => ({ step: 0, side: 'after', chosen: null, follow: true, probe: null, cursor: null, columns: run.columns, cell: 0,
   whole: false, present: false, embed: false, ask: false, pointers: false, letter: 20, mapWidth: 600, mapHeight: 600, windowWidth: 600,
-  scrolled: { left: 0, top: 0 }, timer: null });
+  timer: null });
 
 // Says above all else what is wrong; what is shown below stays as it is.
 export function tellFault(message) {

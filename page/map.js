@@ -7,7 +7,8 @@ export function addMap(viewer) {
   const { run, view, byId, cursor: state } = viewer;
 
   const map = { shape: null, sheets: [], layers: {}, blocks: new Map(), marks: new Map(), edges: [], fresh: [], lost: new Set(),
-    strips: [], stale: new Set() };
+    strips: [], stale: new Set(),
+    part: { left: 0, top: 0, width: 0, height: 0 } };
 
   const DRAWN_REASONS = 64, TOLD_TAGS = 200; // of the tags that a pass took: on the map, and in the table below it
   const SMALL = 14; // cells narrower than this have finer lines
@@ -32,6 +33,7 @@ export function addMap(viewer) {
     state.granules.forEach((cell, place) => { if (!cell.isNull) drawMark(place); });
     byId('map').replaceChildren(...map.sheets);
     drawOverlays(L);
+    keepPart();
   }
 
   // Over a dense map what comes and goes with a step lies on a sheet of its own, so that the many blocks need not be painted again.
@@ -277,12 +279,19 @@ export function addMap(viewer) {
     if (place !== null) bringPlaceIntoView(L, place);
   }
 
-  // Each way only where the map is larger than its box. Where it is scrolled to is kept: to ask for it costs a layout.
+  // The part of the map that is in sight. Of a dense one it is kept, since to ask for it costs a layout.
+  function keepPart() {
+    const box = byId('map');
+    map.part = { left: box.scrollLeft, top: box.scrollTop, width: box.clientWidth, height: box.clientHeight };
+  }
+
+  // Each way only where the map is larger than its box.
   function bringPlaceIntoView(L, place) {
-    const [x, up] = viewer.spotOf(L, place), y = up + map.top, { left, top } = view.scrolled, { mapWidth: width, mapHeight: height } = view;
-    if (L.full > width && (x < left || x + L.width > left + width)) byId('map').scrollLeft = view.scrolled.left = Math.max(x - width / 3, 0);
-    if (L.bottom + map.top < height) return;
-    if (y < top || y + L.height > top + height) byId('map').scrollTop = view.scrolled.top = Math.max(y - height / 3, 0);
+    if (!run.isDense || view.present || view.embed) keepPart();
+    const [x, up] = viewer.spotOf(L, place), y = up + map.top, box = byId('map'), { part } = map;
+    if (L.full > view.mapWidth && (x < part.left || x + L.width > part.left + part.width)) box.scrollLeft = part.left = Math.max(x - part.width / 3, 0);
+    if (L.bottom + map.top < view.mapHeight) return;
+    if (y < part.top || y + L.height > part.top + part.height) box.scrollTop = part.top = Math.max(y - part.height / 3, 0);
   }
 
   function placeCursor() {
@@ -341,6 +350,6 @@ export function addMap(viewer) {
 
   Object.assign(viewer, {
     map, DRAWN_REASONS, TOLD_TAGS, SMALL, remakeMap, overOf, blockShape, spotOfMark, drawMap, togglePointers, scrollMap,
-    bringPlaceIntoView, placeCursor, placeOfBase, drawLegend
+    keepPart, bringPlaceIntoView, placeCursor, placeOfBase, drawLegend
   });
 }

@@ -134,7 +134,24 @@ class LongTests:
                 self.granules(run, index, side, state, chance)
         self.browser.run("byId('columns').value = 16; byId('columns').dispatchEvent(new Event('change')); go(%d)" % passes[0])
         self.granules(run, passes[0], "after", run.states[passes[0]], chance)
+        self.upper_sheet(passes[-1])
+        self.scrolled_away()
         self.no_noise("dense")
+
+    def upper_sheet(self, index):
+        """What a step puts on a dense map lies on the sheet above the blocks, in the same place, and in the file of the map too."""
+        self.browser.call("Browser.setDownloadBehavior", behavior="allow", downloadPath=str(self.scratch))
+        self.browser.run(f"go({index}); show('before')")
+        sheets = json.loads(self.browser.run(page_look.SHEETS))
+        self.check("dense: two sheets lie on each other", len(sheets) == 2 and sheets[0] == sheets[1], True)
+        lines = self.browser.run("document.querySelectorAll('#map [data-reason]').length")
+        tree = xml.etree.ElementTree.fromstring(self.saved("save-map", f"map_{index}.svg"))
+        self.check("dense: the file has the lines of a pass", [lines > 0, sum(node.get("data-reason") is not None for node in tree.iter())], [True, lines])
+
+    def scrolled_away(self):
+        """Where the reader scrolled away by hand, a step leads back to what it changed."""
+        seen = self.browser.run(page_look.FAR_STEP)
+        self.check("dense: what a step changes far below is in sight, again after the reader looked elsewhere", seen, "true false true")
 
     def granules(self, run, index, side, state, chance):
         """Of some granules, and of the first ones of new blocks, in which drawn areas their middles lie."""

@@ -57,6 +57,23 @@ AREAS = r"""(() => {
 })()"""
 
 # How long the last key or press took until its frame was painted, as the browser tells of events from 16 ms on.
+SHEETS = r"""JSON.stringify([...document.querySelectorAll('#map > svg')].map(sheet =>
+  [sheet.getBoundingClientRect(), sheet.getAttribute('viewBox'), sheet.querySelector(':scope > g').getAttribute('transform')]))"""
+# Whether the lowest granule that a step touches is in sight there, after the reader has scrolled to the top, and there once more.
+FAR_STEP = r"""(async () => {
+  const placeOf = step => step.granules[0]?.place ?? step.blocks[0]?.block.start ?? 0, frame = () => new Promise(done => requestAnimationFrame(() => setTimeout(done, 30)));
+  const far = run.steps.reduce((best, step, index) => (placeOf(step) > placeOf(run.steps[best]) ? index : best), 0), box = byId('map');
+  const isSeen = () => { const y = spotOf(map.shape, placeOf(run.steps[far]))[1] + map.top; return box.scrollTop <= y && y < box.scrollTop + box.clientHeight; };
+  go(far);
+  await frame();
+  const seen = [isSeen()];
+  box.scrollTop = 0;
+  await frame();
+  seen.push(isSeen());
+  go(far);
+  await frame();
+  return [...seen, isSeen()].join(' ');
+})()"""
 PAINTED = r"""(() => {
   window.painted = 0;
   const told = list => list.getEntries().forEach(({ name, duration }) => {
