@@ -56,7 +56,7 @@ AREAS = r"""(() => {
   return JSON.stringify([pick ? pick.dataset.bounds : null, found]);
 })()"""
 
-# How long the last key or press took until its frame was painted, as the browser tells of events from 16 ms on.
+# The sheets of the map: where each lies, and how what is drawn on it is moved.
 SHEETS = r"""JSON.stringify([...document.querySelectorAll('#map > svg')].map(sheet =>
   [sheet.getBoundingClientRect(), sheet.getAttribute('viewBox'), sheet.querySelector(':scope > g').getAttribute('transform')]))"""
 # Whether the lowest granule that a step touches is in sight there, after the reader has scrolled to the top, and there once more.
@@ -74,6 +74,7 @@ FAR_STEP = r"""(async () => {
   await frame();
   return [...seen, isSeen()].join(' ');
 })()"""
+# How long the last key or press took until its frame was painted, as the browser tells of events from 16 ms on.
 PAINTED = r"""(() => {
   window.painted = 0;
   const told = list => list.getEntries().forEach(({ name, duration }) => {
