@@ -1,2 +1,2 @@
 mod AnswerLaws
-pub mod RunLaws
+mod RunLaws
