@@ -10,7 +10,7 @@ export function addAddress(viewer) {
     const pick = view.follow || !view.chosen ? null : run.namesOfPlaces[view.chosen.kind];
     const parts = { step: view.step, side: view.side === 'after' ? null : view.side, pick: pick ? pick(view.chosen.place) : null,
       row: view.columns === run.columns ? null : view.columns, with: viewer.comparedWith };
-    const ways = [view.embed ? 'embed' : view.present ? 'present' : null, view.ask ? 'ask' : null].filter(way => way !== null);
+    const ways = [...viewer.host.origin?.() ?? [], view.embed ? 'embed' : view.present ? 'present' : null, view.ask ? 'ask' : null].filter(way => way !== null);
     return '#' + [...ways, ...Object.entries(parts).filter(([, value]) => value !== null).map(part => part.join('='))].join('&');
   }
 

@@ -37,6 +37,15 @@ export function decode(bits, address = bits % SPACE) {
   return { address, ...fields, exponent, carry, baseMantissa, topMantissa, size, low, base, top: isFar ? top ^ SPACE : top };
 }
 
+// What the program's line tells of a word, by the names of `decode`; null for what is no such line.
+export function readLine(line) {
+  const names = ['address', 'base', 'top', 'permissions', 'reserved', 'flag', 'type', 'internal', 'exponent', 'topField', 'baseField'];
+  const read = /^address (\S+) base (\S+) top (\S+) perms (\S+) reserved (\S+) flag (\S+) type (\S+) internal (\S+) exponent (\S+) topfield (\S+) basefield (\S+)$/.exec(line);
+  if (!read) return null;
+  const told = Object.fromEntries(names.map((name, index) => [name, BigInt(read[index + 1])]));
+  return { ...told, exponent: Number(told.exponent) };
+}
+
 // Whether the word keeps its bounds with another address: the window may wrap around the address space.
 /** @param {ReturnType<typeof decode>} word @param {bigint} address */
 export const keepsBounds = (word, address) => word.exponent >= 50 || modulo(address - word.low, SPACE) < word.size;

@@ -94,7 +94,7 @@ export function addControls(viewer) {
     listenToMap();
     viewer.listenToWindow();
     const others = [viewer.listenToFind, viewer.listenToBlocks, viewer.listenToComparison, viewer.listenToPaper, viewer.listenToHandout,
-      viewer.listenToSave, viewer.listenToWhole];
+      viewer.listenToSave, viewer.listenToEdit, viewer.listenToWhole];
     for (const listenTo of others) listenTo();
     for (const onKey of [viewer.keyOnPage, viewer.keyOfFind, viewer.keyOfHistory]) document.addEventListener('keydown', onKey, { signal });
     byId('map').addEventListener('scroll', viewer.keepPart, { signal });

@@ -15,6 +15,9 @@ import { hex, plural } from './dom.js';
 
 const meanings = new Map(); // of words: many cells hold the same one
 
+// Keeps what a word means as the program told it, in the place of this page's own decoder.
+export const learn = (word, meaning) => { meanings.set(word, meaning); };
+
 // What a register or a granule holds, as an entry of the data tells it.
 export class Cell {
   /** @param {{ tag: boolean, word: string }} entry */

@@ -1,8 +1,8 @@
 // A capability word from its 16 bytes to its bounds.
 
 import { code, digits, element, grouped, hex, plural } from './dom.js';
-import { Cell, NULL_CELL } from './cursor.js';
-import { NULL_METADATA, PERMISSIONS, power } from './codec.js';
+import { Cell, NULL_CELL, learn } from './cursor.js';
+import { NULL_METADATA, PERMISSIONS, bitsOf, decode, power, readLine } from './codec.js';
 
 export function addInspector(viewer) {
   const { run, view, byId, cursor: state } = viewer;
@@ -28,8 +28,23 @@ export function addInspector(viewer) {
     byId('typed').setAttribute('aria-invalid', String(wrong !== ''));
     byId('wrong').textContent = wrong;
     if (word === '' || wrong) return;
+    const { lineOfWord } = viewer.host;
+    if (lineOfWord) lineOfWord(word).then(line => takeLine(word, line)); else showTyped(word);
+  }
+
+  function showTyped(word) {
     view.chosen = null;
     viewer.choose('word', word);
+  }
+
+  // The word as the program tells it, unless another one has been typed since.
+  function takeLine(word, line) {
+    if (line === null || viewer.signal.aborted) return;
+    const told = readLine(line), mine = decode(bitsOf(word));
+    const wrong = Object.keys(told).find(name => told[name] !== mine[name]);
+    if (wrong) viewer.tellFault(`The program and this page decode ${word} differently: ${wrong} is ${told[wrong]} and ${mine[wrong]}.`);
+    learn(word, { ...mine, ...told });
+    showTyped(word);
   }
 
   function drawInspector() {

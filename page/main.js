@@ -8,6 +8,7 @@ import { addBlocks } from './blocks.js';
 import { addComparison } from './compare.js';
 import { addControls } from './controls.js';
 import { addDenseMap } from './dense.js';
+import { addEditing } from './edit.js';
 import { addFind } from './find.js';
 import { addHandout } from './handout.js';
 import { addHistory } from './history.js';
@@ -26,7 +27,7 @@ import { addWords } from './words.js';
 // Each adds to the viewer what it has for others, and finds there what those have. One that stands before another needs nothing of
 // it until the viewer begins.
 const PARTS = [addWords, addList, addFind, addHistory, addBlocks, addComparison, addMapShape, addDenseMap, addMap, addRegisters, addInspector,
-  addWindow, addAsking, addPresenting, addAddress, addKeys, addBand, addSaving, addHandout, addSteps, addControls];
+  addWindow, addAsking, addPresenting, addAddress, addKeys, addBand, addSaving, addEditing, addHandout, addSteps, addControls];
 
 // What the reader looks at.
 const viewOf = run => ({ step: 0, side: 'after', chosen: null, follow: true, probe: null, cursor: null, columns: run.columns, cell: 0,
@@ -41,15 +42,22 @@ export function tellFault(message) {
   fault.append(paragraph);
 }
 
+/**
+ * What a page around the viewer has for it: the trace's text, what stands first in an address, who tells the line of a word, and who is
+ * told the step.
+ * @typedef {{ text?: string, origin?: () => string[], lineOfWord?: ((word: string) => Promise<string | null>) | null, onStep?: (step: import('./run.js').Step) => void }} Host
+ */
+
 // Draws the run of a cursor into an element, and answers the viewer: what its parts have, and `close`, which takes it down. A
 // document has one at a time: it takes the keys, and the address.
-export function mount(root, cursor) {
+/** @param {any} root @param {import('./cursor.js').Cursor} cursor @param {Host} host */
+export function mount(root, cursor, host = {}) {
   const { run } = cursor, ending = new AbortController(), byId = id => root.querySelector('#' + id);
   root.replaceChildren(/** @type {HTMLTemplateElement} */ (document.querySelector('#page')).content.cloneNode(true));
   // Whether a key is for a field, for the table of keys, or for the browser.
   const isTyped = event => event.ctrlKey || event.metaKey || event.altKey || byId('keys').open ||
-    event.target.matches('input:not([type=checkbox], [type=range]), select');
-  const viewer = { root, cursor, run, byId, isTyped, tellFault, view: viewOf(run), longLists: [], signal: ending.signal };
+    event.target.matches('input:not([type=checkbox], [type=range]), select, textarea');
+  const viewer = { root, cursor, run, host, byId, isTyped, tellFault, view: viewOf(run), longLists: [], signal: ending.signal };
   for (const addPart of PARTS) addPart(viewer);
   viewer.close = () => {
     viewer.stopPlaying();

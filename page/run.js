@@ -149,15 +149,15 @@ function summaryOf(run) {
 }
 
 // The run of a trace, from its text and from the data of ./heap_states: lines of JSON, of which the first tells the heap, which is
-// step 0, and the last the sums at the end. What can't be read is an Error.
+// step 0, and the last the sums at the end. What can't be read is an Error. It yields after each line.
 /** @param {string} text @param {string} data */
-export function parseRun(text, data) {
+export function* readRun(text, data) {
   const own = readTrace(text);
   /** @type {Run} */
   let run = null;
   /** @type {Cursor} */
   let cursor = null;
-  data.split('\n').filter(line => line !== '').forEach((line, number) => {
+  for (const [number, line] of data.split('\n').filter(each => each !== '').entries()) {
     try {
       const value = JSON.parse(line);
       need((number === 0) === (value.heap !== undefined), 'the heap is the first line, and no other');
@@ -170,9 +170,19 @@ export function parseRun(text, data) {
     } catch (problem) {
       throw new Error(`Line ${number + 1} of the data can't be read: ${problem.message}.`);
     }
-  });
+    yield;
+  }
   need(run !== null && run.end !== null, 'The data is not whole.');
   need(run.steps.length === own.counted.length, 'The data has not as many commands as the trace.');
   cursor.moveTo(0);
   return Object.assign(run, summaryOf(run));
+}
+
+// The same at once.
+/** @param {string} text @param {string} data */
+export function parseRun(text, data) {
+  const reading = readRun(text, data);
+  let read = reading.next();
+  while (!read.done) read = reading.next();
+  return read.value;
 }

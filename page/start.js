@@ -3,18 +3,20 @@
 import { Cursor } from './cursor.js';
 import { mount, tellFault } from './main.js';
 import { parseRun } from './run.js';
-import { textOf } from './trace.js';
+import { shownText, textOf } from './trace.js';
 
 let heapViewer = null;
 
-function readRun() {
+const onlyText = textOf(document.querySelector('#trace-text').textContent);
+
+function readOnlyRun() {
   try {
-    return parseRun(textOf(document.querySelector('#trace-text').textContent), document.querySelector('#states').textContent);
+    return parseRun(shownText(onlyText), document.querySelector('#states').textContent);
   } catch (problem) {
     tellFault(problem.message);
     return null;
   }
 }
 
-const onlyRun = readRun();
-if (onlyRun) heapViewer = mount(document.querySelector('#root'), new Cursor(onlyRun));
+const onlyRun = readOnlyRun();
+if (onlyRun) heapViewer = mount(document.querySelector('#root'), new Cursor(onlyRun), { text: onlyText });

@@ -73,6 +73,7 @@ export function addSteps(viewer) {
     viewer.drawThree();
     viewer.drawAsk();
     viewer.keepAddress();
+    viewer.host.onStep?.(run.steps[view.step]);
     for (const set of Object.values(state.touched)) set.clear();
   }
 

@@ -1,9 +1,14 @@
 // The trace's own text: its lines as they were written, and its comments beside the commands that follow them.
 
-// Bytes that are no UTF-8 become U+FFFD, and control characters are shown by their pictures.
+import { decodeBase64 } from './link.js';
+
+// Of base64. Bytes that are no UTF-8 become U+FFFD.
 export function textOf(encoded) {
-  const bytes = Uint8Array.from(atob(encoded), character => character.charCodeAt(0));
-  const text = new TextDecoder('utf-8', { ignoreBOM: true }).decode(bytes);
+  return new TextDecoder('utf-8', { ignoreBOM: true }).decode(decodeBase64(encoded));
+}
+
+// Control characters are shown by their pictures.
+export function shownText(text) {
   const pictureOf = control => String.fromCharCode(0x2400 + control.charCodeAt(0));
   return text.replace(/[\0-\x08\x0b\x0c\x0e-\x1f]/g, pictureOf).replace(/\x7f/g, '\u2421');
 }

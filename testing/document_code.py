@@ -99,6 +99,8 @@ class Code:
     @functools.lru_cache(maxsize=None)
     def exports(self, crate, module=""):
         """What a module of a crate exports: by its name the crate and the module in which it stands."""
+        if f"crates/{crate}/src/lib.rt" not in self.files:
+            return {}  # of the toolchain
         text = self.text(f"crates/{crate}/src/{(module or 'lib').replace('::', '/')}.rt")
         found = {name: (crate, module) for name in ITEM.findall(text)}
         for start, path, names, name in USE.findall(text):

@@ -29,10 +29,10 @@ def program():
 
 
 class Firefox:
-    def __init__(self, program_path):
+    def __init__(self, program_path, *switched_off):
         self.profile = tempfile.TemporaryDirectory(ignore_cleanup_errors=True)
         folder, self.buffer, self.number = pathlib.Path(self.profile.name), b"", 0
-        (folder / "user.js").write_text('user_pref("marionette.port", 0);\n')
+        (folder / "user.js").write_text('user_pref("marionette.port", 0);\n' + "".join(f'user_pref("{name}", false);\n' for name in switched_off))
         self.process = subprocess.Popen([program_path, "--headless", "--no-remote", "--profile", folder, "--marionette", "about:blank"],
                                         stdout=subprocess.DEVNULL, stderr=subprocess.DEVNULL)
         try:

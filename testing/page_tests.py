@@ -600,24 +600,30 @@ class Tests(page_long.LongTests):
         self.no_noise("on paper")
 
     def modules(self, root):
-        """Their types are checked, where there is tsc. ./heap_page makes one script of the modules, so nothing else sees what they import: each name is exported there and used here,
-        no two modules have a name in common, and each stands behind those that it imports."""
-        parts = re.search(r"^parts=\((.*?)\)", (root / "heap_page").read_text(), re.M | re.S)[1].split()
-        texts = {part: (root / f"page/{part}.js").read_text() for part in parts}
+        """Their types are checked, where there is tsc. ./heap_page makes one script of the modules of a page, so nothing else sees what they import."""
+        parts, played = (re.search(rf"^{name}=\((.*?)\)", (root / "heap_page").read_text(), re.M | re.S)[1].split() for name in ("parts", "played"))
         if shutil.which("tsc"):
             told = subprocess.run(["tsc", "-p", root / "page"], capture_output=True, text=True)
             self.check("the types of the modules", (told.returncode, told.stdout), (0, ""))
         else:
             print("skipped: the types of the page's modules: no tsc (node-typescript)")
-        self.check("the modules are those in page/", sorted(parts), sorted(path.stem for path in (root / "page").glob("*.js")))
-        exported = {part: set(re.findall(r"^export (?:const|let|function|class) (\w+)", text, re.M)) for part, text in texts.items()}
-        owned = [name for text in texts.values() for name in re.findall(r"^(?:export )?(?:const|let|function|class) (\w+)", text, re.M)]
-        self.check("no two modules have a name in common", sorted({name for name in owned if owned.count(name) > 1}), [])
+        there = sorted(str(path.relative_to(root / "page").with_suffix("")) for path in (root / "page").rglob("*.js") if path.parent.name != "codemirror")
+        self.check("the modules are those in page/", sorted([*parts, *played, "start", "playground/host"]), there)
+        self.modules_of(root, [*parts, "start"])
+        self.modules_of(root, [*parts, *played])
+
+    def modules_of(self, root, parts):
+        """Each name is exported in one module and used in another, no two modules have a name in common, and each stands behind those that it imports."""
+        texts = {part: (root / f"page/{part}.js").read_text() for part in parts}
+        exported = {part: set(re.findall(r"^export (?:async )?(?:const|let|function\*?|class) (\w+)", text, re.M)) for part, text in texts.items()}
+        owned = [name for text in texts.values() for name in re.findall(r"^(?:export )?(?:async )?(?:const|let|function\*?|class) (\w+)", text, re.M)]
+        self.check(f"{parts[-1]}: no two modules have a name in common", sorted({name for name in owned if owned.count(name) > 1}), [])
         everywhere = {name: part for part, names in exported.items() for name in names}
         for part, text in texts.items():
-            imports = re.findall(r"^import \{ (.*?) \} from './(\w+)\.js';$", text, re.M)
+            imports = re.findall(r"^import \{ (.*?) \} from '(\.\.?/\w+)\.js';$", text, re.M)
             self.check(f"{part}: it imports no other way", text.count("\nimport "), len(imports))
-            named = {name: other for names, other in imports for name in names.split(", ")}
+            of = {place: os.path.normpath(os.path.join(os.path.dirname(part), place)) for _, place in imports}
+            named = {name: of[place] for names, place in imports for name in names.split(", ")}
             self.check(f"{part}: what it imports is exported there, by modules before it", [name for name, other in named.items() if name not in exported[other]
                        or parts.index(other) > parts.index(part)], [])
             body = re.sub(r"^import .*|//.*|'(?:[^'\\\n]|\\.)*'", "", text, flags=re.M)

@@ -13,12 +13,10 @@ ghost use Rattle.agreed_log.specs.Counting.{Grows, HasRoom};
 use crate::comparing::says_reply;
 use crate::counting::{count, count_event};
 use heap_log::{Tally, follow_event};
-use heap_machine::{Machine, any_placement_law};
+use heap_machine::{Machine, Stepper, any_placement_law};
 use heap_reply::ShortText;
+use host_memory::Global;
 use log_text::{Asked, asked_line, event_of_answer};
-use std::alloc::Global;
-use std::thread::Threads;
-use sweep_pool::Open;
 use trace_text::{Command, Line, split_line};
 
 /// A machine that has done the events so far, what they come to, and room for the text of a reply.
@@ -31,13 +29,14 @@ pub struct Judge {
 
 impl Judge {
     // Does a command, and compares its reply with what was told, which isn't read.
-    fn compare<R: Threads + Sync>(
+    fn compare<S: Stepper>(
         &mut self,
-        rt: &R,
+        stepper: &S,
         alloc: Global,
         command: Command,
         told: &Line<'_>,
     ) -> Option<()>
+        requires ready { S.ready }
         requires valid { IsValid command }
         requires safe { IsSafe self.old.machine.state }
         requires room { HasRoom self.old.tally }
@@ -46,7 +45,7 @@ impl Judge {
         ensures safe { IsSafe self.new.machine.state }
     {
         any_placement_law();
-        let stepped = self.machine.step(rt, alloc, command, &Open);
+        let stepped = stepper.step(&mut self.machine, alloc, command);
         // Where it lies: a copy of a reply that was just written waits for the cache.
         let Ok(reply) = &stepped else {
             return None;
@@ -60,13 +59,14 @@ impl Judge {
 
     // Reads what was told, and does it: a malloc's answer may name another place than a machine would, and a granule is
     // looked at.
-    fn read<R: Threads + Sync>(
+    fn read<S: Stepper>(
         &mut self,
-        rt: &R,
+        stepper: &S,
         alloc: Global,
         asked: Asked,
         told: &Line<'_>,
     ) -> Option<()>
+        requires ready { S.ready }
         requires valid { IsValidAsked asked }
         requires safe { IsSafe self.old.machine.state }
         requires room { HasRoom self.old.tally }
@@ -75,7 +75,7 @@ impl Judge {
         ensures safe { IsSafe self.new.machine.state }
     {
         let event = event_of_answer(asked, told)?;
-        let Ok(None) = follow_event(rt, alloc, &mut self.machine, event) else {
+        let Ok(None) = follow_event(stepper, alloc, &mut self.machine, event) else {
             return None;
         };
         count_event(&mut self.tally, &event);
@@ -84,13 +84,14 @@ impl Judge {
 
     // Judges what was asked and told.
     #[inline(always)]
-    fn event<R: Threads + Sync>(
+    fn event<S: Stepper>(
         &mut self,
-        rt: &R,
+        stepper: &S,
         alloc: Global,
         asked: Asked,
         told: &Line<'_>,
     ) -> Option<()>
+        requires ready { S.ready }
         requires valid { IsValidAsked asked }
         requires safe { IsSafe self.old.machine.state }
         requires room { HasRoom self.old.tally }
@@ -100,14 +101,15 @@ impl Judge {
     {
         match asked {
             Asked::Granule(_) | Asked::Command(Command::Malloc { .. }) => {
-                self.read(rt, alloc, asked, told)
+                self.read(stepper, alloc, asked, told)
             }
-            Asked::Command(command) => self.compare(rt, alloc, command, told),
+            Asked::Command(command) => self.compare(stepper, alloc, command, told),
         }
     }
 
     // Judges a line.
-    fn line<R: Threads + Sync>(&mut self, rt: &R, alloc: Global, line: &Line<'_>) -> Option<()>
+    fn line<S: Stepper>(&mut self, stepper: &S, alloc: Global, line: &Line<'_>) -> Option<()>
+        requires ready { S.ready }
         requires safe { IsSafe self.old.machine.state }
         requires room { HasRoom self.old.tally }
         ensures line { IfSome result (λ done. IsAgreedLine line.now self.old.machine.state self.new.machine.state self.old.tally self.new.tally) }
@@ -117,17 +119,18 @@ impl Judge {
         let Some((asked, told)) = asked_line(line)? else {
             return Some(());
         };
-        self.event(rt, alloc, asked, &told)
+        self.event(stepper, alloc, asked, &told)
     }
 
     /// Judges the lines of a text, of which the first has this number. None where one doesn't agree or isn't read.
-    pub fn lines<R: Threads + Sync>(
+    pub fn lines<S: Stepper>(
         &mut self,
-        rt: &R,
+        stepper: &S,
         alloc: Global,
         first: u32,
         text: &[u8],
     ) -> Option<()>
+        requires ready { S.ready }
         requires safe { IsSafe self.old.machine.state }
         requires fresh { self.old.tally ≡ tally_of [] }
         requires few { first + length text.now < 2 ^ 32 }
@@ -136,7 +139,7 @@ impl Judge {
         let mut number = first;
         let mut rest = text;
         while let Some((line, after)) = split_line(rest) {
-            self.line(rt, alloc, &line)?;
+            self.line(stepper, alloc, &line)?;
             rest = after;
             number += 1;
         }

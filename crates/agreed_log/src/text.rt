@@ -6,21 +6,22 @@ ghost use Rattle.agreed_log.specs.Agreed.{IsAgreed};
 use crate::judge::Judge;
 use given_state::start;
 use heap_log::Tally;
+use heap_machine::Stepper;
 use heap_reply::ShortText;
+use host_memory::Global;
 use log_text::read_start;
-use std::alloc::Global;
-use std::thread::Threads;
 use sweep_pool::Cutting;
 
 /// What the events of a log come to, where it agrees: its given lines are safe, and each event follows. Its sweeps are cut as
 /// `cutting` says. None says nothing: the text may be faulty or differ, or be a log that agrees in an unusual spelling, as
 /// with two blanks before an answer, or memory ran out.
-pub fn agreed<R: Threads + Sync>(
-    rt: &R,
+pub fn agreed<S: Stepper>(
+    stepper: &S,
     alloc: Global,
     text: &[u8],
     cutting: Cutting,
 ) -> Option<Tally>
+    requires ready { S.ready }
     ensures { IfSome result (IsAgreed text.now) }
 {
     let Ok(opening) = read_start(alloc, text) else {
@@ -39,6 +40,6 @@ pub fn agreed<R: Threads + Sync>(
         },
         text: ShortText::new(),
     };
-    judge.lines(rt, alloc, opening.next, opening.rest)?;
+    judge.lines(stepper, alloc, opening.next, opening.rest)?;
     Some(judge.tally)
 }

@@ -8,8 +8,8 @@ ghost use Rattle.byte_machine.specs.Judged.{IsJudgedBy};
 use crate::fault::CallFault;
 use crate::machines::machine_in;
 use heap_machine::{Followed, Machine, Reply, Why};
+use host_memory::Global;
 use state_bytes::{encode_into, exact_blocks_law};
-use std::alloc::Global;
 use sweep_pool::Open;
 use trace_text::Command;
 

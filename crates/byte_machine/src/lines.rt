@@ -8,7 +8,7 @@ ghost use Rattle.byte_machine.specs.LineCalls.{IsCommandOf, IsLineStep, IsNoComm
 use crate::fault::CallFault;
 use crate::stepping::step;
 use heap_reply::{Reply, ShortText, put_reply};
-use std::alloc::Global;
+use host_memory::Global;
 use trace_text::{Command, Line, command, split_name};
 
 /// The most bytes that the text of a reply has.

@@ -8,7 +8,7 @@ use crate::fault::CallFault;
 use crate::halves::{flag, high_half, low_half};
 use crate::machines::machine_in;
 use heap_machine::Machine;
-use std::alloc::Global;
+use host_memory::Global;
 use tag_memory::{GRANULE, REGISTERS};
 
 /// How many bytes lie in live blocks, in held blocks and in none, and 1 where an epoch is open, else 0.

@@ -8,8 +8,8 @@ ghost use Rattle.byte_machine.specs.Calls.{IsTextOf, IsUnreadable};
 
 use crate::fault::CallFault;
 use heap_machine::Machine;
+use host_memory::Global;
 use state_bytes::{BytesFault, decode, encode, encode_into, one_text_law, text_length};
-use std::alloc::Global;
 use sweep_pool::Cutting;
 
 // More pages than a task of one worker needs, so that a pass is one task.

@@ -8,12 +8,12 @@ ghost use Rattle.byte_machine.specs.Runs.{IsReportOf};
 
 use crate::machines::alone;
 use heap_trace::{Outcome, RunFault, TraceFault, run_alone};
+use host_memory::Global;
 use state_data::states_alone;
-use std::alloc::Global;
 
 /// The report of the trace that a text is. Nothing runs where the text is faulty. Want of memory is `RunFault::Memory`, also
 /// while the text is read.
-pub fn run_report(alloc: Global, text: &[u8]) -> Result<Vec<u8>, RunFault>
+pub fn run_report(alloc: Global, text: &[u8]) -> Result<Vec<u8, Global>, RunFault>
     ensures report { IfOk result (λ report. IsReportOf text.now report.items) }
     ensures fault { (fault : TheTraceFault) → result ≡ Err (RunFault.Trace fault) → trace_of text.now ≡ Err fault }
     ensures memory { result ≢ Err (RunFault.Trace TraceFault.Memory) }
@@ -29,7 +29,7 @@ pub fn run_report(alloc: Global, text: &[u8]) -> Result<Vec<u8>, RunFault>
 
 /// The states of the trace that a text is, as data. Nothing runs where the text is faulty. Want of memory is
 /// `RunFault::Memory`, also while the text is read.
-pub fn run_states(alloc: Global, text: &[u8]) -> Result<Vec<u8>, RunFault>
+pub fn run_states(alloc: Global, text: &[u8]) -> Result<Vec<u8, Global>, RunFault>
     ensures states { IfOk result (λ told. IsDataOf text.now told.items) }
     ensures fault { (fault : TheTraceFault) → result ≡ Err (RunFault.Trace fault) → trace_of text.now ≡ Err fault }
     ensures memory { result ≢ Err (RunFault.Trace TraceFault.Memory) }

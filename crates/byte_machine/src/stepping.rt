@@ -11,8 +11,8 @@ ghost use Rattle.byte_machine.specs.Calls.{IsFirst, IsJudged, IsNotFirst, IsStep
 use crate::fault::CallFault;
 use crate::machines::{alone, machine_in};
 use heap_machine::{Followed, Machine, Reply};
+use host_memory::Global;
 use state_bytes::{encode_into, exact_blocks_law, text_length};
-use std::alloc::Global;
 use sweep_pool::Open;
 use tag_memory::{is_base, is_size};
 use trace_text::Command;

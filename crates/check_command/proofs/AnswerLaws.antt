@@ -8,7 +8,8 @@ use Rattle.log_text.specs.Log.{Record}
 use Rattle.program_devices.specs.declared.answer.Answer.{Answer}
 use Rattle.program_devices.specs.Answer.{refusal_line, refusal_status, status_of, text_of}
 use Rattle.program_devices.specs.Device.{ReadsUpTo}
-use Rattle.check_command.specs.Answer.{IsAnswer, IsJudged, IsLogAnswer, agrees, differs, judged, judges, lacks, lacks_memory, most_read, names_fault, refuses}
+use Rattle.log_answer.specs.Answer.{IsJudged, IsLogAnswer, agrees, differs, judged, lacks, names_fault}
+use Rattle.check_command.specs.Answer.{IsAnswer, judges, lacks_memory, most_read, refuses}
 use Rattle.check_command.specs.Text.{usage_line}
 
 -- No answer has the status 4.

@@ -1,3 +1,1 @@
 mod AnswerLaws
-mod DueLaws
-mod JudgedLaws

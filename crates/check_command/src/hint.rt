@@ -2,8 +2,9 @@
 
 ghost use Rattle.std.specs.Prelude.{◌≤◌, length};
 
+use host_memory::Global;
 use log_text::{Asked, LogFault, asked_line, event_of_answer, parse};
-use std::alloc::{AllocError, Global};
+use std::alloc::AllocError;
 use trace_text::{Line, TraceFault, split_line, split_name};
 
 // One answer of each form, with all words that it may have.
@@ -121,14 +122,14 @@ fn wrong_in<'a>(alloc: Global, line: &Line<'a>) -> Result<Wrong<'a>, AllocError>
 }
 
 // A word as it may be told: its first bytes, and a `?` for each that isn't printed.
-fn push_shown(text: &mut Vec<u8>, word: &[u8]) -> Result<(), AllocError> {
+fn push_shown(text: &mut Vec<u8, Global>, word: &[u8]) -> Result<(), AllocError> {
     for byte in &word[..word.len().min(MOST_TOLD)] {
         text.push(if byte.is_ascii_graphic() { *byte } else { b'?' })?;
     }
     Ok(())
 }
 
-fn push_wrong(text: &mut Vec<u8>, wrong: Wrong<'_>) -> Result<(), AllocError> {
+fn push_wrong(text: &mut Vec<u8, Global>, wrong: Wrong<'_>) -> Result<(), AllocError> {
     match wrong {
         Wrong::NoArrow => text.extend_from_slice(b"it has no arrow -> between blanks"),
         Wrong::Ends => text.extend_from_slice(b"its answer ends too early"),
@@ -160,7 +161,7 @@ fn lacks_arrow(line: &Line<'_>) -> bool {
 
 /// The line that names the word which isn't taken in the first answer of a log that isn't read, or says that it has no arrow;
 /// nothing for other texts.
-pub fn hint(alloc: Global, log: &[u8]) -> Result<Option<Vec<u8>>, AllocError> {
+pub fn hint(alloc: Global, log: &[u8]) -> Result<Option<Vec<u8, Global>>, AllocError> {
     let Err(fault) = parse(alloc, log) else {
         return Ok(None);
     };

@@ -1,10 +1,8 @@
 //! The program that judges logs of allocators, over any devices: words and bytes in, an exit status and lines out.
 #![tactic(auto)]
 
-mod due_lines;
+mod checking;
 mod hint;
-mod judging;
-mod lines;
 mod program;
 
 pub use crate::program::{check_tool, refuse};

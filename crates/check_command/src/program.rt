@@ -9,12 +9,12 @@ ghost use Rattle.program_devices.specs.Device.{AppendsBeginning, ReadsFew};
 ghost use Rattle.check_command.specs.Answer.{IsAnswer, most_read};
 ghost use Rattle.check_command.specs.Text.{usage_line};
 
+use crate::checking::check_answer;
 use crate::hint::hint;
-use crate::judging::check_answer;
 use command_line::{Refusal, states_options_by};
+use host_memory::Global;
 use log_text::LONGEST_LOG;
 use program_devices::{Answer, ReadFault, Sink, Source, give, read_text};
-use std::alloc::Global;
 use std::thread::Threads;
 
 const USAGE: &[u8] = b"usage: heap_check [--workers N] [--cut N]\n";

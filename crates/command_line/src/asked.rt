@@ -9,7 +9,8 @@ ghost use Rattle.command_line.specs.Asked.{AreAccepted, AsksFor, AsksOnlyFor, Gi
 
 use clap::error::ErrorKind;
 use clap::{Arg, ArgAction, ArgMatches, Command, Error};
-use std::alloc::{AllocError, Global};
+use host_memory::Global;
+use std::alloc::AllocError;
 
 /// What the words of a command line ask for.
 #[derive(Drop)]
@@ -92,7 +93,7 @@ fn without_image(options: Options) -> Result<Options, Refusal>
 }
 
 // The words with `heap_tool run` in place of the first.
-fn words_of_run<'a>(alloc: Global, words: &'a [&'a str]) -> Result<Vec<&'a str>, AllocError>
+fn words_of_run<'a>(alloc: Global, words: &'a [&'a str]) -> Result<Vec<&'a str, Global>, AllocError>
     ensures { IfOk result (λ run. texts run.items ≡ with_run (texts words.entry.now)) }
 {
     let mut run = vec![in alloc; "heap_tool", "run"]?;

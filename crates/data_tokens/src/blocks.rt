@@ -12,6 +12,7 @@ ghost use Rattle.data_tokens.specs.Spans.{span_of, spans_of};
 
 use crate::cells::put_address;
 use crate::data_line::DataLine;
+use host_memory::Global;
 use std::alloc::AllocError;
 use std::collections::BinaryHeap;
 
@@ -40,7 +41,7 @@ impl HeldBlock {
 
 /// These blocks in the order of their starts.
 // By a heap, which takes no memory, and makes no call within a call.
-pub fn in_order(blocks: Vec<HeldBlock>) -> Vec<HeldBlock>
+pub fn in_order(blocks: Vec<HeldBlock, Global>) -> Vec<HeldBlock, Global>
     ensures same { IsPermutation (spans_of result.items) (spans_of blocks.items) }
     ensures rise { IsNonDecreasingBy start_of (spans_of result.items) }
 {

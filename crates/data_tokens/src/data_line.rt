@@ -5,6 +5,7 @@ ghost use Rattle.json.specs.Print.{print};
 ghost use Rattle.json.specs.Token.{begin_array, begin_object, boolean, end_array, end_object, key, number, string};
 ghost use Rattle.data_tokens.specs.Line.{with_tokens};
 
+use host_memory::Global;
 use json::Writer;
 use std::alloc::AllocError;
 use std::marker::Model;
@@ -12,7 +13,7 @@ use std::marker::Model;
 /// A line of data.
 #[derive(Drop)]
 pub struct DataLine {
-    writer: Writer,
+    writer: Writer<Global>,
 }
 
 impl Model for DataLine {
@@ -25,7 +26,7 @@ impl Model for DataLine {
 
 impl DataLine {
     /// An empty line, in the room of what this holds.
-    pub fn within(room: Vec<u8>) -> DataLine
+    pub fn within(room: Vec<u8, Global>) -> DataLine
         ensures { result ≡ record { before = []; tokens = [] } }
     {
         let mut room = room;
@@ -36,7 +37,7 @@ impl DataLine {
     }
 
     /// The line's JSON, after the text before it.
-    pub fn finish(self) -> Vec<u8>
+    pub fn finish(self) -> Vec<u8, Global>
         ensures { result.items ≡ self.before ++ print self.tokens }
     {
         self.writer.into_inner()

@@ -9,8 +9,8 @@ ghost use Rattle.given_state.specs.Giving.{AreLiveInTurn, IsLive};
 
 use crate::fault::{Lack, StartFault};
 use heap_core::{Claim, Heap, Kind};
+use host_memory::Global;
 use log_text::Given;
-use std::alloc::Global;
 
 // The bounds of the block that a line gives.
 fn bounds_given(given: Given) -> Option<(u64, u128)>

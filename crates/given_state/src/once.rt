@@ -5,8 +5,9 @@ ghost use Rattle.given_state.specs.Given.{AreGivenOnce, GivesAgain};
 ghost use Rattle.given_state.specs.Giving.{IsFaultOfWords, IsNotedAs, place_number};
 
 use crate::fault::{Lack, StartFault};
+use host_memory::Global;
 use log_text::Given;
-use std::alloc::{AllocError, Global};
+use std::alloc::AllocError;
 use std::collections::BTreeMap;
 
 // The number of the register or the granule that a line gives.
@@ -38,7 +39,11 @@ fn lack_again(given: Given, earlier: u32) -> Option<Lack>
 }
 
 // Notes the line for what it gives, or answers the line that was noted for that already.
-fn note(noted: &mut BTreeMap<u128, u32>, line: u32, given: Given) -> Result<Option<u32>, AllocError>
+fn note(
+    noted: &mut BTreeMap<u128, u32, Global>,
+    line: u32,
+    given: Given,
+) -> Result<Option<u32>, AllocError>
     ensures { IfOk result (IsNotedAs noted.old noted.new line (place_number given)) }
 {
     let Some(number) = number_of(given) else {
@@ -56,7 +61,7 @@ pub fn check_once(alloc: Global, givens: &[(u32, Given)]) -> Result<(), StartFau
     ensures once { OnOk result (AreGivenOnce givens.now) }
     ensures fault { IfErr result (IsFaultOfWords givens.now) }
 {
-    let mut noted: BTreeMap<u128, u32> = BTreeMap::new(alloc);
+    let mut noted: BTreeMap<u128, u32, Global> = BTreeMap::new(alloc);
     for (line, given) in givens {
         let Ok(found) = note(&mut noted, *line, *given) else {
             return Err(StartFault::Memory);

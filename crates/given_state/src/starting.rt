@@ -14,8 +14,8 @@ use crate::once::check_once;
 use crate::words::hold_all;
 use heap_core::Heap;
 use heap_machine::Machine;
+use host_memory::Global;
 use log_text::Given;
-use std::alloc::Global;
 use sweep_pool::Cutting;
 use tag_memory::{Memory, Registers};
 

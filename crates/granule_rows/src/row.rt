@@ -8,7 +8,8 @@ use crate::find::{first_from, first_in};
 use crate::ranges::{add_words, clear_run, set_run};
 use crate::summary::Summary;
 use crate::tree::renew;
-use std::alloc::{AllocError, Global};
+use host_memory::Global;
+use std::alloc::AllocError;
 use std::marker::Model;
 use tag_memory::{WORD_GRANULES, row_bit};
 
@@ -16,9 +17,9 @@ use tag_memory::{WORD_GRANULES, row_bit};
 #[derive(Drop)]
 pub struct FreeRow {
     // Bit `j` of word `w` is that of granule `64 * w + j`.
-    words: Vec<u64>,
+    words: Vec<u64, Global>,
     // The tree of their summaries.
-    nodes: Vec<Summary>,
+    nodes: Vec<Summary, Global>,
 }
 
 impl Model for FreeRow {

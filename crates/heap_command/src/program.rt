@@ -8,8 +8,8 @@ ghost use Rattle.program_devices.specs.Device.{ReadsFew, most_read};
 ghost use Rattle.tool_program.specs.Answer.{IsAnswer};
 
 use heap_machine::Workers;
+use host_memory::Global;
 use program_devices::{Sink, Source};
-use std::alloc::Global;
 use std::thread::Threads;
 use tool_program::tool_by;
 

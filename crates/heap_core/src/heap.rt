@@ -17,7 +17,7 @@ use crate::fault::HeapFault;
 use crate::shape::{granules_for, shape_for};
 use crate::table::Table;
 use heap_model::Block;
-use std::alloc::Global;
+use host_memory::Global;
 use std::marker::Model;
 use tag_memory::{GRANULE, PAGE_GRANULES, WORD_GRANULES, is_base, is_size};
 
@@ -29,7 +29,7 @@ pub struct Heap {
     // The blocks, of which those that are due are held.
     table: Table,
     // At which granules a late block starts, which was given up in the open epoch: bits in words of 64.
-    late: Vec<u64>,
+    late: Vec<u64, Global>,
     // Whether an epoch is open.
     is_open: bool,
     // How many granules lie in live blocks, in those that are due, and in late ones.

@@ -6,7 +6,8 @@ ghost use Rattle.heap_core.specs.Rows.{AreGiven, AreRows, row_granules};
 ghost use Rattle.tag_memory.specs.Tags.{is_set_for};
 
 use granule_rows::{FreeRow, clear_run, clear_words, set_run};
-use std::alloc::{AllocError, Global};
+use host_memory::Global;
+use std::alloc::AllocError;
 use tag_memory::{WORD_GRANULES, lowest_bit, without_lowest};
 
 // Bits and words of a row that the granules of one page have.
@@ -20,11 +21,11 @@ pub struct Rows {
     /// Granules that lie in no block.
     pub free: FreeRow,
     /// Granules at which a block starts.
-    pub starts: Vec<u64>,
+    pub starts: Vec<u64, Global>,
     /// Granules that lie in due blocks: the shadow, kept up as blocks are released.
-    pub due: Vec<u64>,
+    pub due: Vec<u64, Global>,
     /// Pages that have such a granule, and maybe some that have none.
-    pub due_pages: Vec<u64>,
+    pub due_pages: Vec<u64, Global>,
 }
 
 impl Rows {

@@ -14,8 +14,9 @@ use crate::rows::Rows;
 use crate::shape::Shape;
 use granule_rows::{count_both, last_set, place_of_both, row_bit};
 use heap_model::{Block, Freed, Kind, Shadow};
+use host_memory::Global;
 use mark_board::{Board, MarkSeat};
-use std::alloc::{AllocError, Global};
+use std::alloc::AllocError;
 use std::marker::Model;
 use tag_memory::{GRANULE, WORD_GRANULES, lowest_bit, without_lowest};
 
@@ -24,7 +25,7 @@ use tag_memory::{GRANULE, WORD_GRANULES, lowest_bit, without_lowest};
 pub struct Table {
     // The length in granules of the block that starts at a granule, where one does. Where none does
     // an entry may be left over from an earlier block.
-    lengths: Vec<u32>,
+    lengths: Vec<u32, Global>,
     rows: Rows,
 }
 

@@ -8,7 +8,8 @@ ghost use Rattle.heap_log.specs.Due.{as_list, due_base, due_granules, due_regist
 use cap_codec::{Word, bounds};
 use heap_core::Heap;
 use heap_machine::Machine;
-use std::alloc::{AllocError, Global};
+use host_memory::Global;
+use std::alloc::AllocError;
 use tag_memory::{GRANULE, REGISTERS};
 
 /// A word that is tagged, with its base in a block that is due, and where it stands.
@@ -52,7 +53,7 @@ fn in_granule(machine: &Machine, i: usize) -> Option<DueWord>
     Some(DueWord::Granule { address, base })
 }
 
-fn push(words: &mut Vec<DueWord>, word: Option<DueWord>) -> Result<(), AllocError>
+fn push(words: &mut Vec<DueWord, Global>, word: Option<DueWord>) -> Result<(), AllocError>
     ensures { IfOk result (λ done. words.new.items ≡ words.old.items ++ as_list word) }
 {
     let Some(word) = word else {
@@ -62,7 +63,7 @@ fn push(words: &mut Vec<DueWord>, word: Option<DueWord>) -> Result<(), AllocErro
     Ok(())
 }
 
-fn push_registers(words: &mut Vec<DueWord>, machine: &Machine) -> Result<(), AllocError>
+fn push_registers(words: &mut Vec<DueWord, Global>, machine: &Machine) -> Result<(), AllocError>
     ensures { IfOk result (λ done. words.new.items
         ≡ words.old.items ++ due_registers (due machine.now.state.heap) machine.now.state.registers register_count) }
 {
@@ -72,7 +73,7 @@ fn push_registers(words: &mut Vec<DueWord>, machine: &Machine) -> Result<(), All
     Ok(())
 }
 
-fn push_granules(words: &mut Vec<DueWord>, machine: &Machine) -> Result<(), AllocError>
+fn push_granules(words: &mut Vec<DueWord, Global>, machine: &Machine) -> Result<(), AllocError>
     ensures { IfOk result (λ done. words.new.items
         ≡ words.old.items ++ due_granules (due machine.now.state.heap) machine.now.state.heap.base machine.now.state.granules (length machine.now.state.granules)) }
 {
@@ -87,7 +88,7 @@ pub fn due_words(
     alloc: Global,
     machine: &Machine,
     registers_too: bool,
-) -> Result<Vec<DueWord>, AllocError>
+) -> Result<Vec<DueWord, Global>, AllocError>
     ensures { IfOk result (λ words. words.items ≡ due_words registers_too machine.now.state) }
 {
     let mut words = Vec::new(alloc);

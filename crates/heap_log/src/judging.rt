@@ -10,11 +10,9 @@ use crate::laws::safe_log_law;
 use crate::seeing::see;
 use crate::tallying::tally;
 use crate::verdict::{Difference, Verdict};
-use heap_machine::{Followed, Machine, MachineFault};
+use heap_machine::{Followed, Machine, MachineFault, Stepper};
+use host_memory::Global;
 use log_text::Event;
-use std::alloc::Global;
-use std::thread::Threads;
-use sweep_pool::Open;
 use trace_text::Command;
 
 // Tells what the type of a command says of its numbers, for the law `logs`. Nothing is done.
@@ -34,12 +32,13 @@ fn fit(event: Event)
 }
 
 /// Judges one event on a machine that has done all before it.
-pub fn follow_event<R: Threads + Sync>(
-    rt: &R,
+pub fn follow_event<S: Stepper>(
+    stepper: &S,
     alloc: Global,
     machine: &mut Machine,
     event: Event,
 ) -> Result<Option<Difference>, MachineFault>
+    requires ready { S.ready }
     requires valid { IsValidEvent event }
     ensures found { IfOk result (λ found. IsFound machine.old.state event found machine.new.state) }
     ensures memory { IfErr result (λ fault. fault ≡ MachineFault.Memory) }
@@ -48,7 +47,7 @@ pub fn follow_event<R: Threads + Sync>(
 {
     match event {
         Event::Done { command, answer } => {
-            match machine.follow(rt, alloc, command, answer, &Open)? {
+            match stepper.follow(machine, alloc, command, answer)? {
                 Followed::Agrees => Ok(None),
                 Followed::Differs(why) => Ok(Some(Difference::Answer(why))),
             }
@@ -63,12 +62,13 @@ pub fn follow_event<R: Threads + Sync>(
 
 /// Judges the events of a log on a machine in any state. The machine does each command as it was answered, up to the
 /// first event that may not happen. Where memory runs out, it has done the commands before.
-pub fn judge<R: Threads + Sync>(
-    rt: &R,
+pub fn judge<S: Stepper>(
+    stepper: &S,
     alloc: Global,
     machine: &mut Machine,
     events: &[(u32, Event)],
 ) -> Result<Verdict, MachineFault>
+    requires ready { S.ready }
     requires valid { All IsListedEvent events.now }
     requires count { length events.now < 2 ^ 32 }
     ensures verdict { IfOk result (λ verdict. IsVerdict machine.old.state events.now verdict machine.new.state) }
@@ -80,7 +80,7 @@ pub fn judge<R: Threads + Sync>(
     safe_log_law();
     for (count, (line, event)) in events.iter().enumerate() {
         fit(*event);
-        if let Some(difference) = follow_event(rt, alloc, machine, *event)? {
+        if let Some(difference) = follow_event(stepper, alloc, machine, *event)? {
             return Ok(Verdict::Differs {
                 line: *line,
                 count,

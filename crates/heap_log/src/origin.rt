@@ -11,11 +11,10 @@ use crate::judging::follow_event;
 use crate::laws::safe_log_law;
 use cap_codec::{Word, bounds};
 use heap_core::Block;
-use heap_machine::{Machine, MachineFault};
+use heap_machine::{Machine, MachineFault, Stepper};
 use heap_reply::Reply;
+use host_memory::Global;
 use log_text::{Event, Given};
-use std::alloc::Global;
-use std::thread::Threads;
 use trace_text::Command;
 
 // Whether these are the bounds of a block.
@@ -99,13 +98,14 @@ fn frees(block: Block, machine: &Machine, event: Event) -> bool
 
 /// The line of the last event that frees the block, on a machine that is as it was before the first of them. All of them
 /// have to follow, and the machine does them.
-pub fn freed_line<R: Threads + Sync>(
-    rt: &R,
+pub fn freed_line<S: Stepper>(
+    stepper: &S,
     alloc: Global,
     machine: &mut Machine,
     events: &[(u32, Event)],
     block: Block,
 ) -> Result<Option<u32>, MachineFault>
+    requires ready { S.ready }
     requires valid { All IsListedEvent events.now }
     requires follow { (last : State) × AllFollow machine.old.state events.now last }
     ensures last { IfOk result (λ found. IsLastFree machine.old.state block events.now found machine.new.state) }
@@ -115,7 +115,7 @@ pub fn freed_line<R: Threads + Sync>(
     let mut found = None;
     for (line, event) in events {
         found = noted(frees(block, machine, *event), *line, found);
-        follow_event(rt, alloc, machine, *event)?;
+        follow_event(stepper, alloc, machine, *event)?;
     }
     Ok(found)
 }

@@ -15,8 +15,8 @@ mod stepping;
 
 pub use crate::machine::making::Flaw;
 use heap_core::Heap;
+use host_memory::Global;
 use machine_storage::{MachineFault, Storage};
-use std::alloc::Global;
 use std::marker::Model;
 use sweep_pool::Cutting;
 use tag_memory::{Memory, MemoryFault, Registers};

@@ -8,8 +8,8 @@ ghost use Rattle.machine_storage.specs.Storage.{IsStorage};
 ghost use Rattle.machine_storage.specs.Passes.{IsFound};
 
 use heap_core::Shadow;
+use host_memory::Global;
 use machine_storage::{Found, Storage};
-use std::alloc::Global;
 use std::thread::Threads;
 use sweep_pool::{
     Cutting, Gate, Open, paint_shadow, sweep_dirty, sweep_dirty_alone, sweep_masks,
@@ -57,7 +57,7 @@ fn masks_by_workers<R: Threads + Sync, G: Gate + Sync>(
     cutting: Cutting,
     shadow: &Shadow,
     gate: &G,
-) -> Option<Vec<u64>>
+) -> Option<Vec<u64, Global>>
     requires { IsShadow storage.now.heap shadow.now }
     ensures { IsStorage storage.now → IfSome result (λ masks. TakeTags storage.now.memory (due storage.now.heap) masks.items) }
 {
@@ -91,7 +91,7 @@ fn masks_alone<G: Gate>(
     cutting: Cutting,
     shadow: &Shadow,
     gate: &G,
-) -> Option<Vec<u64>>
+) -> Option<Vec<u64, Global>>
     requires { IsShadow storage.now.heap shadow.now }
     ensures { IsStorage storage.now → IfSome result (λ masks. TakeTags storage.now.memory (due storage.now.heap) masks.items) }
 {

@@ -15,7 +15,7 @@ ghost use Rattle.machine_steps.specs.Safety.{IsSafe};
 
 use crate::machine::Machine;
 use crate::stepper::{Alone, Stepper, Workers};
-use std::alloc::Global;
+use host_memory::Global;
 use std::thread::Threads;
 use sweep_pool::Cutting;
 use trace_report::{Outcome, Report, RunFault, Runner, Sums};

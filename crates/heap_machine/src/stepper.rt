@@ -1,16 +1,17 @@
 //! Who makes the passes of a run: threads, or the calling thread alone.
 
-ghost use Rattle.std.specs.Prelude.{◌≡◌, IfErr, IfOk, IsOk, OnErr, OnOk};
+ghost use Rattle.std.specs.Prelude.{◌≡◌, ◌≢◌, IfErr, IfOk, IsOk, OnErr, OnOk};
 ghost use denote.Param.Send.{IsSync};
 ghost use Rattle.trace_text.specs.Command.{IsValid};
 ghost use Rattle.machine_steps.specs.Dirty.{IsDirtied, dirty_after};
 ghost use Rattle.machine_steps.specs.Safety.{IsSafe, IsUnused, LeavesInUse};
 ghost use Rattle.machine_steps.specs.Step.{Step, NeedsNoMemory};
+ghost use Rattle.machine_storage.specs.Followed.{FollowsFreely, IsFollowed};
 
 use crate::machine::Machine;
 use heap_reply::Reply;
-use machine_storage::MachineFault;
-use std::alloc::Global;
+use host_memory::Global;
+use machine_storage::{Followed, MachineFault};
 use std::thread::Threads;
 use sweep_pool::Open;
 use trace_text::Command;
@@ -39,6 +40,27 @@ pub trait Stepper {
         ensures revoked { IfOk result (λ reply. LeavesInUse command reply machine.new.state) }
         ensures dirty { OnOk result (machine.new.dirty ≡ dirty_after machine.old.state command machine.old.dirty) }
         ensures dirtied { IsDirtied machine.new.state machine.new.dirty };
+
+    /// Does one command as it was answered, as the machine's own `follow` does.
+    fn follow(
+        &self,
+        machine: &mut Machine,
+        alloc: Global,
+        command: Command,
+        answer: Reply,
+    ) -> Result<Followed, MachineFault>
+        requires ready { ready }
+        requires valid { IsValid command }
+        ensures followed { IfOk result (λ followed. IsFollowed machine.old.state command answer followed machine.new.state) }
+        ensures still { result ≢ Ok Followed.Agrees → machine.new ≡ machine.old }
+        ensures memory { IfErr result (λ fault. fault ≡ MachineFault.Memory) }
+        ensures ok { FollowsFreely machine.old.state command answer → IsOk result }
+        ensures cutting { machine.new.cutting ≡ machine.old.cutting }
+        ensures safe { IsSafe machine.new.state }
+        ensures unused { result ≡ Ok Followed.Agrees → IsUnused machine.old.state command answer }
+        ensures revoked { result ≡ Ok Followed.Agrees → LeavesInUse command answer machine.new.state }
+        ensures dirty { result ≡ Ok Followed.Agrees → machine.new.dirty ≡ dirty_after machine.old.state command machine.old.dirty }
+        ensures dirtied { IsDirtied machine.new.state machine.new.dirty };
 }
 
 /// The threads of a runtime, by its handle.
@@ -58,6 +80,16 @@ impl<R: Threads + Sync> Stepper for Workers<'_, R> {
     ) -> Result<Reply, MachineFault> {
         machine.step(self.rt, alloc, command, &Open)
     }
+
+    fn follow(
+        &self,
+        machine: &mut Machine,
+        alloc: Global,
+        command: Command,
+        answer: Reply,
+    ) -> Result<Followed, MachineFault> {
+        machine.follow(self.rt, alloc, command, answer, &Open)
+    }
 }
 
 /// The calling thread alone.
@@ -74,5 +106,15 @@ impl Stepper for Alone {
         command: Command,
     ) -> Result<Reply, MachineFault> {
         machine.step_alone(alloc, command, &Open)
+    }
+
+    fn follow(
+        &self,
+        machine: &mut Machine,
+        alloc: Global,
+        command: Command,
+        answer: Reply,
+    ) -> Result<Followed, MachineFault> {
+        machine.follow_alone(alloc, command, answer, &Open)
     }
 }

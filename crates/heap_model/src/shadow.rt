@@ -4,7 +4,8 @@ ghost use Rattle.std.specs.Prelude.{◌≡◌, ◌<◌, ◌*◌, ◌^◌, ℕ, I
 ghost use Rattle.heap_model.specs.Shadow.{bits_of};
 ghost use Rattle.tag_memory.specs.Tags.{is_set_for};
 
-use std::alloc::{AllocError, Global};
+use host_memory::Global;
+use std::alloc::AllocError;
 use std::marker::Model;
 use tag_memory::{WORD_GRANULES, row_bit};
 
@@ -13,7 +14,7 @@ use tag_memory::{WORD_GRANULES, row_bit};
 #[derive(Drop)]
 pub struct Shadow {
     // Bit `j` of word `w` is that of granule `64 * w + j`.
-    words: Vec<u64>,
+    words: Vec<u64, Global>,
     // 64 a word.
     granules: usize,
 }
@@ -43,7 +44,7 @@ impl Shadow {
 
     /// The shadow in which a granule is painted exactly where its bit is 1: bit `j` of word `w` is that of granule
     /// `64 * w + j`.
-    pub fn from_words(words: Vec<u64>, granules: usize) -> Shadow
+    pub fn from_words(words: Vec<u64, Global>, granules: usize) -> Shadow
         requires { 64 * length words.items ≡ granules }
         ensures granules { length result ≡ granules }
         ensures painted { (k : ℕ) → k < granules → slice_index_or result k false ≡ is_set_for words.items k }

@@ -3,3 +3,4 @@ pub mod Display
 pub mod HexadecimalLaws
 pub mod Shown
 pub mod ShortText
+pub mod WordLine

@@ -7,7 +7,7 @@ ghost use Rattle.trace_text.specs.Reading.{Script};
 ghost use Rattle.trace_report.specs.Outcome.{HasOutcome, IsOutcome};
 
 use heap_machine::{Alone, Workers};
-use std::alloc::Global;
+use host_memory::Global;
 use std::thread::Threads;
 use sweep_pool::Cutting;
 use trace_report::{Outcome, RunFault, Runner};

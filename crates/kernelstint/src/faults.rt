@@ -7,7 +7,7 @@ ghost use Rattle.trace_text.specs.Lines.{is_passed_over, words_of};
 
 use crate::codes::{BAD_LINE, BAD_TRACE, DONE, NO_MEMORY, PASSED_OVER};
 use byte_machine::{CallFault, FaultRecord, command_in, fault_record};
-use std::alloc::Global;
+use host_memory::Global;
 use trace_text::{TraceFault, parse};
 
 /// Writes the first fault of a text that is no trace.

@@ -4,8 +4,8 @@ ghost use Rattle.std.specs.Prelude.{◌≡◌, ◌≢◌, Option, Some, None};
 ghost use Rattle.heap_machine.specs.Storage.{MachineState};
 
 use heap_machine::Machine;
+use host_memory::Global;
 use loose_box::LooseBox;
-use std::alloc::Global;
 use std::marker::Model;
 
 /// A machine, or none, as C holds it.

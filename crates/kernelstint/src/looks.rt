@@ -8,7 +8,7 @@ ghost use Rattle.kernelstint.specs.Codes.{bad_register, done};
 
 use crate::codes::{DONE, code_of_fault};
 use byte_machine::{CallFault, CountRecord, WordRecord, counts, granule, register};
-use std::alloc::Global;
+use host_memory::Global;
 
 /// Writes the counts of the state that these bytes tell of.
 #[unsafe(no_mangle)]

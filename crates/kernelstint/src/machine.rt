@@ -15,7 +15,7 @@ use byte_machine::{
     reply_record, state_length, step, step_line, why_record,
 };
 use heap_machine::Followed;
-use std::alloc::Global;
+use host_memory::Global;
 
 /// How many bytes a state of so many pages has: 0 where no heap has so many.
 #[unsafe(no_mangle)]

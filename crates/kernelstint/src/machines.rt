@@ -12,8 +12,8 @@ use crate::handle::MachineHandle;
 use byte_machine::{
     CommandRecord, ReplyRecord, command_of, copy_of, machine_in, put_state, reply_record,
 };
+use host_memory::Global;
 use state_bytes::exact_blocks_law;
-use std::alloc::Global;
 use sweep_pool::Open;
 
 /// Makes the machine of these bytes behind a handle that has none.

@@ -9,7 +9,7 @@ ghost use Rattle.kernelstint.specs.Codes.{bad_trace, done, no_memory, short_text
 use crate::codes::{BAD_TRACE, DONE, NO_MEMORY, SHORT_TEXT};
 use byte_machine::{put_all, run_report, run_states};
 use heap_trace::RunFault;
-use std::alloc::Global;
+use host_memory::Global;
 
 /// Writes the report of the trace that a text is where a room begins, and how long it is; the length alone where the room is
 /// shorter.

@@ -1,6 +1,7 @@
 //! What a log says.
 
 use heap_reply::Reply;
+use host_memory::Global;
 use trace_text::Command;
 
 /// A part of the state in which the heap was when the log begins. A block goes from `base` up to `top`.
@@ -59,6 +60,6 @@ pub enum Event {
 pub struct Log {
     pub base: u64,
     pub pages: u32,
-    pub givens: Vec<(u32, Given)>,
-    pub events: Vec<(u32, Event)>,
+    pub givens: Vec<(u32, Given), Global>,
+    pub events: Vec<(u32, Event), Global>,
 }

@@ -10,7 +10,7 @@ use crate::event::event_line;
 use crate::fault::LogFault;
 use crate::given::{Early, early_line};
 use crate::log::{Event, Given, Log};
-use std::alloc::Global;
+use host_memory::Global;
 use trace_text::{TraceFault, read_heap, split_line};
 
 /// The most bytes that the text of a log has.
@@ -19,7 +19,7 @@ pub const LONGEST_LOG: usize = 16_777_216;
 // The given lines, the number of the first line after them, and the text from there on.
 #[derive(Drop)]
 struct Givens<'a> {
-    givens: Vec<(u32, Given)>,
+    givens: Vec<(u32, Given), Global>,
     next: u32,
     rest: &'a [u8],
 }
@@ -29,7 +29,7 @@ struct Givens<'a> {
 pub struct Start<'a> {
     pub base: u64,
     pub pages: u32,
-    pub givens: Vec<(u32, Given)>,
+    pub givens: Vec<(u32, Given), Global>,
     pub next: u32,
     pub rest: &'a [u8],
 }
@@ -58,7 +58,11 @@ fn read_givens(alloc: Global, first: u32, text: &[u8]) -> Result<Givens<'_>, Log
 }
 
 // The events of a text whose first line has this number.
-fn read_events(alloc: Global, first: u32, text: &[u8]) -> Result<Vec<(u32, Event)>, LogFault>
+fn read_events(
+    alloc: Global,
+    first: u32,
+    text: &[u8],
+) -> Result<Vec<(u32, Event), Global>, LogFault>
     requires { first + length text.now < 2 ^ 32 }
     ensures value { Gives (λ list. list.items) result (events_from first (lines_of text.now)) }
     ensures valid { IfOk result (λ list. All IsListedEvent list.items) }

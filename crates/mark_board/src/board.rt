@@ -11,7 +11,7 @@ use crate::fault::BoardFault;
 use crate::rule::{Both, Cut, Marks, Settles, Shape, View};
 use crate::seat::MarkSeat;
 use atomic_table::{Closed, Table};
-use std::alloc::Global;
+use host_memory::Global;
 use std::marker::Model;
 
 // The most bits of a board.
@@ -188,7 +188,7 @@ impl Board {
 
     /// The words of the bits that are set, once a seat has all parts: just what its marks set first, and
     /// just what it has seen. Where memory is refused, board and seat are given up.
-    pub fn finish(self, alloc: Global, seat: MarkSeat) -> Result<Vec<u64>, BoardFault>
+    pub fn finish(self, alloc: Global, seat: MarkSeat) -> Result<Vec<u64, Global>, BoardFault>
         requires board { IsOf self seat }
         requires parts { seat.parts ≡ self.parts }
         ensures memory { IsOkUnless result BoardFault.Memory }
@@ -238,7 +238,7 @@ fn words_for(bits: u32) -> usize
 }
 
 // The words of a closed table, in a row of as many.
-fn copied(closed: &Closed<(), Global>, mut row: Vec<u64>) -> Vec<u64>
+fn copied(closed: &Closed<(), Global>, mut row: Vec<u64, Global>) -> Vec<u64, Global>
     requires width { length row.items ≡ slots_len closed.now.words }
     requires full { IsFull closed.now.words }
     ensures { result.items ≡ slots_items closed.now.words }

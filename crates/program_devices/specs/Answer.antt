@@ -1,21 +1,14 @@
 -- What a program over a trace answers: its exit status, and what it writes with it.
-use Rattle.std.specs.Prelude.{◌≡◌, ℕ, List, [], ◌∷◌, Option, Result, Ok, Err, codes}
+use Rattle.std.specs.Prelude.{◌≡◌, ℕ, List, Option, Result, Ok, Err, codes}
 use Rattle.std.specs.Io.KnownBytes.{Appends}
-use Rattle.std.specs.List.{concat}
 use Rattle.command_line.specs.declared.asked.Refusal.{Refusal}
 use Rattle.command_line.specs.declared.asked.Refusal.TheVariants.{Memory, Words}
-use Rattle.trace_text.specs.declared.fault.TraceFault.{TraceFault}
-use Rattle.trace_text.specs.Fault.{fault_text}
 use Rattle.program_devices.specs.declared.answer.Answer.{Answer}
 use Rattle.program_devices.specs.Device.{AppendsBeginning}
 
 -- What is written where memory runs out.
 abbrev pub memory_line : List ℕ
 memory_line = codes "fault memory\n"
-
--- What is written of a text that is no trace. Its fault is never want of memory.
-abbrev pub line_of_fault : TraceFault → List ℕ
-line_of_fault fault = concat (codes "fault " ∷ fault_text fault ∷ codes "\n" ∷ [])
 
 -- The status of a refusal, and its line, of a program with this usage line.
 abbrev pub refusal_status : Refusal → ℕ

@@ -2,13 +2,15 @@
 
 ghost use Rattle.std.specs.Prelude.{◌≡◌, ◌≢◌, ◌↔◌, IfErr, IfOk, string_bytes, true, false};
 ghost use Rattle.std.specs.Io.KnownBytes.{Appends};
-ghost use Rattle.program_devices.specs.Answer.{line_of_fault, refusal_line, refusal_status, status_of, text_of};
+ghost use Rattle.trace_text.specs.Fault.{line_of_fault};
+ghost use Rattle.program_devices.specs.Answer.{refusal_line, refusal_status, status_of, text_of};
 ghost use Rattle.program_devices.specs.Device.{AppendsBeginning};
 
 use crate::devices::{Failed, Sink, send};
 use command_line::Refusal;
-use std::alloc::{AllocError, Global};
-use trace_text::TraceFault;
+use host_memory::Global;
+use std::alloc::AllocError;
+use trace_text::{TraceFault, fault_line};
 
 const MEMORY: &[u8] = b"fault memory\n";
 
@@ -16,7 +18,7 @@ const MEMORY: &[u8] = b"fault memory\n";
 #[derive(Drop)]
 pub struct Answer {
     pub status: u8,
-    pub text: Vec<u8>,
+    pub text: Vec<u8, Global>,
 }
 
 /// Writes what was answered, and answers its status, or 4 where a write failed. `usage` is the line of a program whose words
@@ -60,13 +62,6 @@ fn finish<O: Sink>(writer: &mut O, text: &[u8], status: u8) -> u8
         Ok(()) => status,
         Err(Failed) => 4,
     }
-}
-
-// The line that names the fault of a text that is no trace.
-fn fault_line(alloc: Global, fault: &TraceFault) -> Result<String, AllocError>
-    ensures { IfOk result (λ text. string_bytes text ≡ line_of_fault fault.now) }
-{
-    format!(in alloc; "fault {fault}\n")
 }
 
 /// The answer for a text that is no trace: status 3 and the line of its fault.

@@ -18,7 +18,7 @@ use crate::words::{read_dirty, read_granules, read_registers};
 use byteorder::{ByteOrder, LittleEndian};
 use heap_core::Heap;
 use heap_machine::Machine;
-use std::alloc::Global;
+use host_memory::Global;
 use sweep_pool::Cutting;
 use tag_memory::{Memory, REGISTERS, Registers, is_base, is_size};
 

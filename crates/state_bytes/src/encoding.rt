@@ -12,12 +12,13 @@ use crate::places::{HEAD, NUMBER, OPEN, PAGES, REGISTER, ROW, TAG, text_length};
 use byteorder::{ByteOrder, LittleEndian};
 use heap_core::{Heap, Kind};
 use heap_machine::Machine;
-use std::alloc::{AllocError, Global};
+use host_memory::Global;
+use std::alloc::AllocError;
 use tag_memory::{Memory, REGISTERS, Registers};
 
 /// The bytes that tell of a machine's state: its blocks, whether an epoch is open, its granules with their tags, its
 /// registers, and which pages are dirty. How its sweeps are cut isn't told. It errs where an allocation is refused.
-pub fn encode(alloc: Global, machine: &Machine) -> Result<Vec<u8>, AllocError>
+pub fn encode(alloc: Global, machine: &Machine) -> Result<Vec<u8, Global>, AllocError>
     ensures text { IfOk result (λ bytes. bytes.items ≡ text_of machine.now) }
     ensures invariant { HasInvariant machine.now }
 {

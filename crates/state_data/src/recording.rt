@@ -20,7 +20,8 @@ use data_tokens::{DataLine, put_address};
 use heap_machine::{Alone, Machine, Stepper, Workers};
 use heap_reply::Reply;
 use heap_trace::RunFault;
-use std::alloc::{AllocError, Global};
+use host_memory::Global;
+use std::alloc::AllocError;
 use std::thread::Threads;
 use sweep_pool::Cutting;
 use trace_text::{Command, Trace, TraceFault, parse};
@@ -29,13 +30,13 @@ use trace_text::{Command, Trace, TraceFault, parse};
 // be much after a long text.
 #[derive(Drop)]
 struct Lines {
-    text: Vec<u8>,
-    room: Vec<u8>,
+    text: Vec<u8, Global>,
+    room: Vec<u8, Global>,
 }
 
 // The data with the line's JSON and a line feed after it. Inlined: the line and the data then aren't copied for a call.
 #[inline(always)]
-fn with_line(text: Vec<u8>, line: DataLine) -> Result<Lines, AllocError>
+fn with_line(text: Vec<u8, Global>, line: DataLine) -> Result<Lines, AllocError>
     requires { line.before ≡ [] }
     ensures { IfOk result (λ lines. lines.text.items ≡ text.items ++ data_line_text line.tokens) }
 {
@@ -190,7 +191,7 @@ fn write_trace<S: Stepper>(
     alloc: Global,
     trace: &Trace,
     cutting: Cutting,
-) -> Option<Vec<u8>>
+) -> Option<Vec<u8, Global>>
     requires ready { S.ready }
     requires heap { IsHeap trace.now.base trace.now.pages }
     requires valid { All IsListed trace.now.commands.items }
@@ -227,7 +228,7 @@ pub fn states<R: Threads + Sync>(
     alloc: Global,
     text: &[u8],
     cutting: Cutting,
-) -> Result<Vec<u8>, RunFault>
+) -> Result<Vec<u8, Global>, RunFault>
     ensures states { IfOk result (λ told. IsDataOf text.now told.items) }
     ensures fault { (fault : TheTraceFault) → result ≡ Err (RunFault.Trace fault) → trace_of text.now ≡ Err fault }
     ensures memory { result ≢ Err (RunFault.Trace TraceFault.Memory) }
@@ -236,7 +237,11 @@ pub fn states<R: Threads + Sync>(
 }
 
 /// The states of a trace as `states` tells them, by the calling thread alone, so without a runtime.
-pub fn states_alone(alloc: Global, text: &[u8], cutting: Cutting) -> Result<Vec<u8>, RunFault>
+pub fn states_alone(
+    alloc: Global,
+    text: &[u8],
+    cutting: Cutting,
+) -> Result<Vec<u8, Global>, RunFault>
     ensures states { IfOk result (λ told. IsDataOf text.now told.items) }
     ensures fault { (fault : TheTraceFault) → result ≡ Err (RunFault.Trace fault) → trace_of text.now ≡ Err fault }
     ensures memory { result ≢ Err (RunFault.Trace TraceFault.Memory) }
@@ -250,7 +255,7 @@ fn states_by<S: Stepper>(
     alloc: Global,
     text: &[u8],
     cutting: Cutting,
-) -> Result<Vec<u8>, RunFault>
+) -> Result<Vec<u8, Global>, RunFault>
     requires ready { S.ready }
     ensures states { IfOk result (λ told. IsDataOf text.now told.items) }
     ensures fault { (fault : TheTraceFault) → result ≡ Err (RunFault.Trace fault) → trace_of text.now ≡ Err fault }

@@ -16,7 +16,8 @@ use cap_codec::{Word, bounds, fields};
 use data_tokens::{HeldBlock, in_order};
 use heap_machine::Machine;
 use heap_reply::Reply;
-use std::alloc::{AllocError, Global};
+use host_memory::Global;
+use std::alloc::AllocError;
 use std::mem;
 use tag_memory::{GRANULE, Memory, REGISTERS, Registers, WORD_GRANULES};
 use trace_text::Command;
@@ -26,11 +27,11 @@ use trace_text::Command;
 pub struct Snapshot {
     pub registers: [(Word, bool); 32],
     /// Bit `j` of word `w` is that of granule `64 * w + j`.
-    pub tags: Vec<u64>,
+    pub tags: Vec<u64, Global>,
     /// Each is put last as it is given up. They come into the order of their starts together, when a pass tells of them: to
     /// find each its place would move half of the others.
-    pub waiting: Vec<HeldBlock>,
-    pub painted: Vec<HeldBlock>,
+    pub waiting: Vec<HeldBlock, Global>,
+    pub painted: Vec<HeldBlock, Global>,
     pub is_open: bool,
 }
 
@@ -161,7 +162,7 @@ fn copied_registers(registers: &Registers) -> [(Word, bool); 32]
     copy
 }
 
-fn copied_tags(alloc: Global, memory: &Memory) -> Result<Vec<u64>, AllocError>
+fn copied_tags(alloc: Global, memory: &Memory) -> Result<Vec<u64, Global>, AllocError>
     ensures count { IfOk result (λ tags. 64 * length tags.items ≡ length memory.now.granules) }
     ensures bits { IfOk result (λ tags. (k : ℕ) → k < length memory.now.granules → is_set_for tags.items k ≡ is_tagged memory.now.granules k) }
 {

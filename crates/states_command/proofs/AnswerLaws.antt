@@ -7,7 +7,8 @@ use Rattle.command_line.specs.Asked.{NamesStates, Text}
 use Rattle.trace_text.specs.Reading.{trace_of}
 use Rattle.trace_text.specs.declared.fault.TraceFault.{TraceFault}
 use Rattle.program_devices.specs.declared.answer.Answer.{Answer}
-use Rattle.program_devices.specs.Answer.{line_of_fault, refusal_line, refusal_status, status_of, text_of}
+use Rattle.program_devices.specs.Answer.{refusal_line, refusal_status, status_of, text_of}
+use Rattle.trace_text.specs.Fault.{line_of_fault}
 use Rattle.program_devices.specs.Device.{ReadsUpTo, most_read}
 use Rattle.states_command.specs.Answer.{IsAnswer, IsStatesAnswer, lacks_memory, names_fault, refuses, shows_states, tells_states, usage_line}
 

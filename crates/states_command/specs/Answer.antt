@@ -4,7 +4,8 @@ use Rattle.command_line.specs.declared.asked.Options.{Options}
 use Rattle.command_line.specs.Asked.{NamesStates, Text}
 use Rattle.trace_text.specs.Reading.{trace_of}
 use Rattle.state_data.specs.States.{IsDataOf}
-use Rattle.program_devices.specs.Answer.{line_of_fault, memory_line}
+use Rattle.program_devices.specs.Answer.{memory_line}
+use Rattle.trace_text.specs.Fault.{line_of_fault}
 use Rattle.program_devices.specs.Device.{ReadsUpTo, most_read}
 use Rattle.trace_text.specs.declared.fault.TraceFault.{TraceFault}
 

@@ -10,9 +10,9 @@ ghost use Rattle.states_command.specs.Answer.{IsAnswer, IsStatesAnswer, usage_li
 
 use command_line::{Options, Refusal, states_options_by};
 use heap_trace::RunFault;
+use host_memory::Global;
 use program_devices::{Answer, ReadFault, Sink, Source, fault_answer, give, read_text};
 use state_data::states;
-use std::alloc::Global;
 use std::thread::Threads;
 use sweep_pool::Cutting;
 use trace_text::LONGEST_TEXT;

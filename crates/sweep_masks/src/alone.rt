@@ -9,7 +9,7 @@ use crate::gate::Gate;
 use crate::sweep::SweepFault;
 use crate::task::{end_of, fill_page, first_of};
 use heap_model::Shadow;
-use std::alloc::Global;
+use host_memory::Global;
 use tag_memory::{Memory, PAGE_WORDS};
 
 // Whether a pass looks at this page.
@@ -27,7 +27,7 @@ fn fill_pages(
     dirty_only: bool,
     from: u32,
     end: u32,
-    masks: &mut Vec<u64>,
+    masks: &mut Vec<u64, Global>,
 ) -> bool
     requires order { from ≤ end }
     requires room { page_words * end ≤ length masks.old.items }
@@ -56,7 +56,7 @@ pub(crate) fn sweep_pages<G: Gate>(
     cutting: &Cutting,
     gate: &G,
     dirty_only: bool,
-) -> Result<Vec<u64>, SweepFault>
+) -> Result<Vec<u64, Global>, SweepFault>
     ensures ok { IfOk result (λ masks. ArePassMasks memory.now shadow.now dirty_only masks.items) }
     ensures err { IfErr result (λ fault. fault ≡ SweepFault.Memory) }
 {

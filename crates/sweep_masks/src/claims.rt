@@ -11,8 +11,8 @@ use crate::cutting::Cutting;
 use crate::sweep::SweepFault;
 use crate::task::{Swept, room, swept_into};
 use heap_model::Shadow;
+use host_memory::Global;
 use mark_board::{Board, MarkSeat};
-use std::alloc::Global;
 use tag_memory::Memory;
 
 /// Claims the next task and sweeps it: the first, from `from` on, whose bit a mark of this call is the

@@ -10,7 +10,7 @@ use crate::cutting::Cutting;
 use crate::gate::Gate;
 use crate::sweep::SweepFault;
 use heap_model::Shadow;
-use std::alloc::Global;
+use host_memory::Global;
 use std::thread::Threads;
 use tag_memory::Memory;
 
@@ -26,7 +26,7 @@ pub fn sweep_dirty<R: Threads + Sync, G: Gate + Sync>(
     shadow: &Shadow,
     cutting: &Cutting,
     gate: &G,
-) -> Result<Vec<u64>, SweepFault>
+) -> Result<Vec<u64, Global>, SweepFault>
     ensures ok { IfOk result (λ masks. AreDirtyMasks memory.now shadow.now masks.items) }
     ensures held { (heap : HeapState) → IsShadowOf heap memory.now.base shadow.now
         → AreInDirtyPages memory.now.granules memory.now.dirty (due heap)
@@ -43,7 +43,7 @@ pub fn sweep_dirty_alone<G: Gate>(
     shadow: &Shadow,
     cutting: &Cutting,
     gate: &G,
-) -> Result<Vec<u64>, SweepFault>
+) -> Result<Vec<u64, Global>, SweepFault>
     ensures ok { IfOk result (λ masks. AreDirtyMasks memory.now shadow.now masks.items) }
     ensures held { (heap : HeapState) → IsShadowOf heap memory.now.base shadow.now
         → AreInDirtyPages memory.now.granules memory.now.dirty (due heap)

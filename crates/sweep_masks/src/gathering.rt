@@ -6,7 +6,7 @@ ghost use Rattle.sweep_masks.specs.Tasks.{IsTaskCount};
 
 use crate::cutting::Cutting;
 use crate::task::{Swept, words_of};
-use std::alloc::Global;
+use host_memory::Global;
 use tag_memory::PAGE_WORDS;
 use thiserror::Error;
 
@@ -50,7 +50,7 @@ fn judge(cutting: &Cutting, pages: u32, done: &[bool], swept: &Swept) -> Result<
 }
 
 /// Writes these words from `at` on.
-pub(crate) fn place(masks: &mut Vec<u64>, at: usize, words: &[u64])
+pub(crate) fn place(masks: &mut Vec<u64, Global>, at: usize, words: &[u64])
     requires { at + length words.now ≤ length masks.old.items }
     ensures count { length masks.new.items ≡ length masks.old.items }
     ensures here { (w : ℕ) → w < length words.now → slice_index masks.new.items (at + w) ≡ slice_index words.now w }
@@ -67,8 +67,8 @@ pub fn gather(
     tasks: u32,
     cutting: &Cutting,
     pages: u32,
-    list: Vec<Swept>,
-) -> Result<Vec<u64>, GatherFault>
+    list: Vec<Swept, Global>,
+) -> Result<Vec<u64, Global>, GatherFault>
     requires { IsTaskCount cutting.now pages tasks }
     ensures ok { IfOk result (λ masks. AreGathered cutting.now tasks pages list.items masks.items) }
     ensures err { IfErr result (λ fault. IsFaultOf cutting.now tasks pages list.items fault) }

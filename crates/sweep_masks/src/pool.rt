@@ -15,8 +15,8 @@ use crate::sweep::SweepFault;
 use crate::task::Swept;
 use crate::workers::{Done, Shared, collect, deal, work_by_threads};
 use heap_model::Shadow;
+use host_memory::Global;
 use mark_board::{Board, BoardFault, MarkSeat};
-use std::alloc::Global;
 use std::thread::Threads;
 use tag_memory::{Memory, PAGE_WORDS};
 
@@ -33,7 +33,7 @@ pub fn sweep_masks<R: Threads + Sync, G: Gate + Sync>(
     shadow: &Shadow,
     cutting: &Cutting,
     gate: &G,
-) -> Result<Vec<u64>, SweepFault>
+) -> Result<Vec<u64, Global>, SweepFault>
     ensures ok { IfOk result (λ masks. AreMasks memory.now shadow.now masks.items) }
     ensures held { (heap : HeapState) → IsShadowOf heap memory.now.base shadow.now
         → IfOk result (λ masks. TakeTags memory.now (due heap) masks.items) }
@@ -71,7 +71,7 @@ pub fn sweep_masks_alone<G: Gate>(
     shadow: &Shadow,
     cutting: &Cutting,
     gate: &G,
-) -> Result<Vec<u64>, SweepFault>
+) -> Result<Vec<u64, Global>, SweepFault>
     ensures ok { IfOk result (λ masks. AreMasks memory.now shadow.now masks.items) }
     ensures held { (heap : HeapState) → IsShadowOf heap memory.now.base shadow.now
         → IfOk result (λ masks. TakeTags memory.now (due heap) masks.items) }
@@ -88,7 +88,7 @@ fn sweep_shared<R: Threads + Sync, G: Gate + Sync>(
     shadow: &Shadow,
     cutting: &Cutting,
     gate: &G,
-) -> Result<Vec<u64>, SweepFault>
+) -> Result<Vec<u64, Global>, SweepFault>
     ensures ok { IfOk result (λ masks. AreMasks memory.now shadow.now masks.items) }
     ensures err { IfErr result (λ fault. fault ≡ SweepFault.Memory) }
 {
@@ -162,7 +162,7 @@ fn finish(
     cutting: &Cutting,
     board: Board,
     done: Done,
-) -> Result<Vec<u64>, SweepFault>
+) -> Result<Vec<u64, Global>, SweepFault>
     requires seat { IsOf board done.seat }
     requires parts { done.seat.parts ≡ board.parts }
     requires tasks { HasTasks cutting.now memory.now board }
@@ -182,8 +182,8 @@ fn whole_masks(
     memory: &Memory,
     shadow: &Shadow,
     cutting: &Cutting,
-    list: Vec<Swept>,
-) -> Result<Vec<u64>, SweepFault>
+    list: Vec<Swept, Global>,
+) -> Result<Vec<u64, Global>, SweepFault>
     requires { AreAllSwept memory.now shadow.now cutting.now list.items }
     ensures ok { IfOk result (λ masks. AreMasks memory.now shadow.now masks.items) }
     ensures err { IfErr result (λ fault. fault ≡ SweepFault.Memory) }

@@ -11,7 +11,7 @@ ghost use Rattle.tag_memory.specs.Tags.{is_set_for};
 use crate::cutting::Cutting;
 use crate::sweep::{SweepFault, word_mask};
 use heap_model::Shadow;
-use std::alloc::Global;
+use host_memory::Global;
 use tag_memory::{Memory, PAGE_WORDS};
 
 /// A task, and the masks of its pages.
@@ -20,7 +20,7 @@ pub struct Swept {
     /// The task.
     pub task: u32,
     /// Its masks, four words a page.
-    pub masks: Vec<u64>,
+    pub masks: Vec<u64, Global>,
 }
 
 /// The first page of a task.
@@ -49,7 +49,11 @@ pub(crate) fn words_of(cutting: &Cutting, pages: u32, task: u32) -> usize
 }
 
 /// Room for the masks of any one task.
-pub(crate) fn room(alloc: Global, cutting: &Cutting, pages: u32) -> Result<Vec<u64>, SweepFault>
+pub(crate) fn room(
+    alloc: Global,
+    cutting: &Cutting,
+    pages: u32,
+) -> Result<Vec<u64, Global>, SweepFault>
     ensures ok { IfOk result (λ room. (k : ℕ) → task_words cutting.now pages k ≤ length room.items) }
     ensures err { IfErr result (λ fault. fault ≡ SweepFault.Memory) }
 {
@@ -67,7 +71,7 @@ pub(crate) fn fill_page(
     shadow: &Shadow,
     first: u32,
     page: u32,
-    masks: &mut Vec<u64>,
+    masks: &mut Vec<u64, Global>,
 )
     requires order { first ≤ page }
     requires room { page_words * (page - first) + page_words ≤ length masks.old.items }
@@ -85,7 +89,7 @@ pub(crate) fn fill_page(
 
 /// A task swept into this room.
 pub(crate) fn swept_into(
-    mut room: Vec<u64>,
+    mut room: Vec<u64, Global>,
     memory: &Memory,
     shadow: &Shadow,
     cutting: &Cutting,

@@ -11,8 +11,8 @@ use crate::gate::Gate;
 use crate::sweep::SweepFault;
 use crate::task::Swept;
 use heap_model::Shadow;
+use host_memory::Global;
 use mark_board::{Board, MarkSeat};
-use std::alloc::Global;
 use std::thread;
 use std::thread::Threads;
 use tag_memory::Memory;
@@ -38,14 +38,14 @@ pub(crate) struct Job {
 #[derive(Drop)]
 pub(crate) struct Work {
     pub(crate) seat: MarkSeat,
-    pub(crate) found: Result<Vec<Swept>, SweepFault>,
+    pub(crate) found: Result<Vec<Swept, Global>, SweepFault>,
 }
 
 /// What all workers come to: their seats joined, and the tasks that they swept.
 #[derive(Drop)]
 pub(crate) struct Done {
     pub(crate) seat: MarkSeat,
-    pub(crate) list: Vec<Swept>,
+    pub(crate) list: Vec<Swept, Global>,
 }
 
 // Sweeps the tasks from `from` on that this seat is the first to claim.
@@ -54,7 +54,7 @@ fn sweep_from<G: Gate>(
     shared: &Shared<'_, G>,
     seat: &mut MarkSeat,
     from: u32,
-    found: &mut Vec<Swept>,
+    found: &mut Vec<Swept, Global>,
 ) -> Result<(), SweepFault>
     requires board { IsOf shared.now.board.now seat.old }
     requires tasks { HasAllTasks shared.now }
@@ -100,7 +100,7 @@ fn sweep_both<G: Gate>(
     shared: &Shared<'_, G>,
     seat: &mut MarkSeat,
     start: u32,
-) -> Result<Vec<Swept>, SweepFault>
+) -> Result<Vec<Swept, Global>, SweepFault>
     requires board { IsOf shared.now.board.now seat.old }
     requires tasks { HasAllTasks shared.now }
     requires start { start ≤ shared.now.board.now.bits }
@@ -146,7 +146,7 @@ pub(crate) fn deal(
     board: &Board,
     seat: MarkSeat,
     workers: u32,
-) -> Result<Vec<Job>, SweepFault>
+) -> Result<Vec<Job, Global>, SweepFault>
     requires board { IsOf board.now seat }
     requires parts { seat.parts ≡ workers }
     requires some { 0 < workers }
@@ -184,8 +184,8 @@ pub(crate) fn work_by_threads<R: Threads + Sync, G: Gate + Sync>(
     rt: &R,
     alloc: Global,
     shared: &Shared<'_, G>,
-    jobs: Vec<Job>,
-) -> Result<Vec<Work>, SweepFault>
+    jobs: Vec<Job, Global>,
+) -> Result<Vec<Work, Global>, SweepFault>
     requires jobs { All (IsJob shared.now.board.now) jobs.items }
     requires tasks { HasAllTasks shared.now }
     ensures count { IfOk result (λ works. vec_len works ≡ vec_len jobs) }
@@ -223,7 +223,7 @@ fn join_one<G>(shared: &Shared<'_, G>, done: Done, one: Work) -> Result<Done, Sw
 pub(crate) fn collect<G>(
     shared: &Shared<'_, G>,
     first: Work,
-    others: Vec<Work>,
+    others: Vec<Work, Global>,
 ) -> Result<Done, SweepFault>
     requires first { IsWorkOf shared.now first }
     requires others { All (IsWorkOf shared.now) others.items }

@@ -8,8 +8,9 @@ ghost use Rattle.std.specs.Prelude.{◌≡◌, ◌<◌, ◌≤◌, ◌+◌, ◌*
 ghost use Rattle.sweep_pool.specs.Painting.{EachAt, HasGranules, HasPainted, IsUnpainted, IsPaintedShare, share_start};
 
 use heap_core::{Heap, Shadow};
+use host_memory::Global;
 use mark_board::{Board, BoardFault, MarkSeat};
-use std::alloc::{AllocError, Global};
+use std::alloc::AllocError;
 use std::ops::Range;
 use std::thread;
 use std::thread::Threads;
@@ -133,7 +134,7 @@ fn deal(
     board: &Board,
     seat: MarkSeat,
     workers: u32,
-) -> Result<Vec<Share>, SweepFault>
+) -> Result<Vec<Share, Global>, SweepFault>
     requires board { IsOf board.now seat }
     requires parts { seat.parts ≡ workers }
     requires some { 0 < workers }
@@ -197,8 +198,8 @@ fn paint_share<G: Gate>(painting: &Painting<'_, G>, share: Share) -> MarkSeat
 fn paint_by_threads<R: Threads + Sync, G: Gate + Sync>(
     rt: &R,
     painting: &Painting<'_, G>,
-    shares: Vec<Share>,
-) -> Result<Vec<MarkSeat>, AllocError>
+    shares: Vec<Share, Global>,
+) -> Result<Vec<MarkSeat, Global>, AllocError>
     requires blank { EachAt (IsUnpainted painting.now.board.now painting.now.workers) shares.items }
     requires granules { HasGranules painting.now.heap.now painting.now.board.now }
     requires most { painting.now.workers ≤ 64 }
@@ -210,7 +211,7 @@ fn paint_by_threads<R: Threads + Sync, G: Gate + Sync>(
 }
 
 // The seats of all shares, joined.
-fn join_seats<G>(painting: &Painting<'_, G>, seats: Vec<MarkSeat>) -> MarkSeat
+fn join_seats<G>(painting: &Painting<'_, G>, seats: Vec<MarkSeat, Global>) -> MarkSeat
     requires count { vec_len seats ≡ painting.now.workers }
     requires some { 0 < painting.now.workers }
     requires painted { EachAt (IsPaintedShare painting.now.heap.now painting.now.board.now painting.now.workers) seats.items }

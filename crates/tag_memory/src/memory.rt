@@ -12,7 +12,7 @@ use crate::bases::base_granule;
 use crate::bits::{WORD_GRANULES, bit, with_bit};
 use crate::extent::{PAGE_GRANULES, is_base, is_size};
 use crate::pages::take_tags;
-use std::alloc::Global;
+use host_memory::Global;
 use std::marker::Model;
 use thiserror::Error;
 
@@ -39,13 +39,13 @@ pub const PAGE_WORDS: usize = PAGE_GRANULES as usize / WORD_GRANULES;
 pub struct Memory {
     base: u64,
     pages: u32,
-    bits: Vec<u128>,
+    bits: Vec<u128, Global>,
     // In which granule the base of each granule's word lies, so that a sweep decodes far bases alone.
-    granules_of_bases: Vec<u32>,
-    tags: Vec<u64>,
-    may_hold: Vec<bool>,
+    granules_of_bases: Vec<u32, Global>,
+    tags: Vec<u64, Global>,
+    may_hold: Vec<bool, Global>,
     // Into which pages a tagged word was written since all were made clean.
-    dirty: Vec<bool>,
+    dirty: Vec<bool, Global>,
 }
 
 impl Model for Memory {

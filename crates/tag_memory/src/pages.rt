@@ -6,6 +6,7 @@ ghost use Rattle.tag_memory.specs.Extent.{page_words};
 ghost use Rattle.tag_memory.specs.Tags.{HasWord, IsBlank};
 
 use crate::memory::PAGE_WORDS;
+use host_memory::Global;
 
 /// Whether a tag of this page is left.
 fn has_tags(tags: &[u64], page: usize) -> bool
@@ -22,7 +23,7 @@ fn has_tags(tags: &[u64], page: usize) -> bool
 }
 
 /// Takes from the words of this page the tags of the masks.
-fn clear_words(tags: &mut Vec<u64>, masks: &[u64], page: usize)
+fn clear_words(tags: &mut Vec<u64, Global>, masks: &[u64], page: usize)
     requires words { page_words * page + page_words ≤ length tags.old.items }
     requires masks { page_words * page + page_words ≤ length masks.now }
     ensures count { length tags.new.items ≡ length tags.old.items }
@@ -37,7 +38,12 @@ fn clear_words(tags: &mut Vec<u64>, masks: &[u64], page: usize)
 
 /// Takes the tags of the masks from this page, and answers whether one is left. A page that may hold no
 /// tags is passed over.
-pub(crate) fn take_tags(tags: &mut Vec<u64>, masks: &[u64], page: usize, may_hold: bool) -> bool
+pub(crate) fn take_tags(
+    tags: &mut Vec<u64, Global>,
+    masks: &[u64],
+    page: usize,
+    may_hold: bool,
+) -> bool
     requires words { page_words * page + page_words ≤ length tags.old.items }
     requires masks { page_words * page + page_words ≤ length masks.now }
     requires blank { may_hold ≡ false → IsBlank tags.old.items page }

@@ -2,6 +2,7 @@
 
 use agreed_log::agreed;
 use heap_log::Tally;
+use heap_machine::Workers;
 use std::alloc::Global;
 use std::process::Abort;
 use std::thread::Threads;
@@ -9,7 +10,7 @@ use sweep_pool::Cutting;
 
 fn found<R: Abort + Threads + Sync>(rt: &R, alloc: Global, text: &str) -> Option<Tally> {
     let cutting = Cutting::new(2, 3).expect(rt, "it is a cutting");
-    agreed(rt, alloc, text.as_bytes(), cutting)
+    agreed(&Workers { rt }, alloc, text.as_bytes(), cutting)
 }
 
 // Each kind of answer, and each kind of line.

@@ -2,11 +2,12 @@
 
 use crate::givens::three_blocks;
 use crate::machine::sweeps::sums;
+use agreed_log::agreed;
 use heap_log::{
     Difference, DueWord, Tally, Verdict, due_words, follow_event, freed_line, given_line,
     handed_out_line, judge,
 };
-use heap_machine::{Block, Claim, Machine, MachineFault, Reply, Why};
+use heap_machine::{Alone, Block, Claim, Machine, MachineFault, Reply, Stepper, Why, Workers};
 use log_text::{Event, parse};
 use std::alloc::Global;
 use std::process::Abort;
@@ -15,6 +16,12 @@ use sweep_pool::{Cutting, Open};
 use trace_text::Command;
 
 fn judged<R: Abort + Threads + Sync>(rt: &R, alloc: Global, text: &[u8]) -> Verdict {
+    judged_by(rt, &Workers { rt }, alloc, text)
+}
+
+fn judged_by<R: Abort, S: Stepper>(rt: &R, stepper: &S, alloc: Global, text: &[u8]) -> Verdict
+    requires ready { S.ready }
+{
     let log = parse(alloc, text).expect(rt, "it is a log");
     let cutting = Cutting::new(1, 16).expect(rt, "it is a cutting");
     let mut machine = Machine::new(alloc, log.base, log.pages, cutting).expect(
@@ -22,7 +29,7 @@ fn judged<R: Abort + Threads + Sync>(rt: &R, alloc: Global, text: &[u8]) -> Verd
         "there is memory",
     );
     assert!(rt; log.events.len() < 1 << 24);
-    judge(rt, alloc, &mut machine, &log.events).expect(rt, "there is memory")
+    judge(stepper, alloc, &mut machine, &log.events).expect(rt, "there is memory")
 }
 
 fn agrees(commands: u32, blocks: u32, passes: u32, tags: u64) -> Verdict {
@@ -300,9 +307,9 @@ fn freed_at<R: Abort + Threads + Sync>(
         "there is memory",
     );
     assert!(rt; log.events.len() < 1 << 24);
-    match judge(rt, alloc, &mut judging, &log.events) {
+    match judge(&Workers { rt }, alloc, &mut judging, &log.events) {
         Ok(Verdict::Agrees(_)) => {
-            let found = freed_line(rt, alloc, &mut machine, &log.events, block);
+            let found = freed_line(&Workers { rt }, alloc, &mut machine, &log.events, block);
             Some(found.expect(rt, "there is memory"))
         }
         _ => None,
@@ -325,6 +332,47 @@ free c1 -> held 32
 sweep -> cleared 2 released 32
 ";
 
+// The same with another number of tags.
+const MISCOUNTED: &[u8] = b"heap 0x40000000 16
+malloc c1 20 -> block 0x40000100 0x40000120
+storecap c1 c1 -> ok
+free c1 -> held 32
+sweep -> cleared 1 released 32
+";
+
+// The calling thread alone says of a log what threads say, also where it makes a pass.
+#[test]
+fn a_log_is_judged_alone_as_by_threads(rt: HostRuntime) {
+    let alloc = rt.alloc();
+    assert_eq!(rt; judged_by(&rt, &Alone, alloc, SWEPT), agrees(4, 1, 1, 2));
+    assert_eq!(rt; judged(&rt, alloc, SWEPT), agrees(4, 1, 1, 2));
+    let differs = Verdict::Differs {
+        line: 5,
+        count: 3,
+        difference: Difference::Answer(Why::MustBe(Reply::Swept {
+            cleared: 2,
+            released: 32,
+        })),
+    };
+    assert_eq!(rt; judged_by(&rt, &Alone, alloc, MISCOUNTED), differs);
+    assert_eq!(rt; judged(&rt, alloc, MISCOUNTED), differs);
+}
+
+// In one pass over the text too.
+#[test]
+fn a_log_is_found_alone(rt: HostRuntime) {
+    let alloc = rt.alloc();
+    let cutting = Cutting::new(1, 16).expect(&rt, "it is a cutting");
+    let tally = Tally {
+        tags: 2,
+        commands: 4,
+        blocks: 1,
+        passes: 1,
+    };
+    assert_eq!(rt; agreed(&Alone, alloc, SWEPT, cutting), Some(tally));
+    assert_eq!(rt; agreed(&Alone, alloc, MISCOUNTED, cutting), None);
+}
+
 // Run with each allocation refused in turn: a machine whose sweep is refused is as the events before it leave it, and does the
 // sweep when it is asked for again.
 #[test]
@@ -338,7 +386,8 @@ fn a_refused_allocation_of_a_judged_log_leaves_the_events_before(rt: HostRuntime
         return;
     };
     assert!(rt; log.events.len() < 1 << 24);
-    let verdict = judge(&rt, alloc, &mut machine, &log.events);
+    let stepper = Workers { rt: &rt };
+    let verdict = judge(&stepper, alloc, &mut machine, &log.events);
     if verdict == Err(MachineFault::Memory) {
         assert_eq!(rt; sums(&machine), (1, 1, 0, 32, 65_504));
         let sweep = Event::Done {
@@ -348,7 +397,10 @@ fn a_refused_allocation_of_a_judged_log_leaves_the_events_before(rt: HostRuntime
                 released: 32,
             },
         };
-        assert_eq!(rt; follow_event(&rt, alloc, &mut machine, sweep), Ok(None));
+        assert_eq!(rt;
+            follow_event(&stepper, alloc, &mut machine, sweep),
+            Ok(None)
+        );
     } else {
         assert_eq!(rt; verdict, Ok(agrees(4, 1, 1, 2)));
     }

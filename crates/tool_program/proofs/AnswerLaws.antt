@@ -10,7 +10,8 @@ use Rattle.program_devices.specs.declared.answer.Answer.{Answer}
 use Rattle.program_devices.specs.Answer.{refusal_line, refusal_status, status_of, text_of}
 use Rattle.program_devices.specs.Device.{ReadsUpTo, most_read}
 use Rattle.tool_program.specs.Answer.{IsAnswer, IsRunAnswer, lacks_memory, names_fault, refuses, reports, shows_run, shows_word}
-use Rattle.tool_program.specs.Text.{usage_line, word_line}
+use Rattle.heap_reply.specs.WordLine.{word_line}
+use Rattle.tool_program.specs.Text.{usage_line}
 use Rattle.tool_program.specs.Hex.{AskForNothing, IsTextOf}
 
 -- ---- words

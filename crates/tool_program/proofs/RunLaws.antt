@@ -9,7 +9,7 @@ use Rattle.trace_report.specs.Outcome.{IsOutcome}
 use Rattle.trace_text.specs.Reading.{Script, trace_of}
 use Rattle.trace_report.specs.Report.{report_text}
 use Rattle.program_devices.specs.declared.answer.Answer.{Answer}
-use Rattle.program_devices.specs.Answer.{line_of_fault}
+use Rattle.trace_text.specs.Fault.{line_of_fault}
 use Rattle.tool_program.specs.Answer.{IsRunAnswer, image_shown, names_fault, reports}
 
 -- The report of a run, and the image of its memory if asked for, are its answer.

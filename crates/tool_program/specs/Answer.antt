@@ -10,9 +10,11 @@ use Rattle.trace_report.specs.Report.{report_text}
 use Rattle.trace_report.specs.Run.{Run}
 use Rattle.trace_report.specs.Image.{image_of}
 use Rattle.machine_steps.specs.State.{State, first_state}
-use Rattle.program_devices.specs.Answer.{line_of_fault, memory_line}
+use Rattle.program_devices.specs.Answer.{memory_line}
+use Rattle.trace_text.specs.Fault.{line_of_fault}
 use Rattle.program_devices.specs.Device.{ReadsUpTo, most_read}
-use Rattle.tool_program.specs.Text.{usage_line, word_line}
+use Rattle.heap_reply.specs.WordLine.{word_line}
+use Rattle.tool_program.specs.Text.{usage_line}
 use Rattle.tool_program.specs.Hex.{AskForNothing, AsksForLineOf}
 
 -- An image, where it is asked for.

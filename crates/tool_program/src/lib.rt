@@ -1,7 +1,6 @@
 //! The program over any devices, and over any way of running a trace: words and bytes in, an exit status and bytes out.
 #![tactic(auto)]
 
-mod lines;
 mod program;
 mod runs;
 

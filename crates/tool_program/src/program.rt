@@ -8,16 +8,18 @@ ghost use Rattle.command_line.specs.Asked.{NamesRun, texts};
 ghost use Rattle.program_devices.specs.Answer.{BeginsAnswer, HasAnswered, refusal_line, refusal_status};
 ghost use Rattle.program_devices.specs.Device.{AppendsBeginning, ReadsFew, most_read};
 ghost use Rattle.tool_program.specs.Answer.{IsAnswer};
-ghost use Rattle.tool_program.specs.Text.{usage_line, word_line};
+ghost use Rattle.heap_reply.specs.WordLine.{word_line};
+ghost use Rattle.tool_program.specs.Text.{usage_line};
 ghost use Rattle.tool_program.specs.Hex.{IsTextOf};
 
-use crate::lines::line_of;
 use crate::runs::run_answer;
 use cap_codec::from_bytes;
 use command_line::{Asked, Refusal, asked_by};
+use heap_reply::word_line;
 use hex::FromHex;
+use host_memory::Global;
 use program_devices::{Answer, ReadFault, Sink, Source, give, read_text};
-use std::alloc::{AllocError, Global};
+use std::alloc::AllocError;
 use trace_report::Runner;
 use trace_text::LONGEST_TEXT;
 
@@ -78,7 +80,7 @@ fn word_answer(alloc: Global, hex: &str) -> Result<Answer, Refusal>
     let Ok(bytes) = <[u8; 16] as FromHex>::from_hex(hex) else {
         return Err(Refusal::Words);
     };
-    match line_of(alloc, from_bytes(bytes)) {
+    match word_line(alloc, from_bytes(bytes)) {
         Ok(line) => Ok(Answer {
             status: 0,
             text: line.into_bytes(),

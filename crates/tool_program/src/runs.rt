@@ -6,8 +6,8 @@ ghost use Rattle.tool_program.specs.Answer.{IsRunAnswer, image_shown};
 ghost use Rattle.trace_report.specs.Image.{image_of};
 
 use command_line::{Options, Refusal};
+use host_memory::Global;
 use program_devices::{Answer, fault_answer};
-use std::alloc::Global;
 use sweep_masks::Cutting;
 use trace_report::{Outcome, RunFault, Runner, image_lines};
 

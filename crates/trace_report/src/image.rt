@@ -5,11 +5,12 @@ ghost use Rattle.trace_report.specs.Image.{granule_text, image_line, image_of};
 
 use cap_codec::{Word, to_bytes};
 use heap_reply::{ShortText, flag_number};
-use std::alloc::{AllocError, Global};
+use host_memory::Global;
+use std::alloc::AllocError;
 use tag_memory::{GRANULE, Memory};
 
 /// A line for each granule that is tagged or not all zero: its address, its tag and its bytes.
-pub fn image_lines(alloc: Global, memory: &Memory) -> Result<Vec<u8>, AllocError>
+pub fn image_lines(alloc: Global, memory: &Memory) -> Result<Vec<u8, Global>, AllocError>
     ensures { IfOk result (λ text. text.items ≡ image_of memory.now.base memory.now.granules) }
 {
     let mut text = Vec::new(alloc);
@@ -22,7 +23,11 @@ pub fn image_lines(alloc: Global, memory: &Memory) -> Result<Vec<u8>, AllocError
 }
 
 // Adds what the image shows of a granule.
-fn push_granule(text: &mut Vec<u8>, address: u64, granule: (u128, bool)) -> Result<(), AllocError>
+fn push_granule(
+    text: &mut Vec<u8, Global>,
+    address: u64,
+    granule: (u128, bool),
+) -> Result<(), AllocError>
     ensures { OnOk result (text.new.items ≡ text.old.items ++ granule_text address granule) }
 {
     let (bits, tag) = granule;
@@ -33,7 +38,12 @@ fn push_granule(text: &mut Vec<u8>, address: u64, granule: (u128, bool)) -> Resu
 }
 
 // Adds the line of a granule.
-fn push_line(text: &mut Vec<u8>, address: u64, bits: u128, tag: bool) -> Result<(), AllocError>
+fn push_line(
+    text: &mut Vec<u8, Global>,
+    address: u64,
+    bits: u128,
+    tag: bool,
+) -> Result<(), AllocError>
     ensures { OnOk result (text.new.items ≡ text.old.items ++ image_line address (bits, tag)) }
 {
     let mut line = ShortText::new();

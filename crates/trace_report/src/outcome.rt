@@ -1,5 +1,6 @@
 //! What a run leaves, or why there is none.
 
+use host_memory::Global;
 use tag_memory::{Memory, Registers};
 use thiserror::Error;
 use trace_text::TraceFault;
@@ -7,7 +8,7 @@ use trace_text::TraceFault;
 /// What a run leaves.
 #[derive(Drop)]
 pub struct Outcome {
-    pub report: Vec<u8>,
+    pub report: Vec<u8, Global>,
     pub memory: Memory,
     pub registers: Registers,
 }

@@ -4,7 +4,8 @@ ghost use Rattle.std.specs.Prelude.{◌≡◌, ◌≤◌, ◌+◌, ◌++◌, [],
 ghost use Rattle.trace_report.specs.Report.{end_line, line_text, name_of};
 
 use heap_reply::{Reply, ShortText, put_reply_of};
-use std::alloc::{AllocError, Global};
+use host_memory::Global;
+use std::alloc::AllocError;
 use std::marker::Model;
 use trace_text::Command;
 
@@ -57,7 +58,7 @@ pub struct Sums {
 /// bytes were written one by one, and a copy of many at once waits until they are in the cache.
 #[derive(Drop)]
 pub struct Report {
-    text: Vec<u8>,
+    text: Vec<u8, Global>,
     last: ShortText,
 }
 
@@ -93,7 +94,7 @@ impl Report {
 
     /// The whole text, with a last line: the bytes in live blocks, in held blocks and in neither, and
     /// the tags.
-    pub fn end(self, alloc: Global, sums: Sums) -> Result<Vec<u8>, AllocError>
+    pub fn end(self, alloc: Global, sums: Sums) -> Result<Vec<u8, Global>, AllocError>
         ensures { IfOk result (λ text. text.items ≡ self ++ end_line sums) }
     {
         let Report { mut text, last } = self;

@@ -7,7 +7,7 @@ ghost use Rattle.trace_text.specs.Reading.{Script};
 ghost use Rattle.trace_report.specs.Outcome.{HasOutcome, IsOutcome};
 
 use crate::outcome::{Outcome, RunFault};
-use std::alloc::Global;
+use host_memory::Global;
 use sweep_masks::Cutting;
 
 /// Runs traces, so that what is above them is written once, and proved beside the machine.

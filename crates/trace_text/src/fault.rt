@@ -1,10 +1,11 @@
 //! What can be wrong with the text of a trace.
 
-ghost use Rattle.std.specs.Prelude.{◌≡◌, Some};
+ghost use Rattle.std.specs.Prelude.{◌≡◌, IfOk, Some, string_bytes};
 ghost use Rattle.trace_text.specs.declared.fault.TraceFault.TheVariants.{Memory};
-ghost use Rattle.trace_text.specs.Fault.{fault_text};
+ghost use Rattle.trace_text.specs.Fault.{fault_text, line_of_fault};
 
-use std::alloc::AllocFailed;
+use host_memory::Global;
+use std::alloc::{AllocError, AllocFailed};
 use std::error::Error;
 use std::fmt;
 
@@ -84,4 +85,11 @@ impl<T: Drop> From<AllocFailed<T>> for TraceFault {
     fn from(_refused: AllocFailed<T>) -> TraceFault {
         TraceFault::Memory
     }
+}
+
+/// The line that names the fault of a text that is no trace.
+pub fn fault_line(alloc: Global, fault: &TraceFault) -> Result<String<Global>, AllocError>
+    ensures { IfOk result (λ text. string_bytes text ≡ line_of_fault fault.now) }
+{
+    format!(in alloc; "fault {fault}\n")
 }

@@ -10,7 +10,7 @@ mod text;
 mod trace;
 mod words;
 
-pub use crate::fault::{LineFault, TraceFault};
+pub use crate::fault::{LineFault, TraceFault, fault_line};
 pub use crate::laws::{command_grammar_law, trace_grammar_law, word_cut_law};
 pub use crate::line::command;
 pub use crate::marked::Line;

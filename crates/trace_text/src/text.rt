@@ -11,7 +11,7 @@ use crate::fault::TraceFault;
 use crate::line::{command_at, heap_at};
 use crate::trace::{Command, Trace};
 use crate::words::split_line;
-use std::alloc::Global;
+use host_memory::Global;
 
 /// The most bytes that the text of a trace has.
 pub const LONGEST_TEXT: usize = 4_194_304;
@@ -52,7 +52,11 @@ pub fn read_heap(text: &[u8]) -> Result<Opening<'_>, TraceFault>
 }
 
 // The commands of a text whose first line has this number.
-fn read_commands(alloc: Global, first: u32, text: &[u8]) -> Result<Vec<(u32, Command)>, TraceFault>
+fn read_commands(
+    alloc: Global,
+    first: u32,
+    text: &[u8],
+) -> Result<Vec<(u32, Command), Global>, TraceFault>
     requires { first + length text.now < 2 ^ 32 }
     ensures value { Gives (λ list. list.items) result (commands_from first (lines_of text.now)) }
     ensures valid { IfOk result (λ list. All IsListed list.items) }

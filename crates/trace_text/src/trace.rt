@@ -2,6 +2,7 @@
 
 ghost use Rattle.std.specs.Prelude.{◌↔◌, IsTrue};
 
+use host_memory::Global;
 use tag_memory::REGISTERS;
 
 /// A command of a trace. Registers go by their numbers; sizes and lengths are in bytes.
@@ -50,5 +51,5 @@ impl Command {
 pub struct Trace {
     pub base: u64,
     pub pages: u32,
-    pub commands: Vec<(u32, Command)>,
+    pub commands: Vec<(u32, Command), Global>,
 }

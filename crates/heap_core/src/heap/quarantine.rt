@@ -13,7 +13,7 @@ use crate::fault::HeapFault;
 use crate::heap::Heap;
 use granule_rows::set_run;
 use heap_model::{Block, Claim, Freed, Shadow};
-use std::alloc::Global;
+use host_memory::Global;
 use tag_memory::GRANULE;
 
 impl Heap {
@@ -215,7 +215,7 @@ impl Heap {
 }
 
 // Marks the first granule of a late block.
-fn mark_late(late: &mut Vec<u64>, start: usize)
+fn mark_late(late: &mut Vec<u64, Global>, start: usize)
     requires limit { length late.old.items ≤ 2 ^ 24 }
     requires within { start < 64 * length late.old.items }
     ensures { bits_of late.new.items ≡ slice_set (bits_of late.old.items) start true }

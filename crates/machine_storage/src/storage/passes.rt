@@ -8,12 +8,13 @@ ghost use Rattle.machine_storage.specs.Passes.{FindsTags};
 
 use crate::fault::MachineFault;
 use crate::storage::Storage;
+use host_memory::Global;
 
 /// What a pass finds, before anything is taken.
 #[derive(Drop)]
 pub struct Found {
     // A bit for each granule whose tag the pass takes.
-    pub masks: Vec<u64>,
+    pub masks: Vec<u64, Global>,
 }
 
 impl Storage {
@@ -21,7 +22,7 @@ impl Storage {
     pub(super) fn memory_masks<P: Fn(&Storage) -> Option<Found>>(
         &self,
         pass: &P,
-    ) -> Result<Vec<u64>, MachineFault>
+    ) -> Result<Vec<u64, Global>, MachineFault>
         requires callable { P.IsAlwaysCallable pass.now }
         requires finds { FindsTags (P.post pass.now) }
         requires storage { IsStorage self.now }

@@ -21,6 +21,7 @@ use crate::storage::passes::Found;
 use cap_codec::{Bounds, bounds};
 use heap_core::{Freed, due_registers};
 use heap_reply::{Reply, Trap};
+use host_memory::Global;
 use tag_memory::{Memory, Registers};
 use trace_text::Command;
 
@@ -42,7 +43,7 @@ pub(super) fn ones_in(masks: &[u64]) -> u32
 #[derive(Drop)]
 pub struct RevokedTags {
     // A bit for each granule.
-    pub(super) masks: Vec<u64>,
+    pub(super) masks: Vec<u64, Global>,
     // A bit for each register.
     pub(super) registers: u32,
 }

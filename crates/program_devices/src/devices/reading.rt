@@ -6,7 +6,8 @@ ghost use Rattle.std.specs.Io.KnownBytes.{ReadConsumes};
 ghost use Rattle.program_devices.specs.Device.{FailsByError, ReadsFew, ReadsMore, ReadsUpTo};
 
 use crate::devices::Failed;
-use std::alloc::{AllocError, Global};
+use host_memory::Global;
+use std::alloc::AllocError;
 use std::io::Read;
 
 // The most bytes that are read at once.
@@ -45,7 +46,7 @@ pub fn read_text<I: Source>(
     alloc: Global,
     reader: &mut I,
     longest: usize,
-) -> Result<Vec<u8>, ReadFault>
+) -> Result<Vec<u8, Global>, ReadFault>
     requires working { I.failed reader.old ≡ false }
     requires longest { longest + 1 < 2 ^ 64 }
     ensures ok { IfOk result (λ text.
@@ -65,7 +66,7 @@ pub fn read_text<I: Source>(
 }
 
 // The buffer by way of which all reads go.
-fn new_chunk(alloc: Global) -> Result<Vec<u8>, AllocError>
+fn new_chunk(alloc: Global) -> Result<Vec<u8, Global>, AllocError>
     ensures { IfOk result (λ chunk. 0 < length chunk.items) }
 {
     vec![in alloc; 0; CHUNK]
@@ -73,7 +74,7 @@ fn new_chunk(alloc: Global) -> Result<Vec<u8>, AllocError>
 
 // Reads once more, by way of this buffer, and says whether that was the end.
 fn read_more<I: Source>(
-    text: &mut Vec<u8>,
+    text: &mut Vec<u8, Global>,
     reader: &mut I,
     chunk: &mut [u8],
     longest: usize,

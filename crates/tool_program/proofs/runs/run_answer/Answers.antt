@@ -1,6 +1,6 @@
 use Rattle.std.proofs.Common.{◌≡◌, Err, IfOk, subst}
 use Rattle.trace_report.specs.Outcome.{HasOutcome}
-use Rattle.program_devices.specs.Answer.{line_of_fault}
+use Rattle.trace_text.specs.Fault.{line_of_fault}
 use Rattle.tool_program.proofs.RunLaws.{IsRunAnswer-fault, IsRunAnswer-report}
 use Rattle.tool_program.proofs.runs.run_answer.Goals as goal
 

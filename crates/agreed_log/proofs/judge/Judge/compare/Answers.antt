@@ -6,7 +6,7 @@ use Rattle.agreed_log.proofs.judge.Judge.compare.Goals as goal
 pub returns-clause-event : goal.returns-clause-event
 returns-clause-event g c =
     let old = c.args.self.now.machine.state in
-    let new = c.step-stepped.new.self.state in
+    let new = c.step-stepped.new.machine.state in
     let reply = c.in-Ok.reply in
     let step = subst (λ r. IfOk r (λ reply. Step old c.args.command reply new)) c.in-Ok.is c.step-stepped.ensures.step in
     let follows = c.any_placement_law.ensures.steps old c.args.command reply new c.requires.safe step in

@@ -1,0 +1,65 @@
+-- What the exports write, and the codes that they answer.
+use Rattle.std.specs.Prelude.{◌≡◌, ◌<◌, ◌++◌, ◌+◌, ◌*◌, ◌^◌, ℕ, List, Ok, Err, drop, length}
+use Rattle.heap_reply.specs.WordLine.{word_line}
+use Rattle.log_answer.specs.Answer.{IsLogAnswer}
+use Rattle.trace_report.specs.Outcome.{HasOutcome}
+use Rattle.trace_report.specs.declared.outcome.Outcome.{Outcome}
+use Rattle.trace_text.specs.Fault.{line_of_fault}
+use Rattle.trace_text.specs.Reading.{Script, trace_of}
+use Rattle.trace_text.specs.declared.fault.TraceFault.{TraceFault}
+
+abbrev pub done : ℕ
+done = 0
+
+abbrev pub no_memory : ℕ
+no_memory = 1
+
+abbrev pub short : ℕ
+short = 2
+
+abbrev pub none : ℕ
+none = 3
+
+-- All of a text was written where a room begins, in so many bytes.
+pub record IsWritten (IsText : List ℕ → Type 0) (before after : List ℕ) (count : ℕ) : Type 0 where
+  pub text : List ℕ
+  pub text_is : IsText text
+  pub count_is : count ≡ length text
+  pub after_is : after ≡ text ++ drop (length text) before
+
+-- A text has so many bytes, which are more than a room has.
+pub record IsTooLong (IsText : List ℕ → Type 0) (room count : ℕ) : Type 0 where
+  pub text : List ℕ
+  pub text_is : IsText text
+  pub count_is : count ≡ length text
+  pub longer : room < count
+
+-- A text is no trace.
+pub record IsFaulty (text : List ℕ) : Type 0 where
+  pub fault : TraceFault
+  pub fault_is : trace_of text ≡ Err fault
+
+-- A text is a trace.
+pub record IsTrace (text : List ℕ) : Type 0 where
+  pub script : Script
+  pub script_is : trace_of text ≡ Ok script
+
+-- A text is no trace, and the line names its fault.
+pub record IsFaultOf (text line : List ℕ) : Type 0 where
+  pub fault : TraceFault
+  pub fault_is : trace_of text ≡ Err fault
+  pub line_is : line ≡ line_of_fault fault
+
+-- The bytes are the report of what a run of the text gives.
+pub record IsReportOf (text report : List ℕ) : Type 0 where
+  pub outcome : Outcome
+  pub answers : HasOutcome text (Ok outcome)
+  pub report_is : report ≡ outcome.report.items
+
+-- The text is said of a log, with some status.
+abbrev pub IsSaidOf : List ℕ → List ℕ → Type 0
+IsSaidOf log text = (status : ℕ) × IsLogAnswer log status text
+
+-- The text is the line of the word of these halves.
+abbrev pub IsLineOf : ℕ → ℕ → List ℕ → Type 0
+IsLineOf address metadata text = text ≡ word_line (record { bits = metadata * 2 ^ 64 + address })

@@ -1,0 +1,183 @@
+//! The calls.
+
+ghost use Rattle.std.specs.Prelude.{◌≡◌, ◌≢◌, ◌<◌, ◌++◌, IfErr, IfOk, OnErr, drop, length};
+ghost use Rattle.state_data.specs.States.{IsDataOf};
+ghost use Rattle.page_answers.specs.Calls.{IsFaultOf, IsFaulty, IsLineOf, IsReportOf, IsSaidOf, IsTooLong, IsTrace, IsWritten, done, no_memory, none, short};
+
+use crate::codes::{DONE, NO_MEMORY, NONE, SHORT};
+use cap_codec::Word;
+use heap_machine::Alone;
+use heap_reply::word_line;
+use heap_trace::run_alone;
+use host_memory::Global;
+use log_answer::{LogAnswer, log_answer};
+use state_data::states_alone;
+use sweep_masks::Cutting;
+use trace_report::{Outcome, RunFault};
+use trace_text::{TraceFault, fault_line, parse};
+
+// As many pages as a task has at most.
+const TASK: u32 = 256;
+
+// One worker, which is the caller.
+fn alone() -> Cutting {
+    match Cutting::new(1, TASK) {
+        Ok(cutting) => cutting,
+        Err(_) => unreachable!(),
+    }
+}
+
+// Copies all of a text to where a room begins. The answer is how long the text is, and an error where the room is shorter:
+// then nothing is written.
+fn put_whole(whole: &[u8], out: &mut [u8]) -> Result<usize, usize>
+    ensures ok { IfOk result (λ count. (count ≡ length whole.now) × (out.new ≡ whole.now ++ drop (length whole.now) out.old)) }
+    ensures short { IfErr result (λ count. (count ≡ length whole.now) × (length out.old < count)) }
+    ensures still { OnErr result (out.new ≡ out.old) }
+{
+    if out.len() < whole.len() {
+        return Err(whole.len());
+    }
+    out[..whole.len()].copy_from_slice(whole);
+    Ok(whole.len())
+}
+
+/// Writes the states of the trace that a text is, as data.
+#[unsafe(no_mangle)]
+pub extern "C" fn page_states(alloc: Global, trace: &[u8], out: &mut [u8], count: &mut usize) -> u32
+    ensures written { result ≡ done → IsWritten (IsDataOf trace.now) out.old out.new count.new }
+    ensures short { result ≡ short → IsTooLong (IsDataOf trace.now) (length out.old) count.new }
+    ensures fault { result ≡ none → IsFaulty trace.now }
+    ensures still { result ≢ done → out.new ≡ out.old }
+    ensures other { result ≢ done → result ≢ short → count.new ≡ count.old }
+    ensures memory { result ≢ done → result ≢ short → result ≢ none → result ≡ no_memory }
+{
+    match states_alone(alloc, trace, alone()) {
+        Ok(states) => match put_whole(&states, out) {
+            Ok(length) => {
+                *count = length;
+                DONE
+            }
+            Err(length) => {
+                *count = length;
+                SHORT
+            }
+        },
+        Err(RunFault::Memory) => NO_MEMORY,
+        Err(RunFault::Trace(_)) => NONE,
+    }
+}
+
+/// Writes the report of the run of the trace that a text is.
+#[unsafe(no_mangle)]
+pub extern "C" fn page_report(alloc: Global, trace: &[u8], out: &mut [u8], count: &mut usize) -> u32
+    ensures written { result ≡ done → IsWritten (IsReportOf trace.now) out.old out.new count.new }
+    ensures short { result ≡ short → IsTooLong (IsReportOf trace.now) (length out.old) count.new }
+    ensures fault { result ≡ none → IsFaulty trace.now }
+    ensures still { result ≢ done → out.new ≡ out.old }
+    ensures other { result ≢ done → result ≢ short → count.new ≡ count.old }
+    ensures memory { result ≢ done → result ≢ short → result ≢ none → result ≡ no_memory }
+{
+    match run_alone(alloc, trace, alone()) {
+        Ok(Outcome { report, .. }) => match put_whole(&report, out) {
+            Ok(length) => {
+                *count = length;
+                DONE
+            }
+            Err(length) => {
+                *count = length;
+                SHORT
+            }
+        },
+        Err(RunFault::Memory) => NO_MEMORY,
+        Err(RunFault::Trace(_)) => NONE,
+    }
+}
+
+/// Writes the line that names the fault of a text that is no trace.
+#[unsafe(no_mangle)]
+pub extern "C" fn page_fault(alloc: Global, trace: &[u8], out: &mut [u8], count: &mut usize) -> u32
+    ensures written { result ≡ done → IsWritten (IsFaultOf trace.now) out.old out.new count.new }
+    ensures short { result ≡ short → IsTooLong (IsFaultOf trace.now) (length out.old) count.new }
+    ensures none { result ≡ none → IsTrace trace.now }
+    ensures still { result ≢ done → out.new ≡ out.old }
+    ensures other { result ≢ done → result ≢ short → count.new ≡ count.old }
+    ensures memory { result ≢ done → result ≢ short → result ≢ none → result ≡ no_memory }
+{
+    let fault = match parse(alloc, trace) {
+        Ok(_) => return NONE,
+        Err(TraceFault::Memory) => return NO_MEMORY,
+        Err(fault) => fault,
+    };
+    match fault_line(alloc, &fault) {
+        Ok(line) => match put_whole(line.as_bytes(), out) {
+            Ok(length) => {
+                *count = length;
+                DONE
+            }
+            Err(length) => {
+                *count = length;
+                SHORT
+            }
+        },
+        Err(_) => NO_MEMORY,
+    }
+}
+
+/// Writes what is said of a log: that it agrees, how it differs, or its fault.
+#[unsafe(no_mangle)]
+pub extern "C" fn page_log(alloc: Global, log: &[u8], out: &mut [u8], count: &mut usize) -> u32
+    ensures written { result ≡ done → IsWritten (IsSaidOf log.now) out.old out.new count.new }
+    ensures short { result ≡ short → IsTooLong (IsSaidOf log.now) (length out.old) count.new }
+    ensures some { result ≢ none }
+    ensures still { result ≢ done → out.new ≡ out.old }
+    ensures other { result ≢ done → result ≢ short → count.new ≡ count.old }
+    ensures memory { result ≢ done → result ≢ short → result ≢ none → result ≡ no_memory }
+{
+    match log_answer(&Alone, alloc, log, alone()) {
+        Ok(LogAnswer { text, .. }) => match put_whole(&text, out) {
+            Ok(length) => {
+                *count = length;
+                DONE
+            }
+            Err(length) => {
+                *count = length;
+                SHORT
+            }
+        },
+        Err(_) => NO_MEMORY,
+    }
+}
+
+/// Writes the line of the word of these halves.
+#[unsafe(no_mangle)]
+pub extern "C" fn page_word(
+    alloc: Global,
+    address: u64,
+    metadata: u64,
+    out: &mut [u8],
+    count: &mut usize,
+) -> u32
+    ensures written { result ≡ done → IsWritten (IsLineOf address metadata) out.old out.new count.new }
+    ensures short { result ≡ short → IsTooLong (IsLineOf address metadata) (length out.old) count.new }
+    ensures some { result ≢ none }
+    ensures still { result ≢ done → out.new ≡ out.old }
+    ensures other { result ≢ done → result ≢ short → count.new ≡ count.old }
+    ensures memory { result ≢ done → result ≢ short → result ≢ none → result ≡ no_memory }
+{
+    let word = Word {
+        bits: (u128::from(metadata) << 64) + u128::from(address),
+    };
+    match word_line(alloc, word) {
+        Ok(line) => match put_whole(line.as_bytes(), out) {
+            Ok(length) => {
+                *count = length;
+                DONE
+            }
+            Err(length) => {
+                *count = length;
+                SHORT
+            }
+        },
+        Err(_) => NO_MEMORY,
+    }
+}

@@ -1,7 +1,0 @@
-use Rattle.std.proofs.Common.{◌≡◌, ◌++◌, take}
-use Rattle.std.specs.Prelude.{flat_map}
-use Rattle.check_command.specs.Text.{due_line}
-use Rattle.check_command.proofs.due_lines.push_lines.Given as goal
-
-abbrev pub invariant-loop-word : goal.invariant-loop-word
-invariant-loop-word l = l.text.items ≡ l.fn.text.items ++ flat_map due_line (take l.word-index l.words)

@@ -1,0 +1,2 @@
+mod DueLaws
+mod JudgedLaws
