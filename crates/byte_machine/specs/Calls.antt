@@ -19,6 +19,7 @@ use Rattle.state_bytes.specs.declared.fault.BytesFault.TheVariants as bytes_faul
 use Rattle.tag_memory.specs.Cells.{register_at}
 use Rattle.tag_memory.specs.Extent.{is_base, is_size}
 use Rattle.trace_text.specs.declared.trace.Command.{Command}
+use Rattle.trace_text.specs.declared.trace.Command.TheVariants.{Malloc, Free, Copy, SetAddr, Narrow, AndPerm, StoreCap, LoadCap, Write, Show, Sweep, Begin, End}
 use Rattle.byte_machine.specs.declared.fault.CallFault.{CallFault}
 use Rattle.byte_machine.specs.declared.fault.CallFault.TheVariants.{Address, BadBase, BadSize, Memory, Register, Room}
 use Rattle.byte_machine.specs.declared.fault.CallFault.TheVariants as fault
@@ -59,6 +60,22 @@ IsNotFirst base pages room BadBase = (is_size pages ≡ true) × (is_base base p
 IsNotFirst base pages room Room = (is_size pages ≡ true) × (is_base base pages ≡ true) × (room ≢ text_length pages)
 IsNotFirst base pages room Memory = (is_size pages ≡ true) × (is_base base pages ≡ true) × (room ≡ text_length pages)
 IsNotFirst base pages room other = ⊥
+
+-- The commands that change registers alone, whatever they are answered.
+abbrev pub is_of_registers : Command → Bool
+is_of_registers (Copy rd rs) = true
+is_of_registers (SetAddr rd rs address) = true
+is_of_registers (Narrow rd rs length) = true
+is_of_registers (AndPerm rd rs mask) = true
+is_of_registers (LoadCap rd ra) = true
+is_of_registers (Show rs) = true
+is_of_registers (Malloc rd size) = false
+is_of_registers (Free rs) = false
+is_of_registers (StoreCap ra rs) = false
+is_of_registers (Write ra bytes) = false
+is_of_registers Sweep = false
+is_of_registers Begin = false
+is_of_registers End = false
 
 -- What may come of a command: from a state, with an answer, to a state.
 abbrev pub Relation : Type 1

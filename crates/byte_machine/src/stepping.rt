@@ -2,17 +2,20 @@
 
 ghost use Rattle.std.specs.Prelude.{◌≡◌, ◌≢◌, ◌↔◌, IfErr, IfOk, MatchOption, OnErr, OnOk, Some, None, false, length, true};
 ghost use Rattle.machine_steps.specs.Follow.{Follows};
+ghost use Rattle.heap_reply.specs.declared.reply.Reply.{Reply};
 ghost use Rattle.machine_steps.specs.Step.{Step};
+ghost use Rattle.state_bytes.specs.State.{HasInvariant};
 ghost use Rattle.state_bytes.specs.Text as text;
 ghost use Rattle.tag_memory.specs.Extent as extent;
 ghost use Rattle.trace_text.specs.Command.{IsValid};
+ghost use Rattle.byte_machine.specs.Calls as calls;
 ghost use Rattle.byte_machine.specs.Calls.{IsFirst, IsJudged, IsNotFirst, IsStep, IsUnreadable, LeadsTo};
 
 use crate::fault::CallFault;
 use crate::machines::{alone, machine_in};
 use heap_machine::{Followed, Machine, Reply};
 use host_memory::Global;
-use state_bytes::{encode_into, exact_blocks_law, text_length};
+use state_bytes::{encode_into, encode_registers_into, exact_blocks_law, text_length};
 use sweep_pool::Open;
 use tag_memory::{is_base, is_size};
 use trace_text::Command;
@@ -65,6 +68,36 @@ fn step_from(alloc: Global, state: &[u8], command: Command) -> Result<(Machine, 
     Ok((machine, reply))
 }
 
+// Whether a command changes registers alone, whatever it is answered.
+fn is_of_registers(command: Command) -> bool
+    ensures { result ≡ calls.is_of_registers command }
+{
+    match command {
+        Command::Copy { .. } => true,
+        Command::SetAddr { .. } => true,
+        Command::Narrow { .. } => true,
+        Command::AndPerm { .. } => true,
+        Command::LoadCap { .. } => true,
+        Command::Show { .. } => true,
+        _ => false,
+    }
+}
+
+// Writes the bytes of the machine that a command left: those of the state before with its registers, where it changes no more.
+fn put_after(after: &Machine, state: &[u8], command: Command, out: &mut [u8])
+    requires room { length out.old ≡ length state.now }
+    requires after_room { text.text_length (length after.now.dirty) ≡ length state.now }
+    ensures text { (reply : Reply) → LeadsTo Step state.now command reply after.now → out.new ≡ text.text_of after.now }
+    ensures invariant { HasInvariant after.now }
+{
+    if !is_of_registers(command) {
+        encode_into(after, out);
+        return;
+    }
+    out.copy_from_slice(state);
+    encode_registers_into(after, out);
+}
+
 /// Does a command in the state that these bytes tell of, and writes the bytes of the state that it leaves into a room that
 /// is as long.
 pub fn step(
@@ -84,6 +117,6 @@ pub fn step(
         return Err(CallFault::Room);
     }
     let (after, reply) = step_from(alloc, state, command)?;
-    encode_into(&after, out);
+    put_after(&after, state, command, out);
     Ok(reply)
 }

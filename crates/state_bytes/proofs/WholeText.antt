@@ -1,9 +1,10 @@
 -- The whole text of a machine, written and compared in four pieces.
-use Rattle.std.proofs.Common.{◌≡◌, ◌∙◌, ◌+◌, ◌*◌, ℕ, Bool, List, ◌++◌, length, refl, sym, ap, subst, arith}
+use Rattle.std.proofs.Common.{◌≡◌, ◌∙◌, ◌+◌, ◌*◌, ℕ, Bool, List, ◌++◌, append_assoc, drop, length, length-append, take, refl, sym, ap, subst, arith}
+use Rattle.std.proofs.lemmas.List.{drop_at, take_at}
 use Rattle.heap_model.specs.Heap.{HeapState}
 use Rattle.heap_machine.specs.Storage.{MachineState}
 use Rattle.tag_memory.specs.Cells.{Cell, Granule}
-use Rattle.state_bytes.specs.State.{HasInvariant}
+use Rattle.state_bytes.specs.State.{HasInvariant, HasMemoryOf}
 use Rattle.state_bytes.specs.Text.{dirty_text, head_text, memory_text, register_text, text_length, text_of, texts_below}
 use Rattle.state_bytes.specs.Writing.{IsWritten, StandsAt}
 use Rattle.state_bytes.proofs.PieceLaws.{dirty_long, granules_long, memory_as_texts, registers_long}
@@ -81,6 +82,30 @@ pieces_of_text m bytes h g r p at last are text =
       registers = stands_first bytes r p at two;
       pages = stands_second bytes r p at last (omega (arith, are.last_is, long.registers)) two;
     }
+
+-- ---- registers alone
+
+-- Registers that are written over those of a machine with the same memory.
+pub registers_written : (m n : MachineState) (q old new : List ℕ) (at : ℕ) → HasMemoryOf m n → text_of m ≡ old → at ≡ 13 + 21 * length m.state.granules
+    → q ≡ texts_below (register_text n.state.registers) 32 → IsWritten old at q new → new ≡ text_of n
+registers_written m n q old new at same text place piece is =
+    let h : List ℕ = head_text m.state.heap.base (length m.dirty) m.state.heap.is_open in
+    let g : List ℕ = memory_text m.state.heap m.state.granules in
+    let r : List ℕ = texts_below (register_text m.state.registers) 32 in
+    let p : List ℕ = texts_below (dirty_text m.dirty) (length m.dirty) in
+    let long = long_of m h g r p at (at + 17 * 32) (record { head_is = refl; granules_are = refl; registers_are = refl; pages_are = refl; at_is = place; last_is = refl }) in
+    let front : length (h ++ g) ≡ at = omega (arith, length-append h g, long.head, long.granules, place) in
+    let size : length q ≡ 17 * 32 = ap (λ (l : List ℕ). length l) piece ∙ registers_long n.state.registers 32 in
+    let whole : old ≡ (h ++ g) ++ (r ++ p) = sym text ∙ sym (append_assoc h g (r ++ p)) in
+    let before : take at old ≡ h ++ g = ap (take at) whole ∙ take_at (h ++ g) (r ++ p) at front in
+    let behind : drop (at + length q) old ≡ p =
+    ap (drop (at + length q)) (whole ∙ sym (append_assoc (h ++ g) r p))
+    ∙ drop_at ((h ++ g) ++ r) p (at + length q) (omega (arith, length-append (h ++ g) r, front, long.registers, size)) in
+    is ∙ ((λ j. before j ++ (piece j ++ behind j)) ∙ (append_assoc h g (texts_below (register_text n.state.registers) 32 ++ p)
+    ∙ (λ j. head_text (sym same.heap j).base (length (sym same.dirty j)) (sym same.heap j).is_open
+    ++ (memory_text (sym same.heap j) (sym same.granules j)
+    ++ (texts_below (register_text n.state.registers) 32
+    ++ texts_below (dirty_text (sym same.dirty j)) (length (sym same.dirty j)))))))
 
 -- ---- what the code tells of a machine
 

@@ -31,3 +31,9 @@ pub record IsState (m : MachineState) : Type 0 where
 -- Both have one state and the same dirty pages. Their sweeps may be cut in other ways.
 abbrev pub IsSameState : MachineState → MachineState → Type 0
 IsSameState m n = (m.state ≡ n.state) × (m.dirty ≡ n.dirty)
+
+-- Both have one heap, the same granules and the same dirty pages. Their registers may differ.
+pub record HasMemoryOf (m n : MachineState) : Type 0 where
+  pub heap : n.state.heap ≡ m.state.heap
+  pub granules : n.state.granules ≡ m.state.granules
+  pub dirty : n.dirty ≡ m.dirty

@@ -2,8 +2,9 @@
 
 ghost use Rattle.std.specs.Prelude.{◌≡◌, ◌<◌, ◌≤◌, ◌+◌, ◌*◌, ◌∷◌, [], IfOk, length};
 ghost use Rattle.byteorder.specs.Endian.{little_bytes};
+ghost use Rattle.heap_machine.specs.Storage.{MachineState};
 ghost use Rattle.tag_memory.specs.Cells.{register_count};
-ghost use Rattle.state_bytes.specs.State.{HasInvariant};
+ghost use Rattle.state_bytes.specs.State.{HasInvariant, HasMemoryOf};
 ghost use Rattle.state_bytes.specs.Text.{block_number, dirty_text, flag_byte, granule_text, head_text, kind_number, memory_text, register_text, text_of, texts_below};
 ghost use Rattle.state_bytes.specs.Text as text;
 ghost use Rattle.state_bytes.specs.Writing.{IsWritten};
@@ -42,6 +43,17 @@ pub fn encode_into(machine: &Machine, out: &mut [u8])
     put_memory(out, heap, memory);
     put_registers(out, at, machine.registers());
     put_dirty(out, at + REGISTER * REGISTERS as usize, memory);
+}
+
+/// Writes a machine's registers over those in the bytes of a machine that has the same heap, granules and dirty pages.
+pub fn encode_registers_into(machine: &Machine, out: &mut [u8])
+    requires room { length out.old ≡ text.text_length (length machine.now.dirty) }
+    ensures text { (m : MachineState) → text_of m ≡ out.old → HasMemoryOf m machine.now → out.new ≡ text_of machine.now }
+    ensures invariant { HasInvariant machine.now }
+{
+    tell_all(machine);
+    let at = HEAD + ROW * machine.memory().granules();
+    put_registers(out, at, machine.registers());
 }
 
 /// Tells what holds of every machine. Nothing is done.

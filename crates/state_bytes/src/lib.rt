@@ -11,7 +11,7 @@ mod places;
 mod words;
 
 pub use crate::decoding::decode;
-pub use crate::encoding::{encode, encode_into};
+pub use crate::encoding::{encode, encode_into, encode_registers_into};
 pub use crate::fault::BytesFault;
 pub use crate::laws::{exact_blocks_law, one_text_law};
 pub use crate::places::text_length;
