@@ -77,6 +77,14 @@ fn traps_by_their_names(rt: HostRuntime) {
 #[test]
 fn registers_are_shown(rt: HostRuntime) {
     let block = block_capability(0x4000_0000, 0x4000_0020);
+    let sealed = Shown {
+        otype: 0x3_fffe,
+        ..Shown::of(block, true)
+    };
+    let wide = Shown {
+        exponent: 1,
+        ..Shown::of(block, true)
+    };
     let shown = [
         (
             Shown::of(Word::NULL, false),
@@ -89,6 +97,14 @@ fn registers_are_shown(rt: HostRuntime) {
         (
             Shown::of(and_perms(block, 0xfff7), true),
             "tag 1 address 0x40000000 base 0x40000000 top 0x40000020 perms 0x35 type 0x3ffff exponent 0",
+        ),
+        (
+            sealed,
+            "tag 1 address 0x40000000 base 0x40000000 top 0x40000020 perms 0x3d type 0x3fffe exponent 0",
+        ),
+        (
+            wide,
+            "tag 1 address 0x40000000 base 0x40000000 top 0x40000020 perms 0x3d type 0x3ffff exponent 1",
         ),
     ];
     for (shown, text) in shown {
