@@ -1,5 +1,5 @@
 /*
- * The heap as SPIN's models call it: one page at HEAP_BASE, whose state is the bytes that SPIN keeps, compares and gives back.
+ * The heap as SPIN's models call it: one page at HEAP_BASE, of whose state SPIN keeps, compares and gives back HEAP_KEPT bytes.
  * The steps are the proved library's; what a model asserts of them is written out below, by itself.
  */
 #include <inttypes.h>
@@ -14,6 +14,17 @@
 #define HEAP_BYTES 5934
 /* Where a state tells whether an epoch is open. */
 #define HEAP_IS_OPEN_AT 12
+
+/* How long a granule's row of a state is, and all rows together. */
+#define HEAP_ROW 21
+#define HEAP_ROWS ((size_t)HEAP_ROW * 256 * HEAP_PAGES)
+/* What SPIN keeps: the state as it is. With -DHEAP_GRANULES=20 the rows of at most 20 granules, each behind its number and 1, and of
+ * no others, whose rows are zeros: they are untagged, hold zeros, and no block starts there. What has no row is zeros too. */
+#ifdef HEAP_GRANULES
+#define HEAP_KEPT (HEAP_BYTES - HEAP_ROWS + (size_t)(HEAP_ROW + 4) * HEAP_GRANULES)
+#else
+#define HEAP_KEPT HEAP_BYTES
+#endif
 
 /* The last reply, for models that ask what a command was answered. It is no part of a state. */
 static kernelstint_reply heap_reply;
@@ -49,38 +60,88 @@ static void heap_print(kernelstint_command it) {
     }
 }
 
-/* Writes the first state. */
-static int heap_first(unsigned char *state) {
+/* Writes the state of which these bytes are kept. */
+static void heap_state(const unsigned char *kept, unsigned char *state) {
+#ifdef HEAP_GRANULES
+    const unsigned char *row = kept + HEAP_BYTES - HEAP_ROWS;
+    int i;
+    memcpy(state, kept, KERNELSTINT_GRANULE_AT(0));
+    memset(state + KERNELSTINT_GRANULE_AT(0), 0, HEAP_ROWS);
+    memcpy(state + KERNELSTINT_REGISTER_AT(HEAP_PAGES, 0), kept + KERNELSTINT_GRANULE_AT(0), HEAP_BYTES - HEAP_ROWS - KERNELSTINT_GRANULE_AT(0));
+    for (i = 0; i < HEAP_GRANULES; i++, row += HEAP_ROW + 4) {
+        uint32_t number;
+        memcpy(&number, row, 4);
+        if (number == 0) return;
+        memcpy(state + KERNELSTINT_GRANULE_AT(number - 1), row + 4, HEAP_ROW);
+    }
+#else
+    memcpy(state, kept, HEAP_BYTES);
+#endif
+}
+
+/* Writes what is kept of a state. It stops the search where that has no room. */
+static void heap_keep(const unsigned char *state, unsigned char *kept) {
+#ifdef HEAP_GRANULES
+    static const unsigned char zeros[HEAP_ROW];
+    unsigned char *row = kept + HEAP_BYTES - HEAP_ROWS;
+    uint32_t number;
+    memset(kept, 0, HEAP_KEPT);
+    memcpy(kept, state, KERNELSTINT_GRANULE_AT(0));
+    memcpy(kept + KERNELSTINT_GRANULE_AT(0), state + KERNELSTINT_REGISTER_AT(HEAP_PAGES, 0), HEAP_BYTES - HEAP_ROWS - KERNELSTINT_GRANULE_AT(0));
+    for (number = 1; number <= 256 * HEAP_PAGES; number++) {
+        const unsigned char *told = state + KERNELSTINT_GRANULE_AT(number - 1);
+        if (memcmp(told, zeros, HEAP_ROW) == 0) continue;
+        if (row == kept + HEAP_KEPT) {
+            fflush(stdout);
+            fprintf(stderr, "heap.h: more than %d granules that are not zero: -DHEAP_GRANULES wants more\n", HEAP_GRANULES);
+            abort();
+        }
+        memcpy(row, &number, 4);
+        memcpy(row + 4, told, HEAP_ROW);
+        row += HEAP_ROW + 4;
+    }
+#else
+    memcpy(kept, state, HEAP_BYTES);
+#endif
+}
+
+/* Writes what is kept of the first state. */
+static int heap_first(unsigned char *kept) {
+    unsigned char state[HEAP_BYTES];
     if (readtrail) printf("trace: heap 0x%x %d\n", HEAP_BASE, HEAP_PAGES);
-    return kernelstint_state_length(HEAP_PAGES) == HEAP_BYTES && kernelstint_first(HEAP_BASE, HEAP_PAGES, state, HEAP_BYTES) == KERNELSTINT_DONE;
+    if (kernelstint_state_length(HEAP_PAGES) != HEAP_BYTES) return 0;
+    if (kernelstint_first(HEAP_BASE, HEAP_PAGES, state, HEAP_BYTES) != KERNELSTINT_DONE) return 0;
+    heap_keep(state, kept);
+    return 1;
 }
 
 /* Does one command, in place. */
-static int heap_command(unsigned char *state, kernelstint_command command) {
-    unsigned char next[HEAP_BYTES];
+static int heap_command(unsigned char *kept, kernelstint_command command) {
+    unsigned char state[HEAP_BYTES], next[HEAP_BYTES];
     if (readtrail) heap_print(command);
+    heap_state(kept, state);
     if (kernelstint_step(state, HEAP_BYTES, command, next, sizeof next, &heap_reply) != KERNELSTINT_DONE) return 0;
-    memcpy(state, next, sizeof next);
 #ifdef HEAP_FORGETS_MARKS
     /* They are looked at in an open epoch alone, and what begins one takes them all away. */
-    if (state[HEAP_IS_OPEN_AT] == 0) memset(state + KERNELSTINT_PAGE_AT(HEAP_PAGES, 0), 0, HEAP_PAGES);
+    if (next[HEAP_IS_OPEN_AT] == 0) memset(next + KERNELSTINT_PAGE_AT(HEAP_PAGES, 0), 0, HEAP_PAGES);
 #endif
+    heap_keep(next, kept);
     return 1;
 }
 
 /* The same of a command's parts: `number` is its size, its address, its length or its mask. What a record can't hold is none. */
-static int heap_step(unsigned char *state, int kind, int first, int second, uint64_t number) {
+static int heap_step(unsigned char *kept, int kind, int first, int second, uint64_t number) {
     kernelstint_command command = {0};
     if (((kind | first | second) & ~0xff) != 0) return 0;
     command.kind = (uint8_t)kind;
     command.first = (uint8_t)first;
     command.second = (uint8_t)second;
     command.number = number;
-    return heap_command(state, command);
+    return heap_command(kept, command);
 }
 
 /* Writes these 16 bytes to where a register points. */
-static int heap_write(unsigned char *state, int by, const void *bytes) {
+static int heap_write(unsigned char *kept, int by, const void *bytes) {
     const unsigned char *from = bytes;
     kernelstint_command command = {0};
     int i;
@@ -91,7 +152,7 @@ static int heap_write(unsigned char *state, int by, const void *bytes) {
         command.low |= (uint64_t)from[i] << 8 * i;
         command.high |= (uint64_t)from[8 + i] << 8 * i;
     }
-    return heap_command(state, command);
+    return heap_command(kept, command);
 }
 
 /* Whether a tagged word at this place, 16 bytes and the tag behind them, has its base from base up to, not including, top. */
@@ -129,17 +190,18 @@ static int heap_is_live(const unsigned char *state, int r) {
 }
 
 /* Loads by way of a register, and says whether the node that it points to was live. */
-static int heap_read(unsigned char *state, int to, int by) {
-    int live = heap_is_live(state, by);
-    return heap_step(state, KERNELSTINT_LOADCAP, to, by, 0) && live;
+static int heap_read(unsigned char *kept, int to, int by) {
+    unsigned char state[HEAP_BYTES];
+    heap_state(kept, state);
+    return heap_step(kept, KERNELSTINT_LOADCAP, to, by, 0) && heap_is_live(state, by);
 }
 
 /* Does one command, and says whether reuse is safe: what it hands out, no word pointed into before. A sweep of the malloc's own
  * comes first, so a model that lets memory run out has to ask this of the state after the sweep. */
-static int heap_do(unsigned char *state, int kind, int first, int second, uint64_t number) {
+static int heap_do(unsigned char *kept, int kind, int first, int second, uint64_t number) {
     unsigned char before[HEAP_BYTES];
-    memcpy(before, state, sizeof before);
-    if (!heap_step(state, kind, first, second, number)) return 0;
+    heap_state(kept, before);
+    if (!heap_step(kept, kind, first, second, number)) return 0;
     if (heap_reply.kind != KERNELSTINT_BLOCK) return 1;
     return heap_is_unused(before, heap_reply.base, heap_reply.top);
 }

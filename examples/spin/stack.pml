@@ -8,7 +8,7 @@ c_decl {
 \#include "heap.h"
 }
 
-c_state "unsigned char heap[5934]" "Global"
+c_state "unsigned char heap[HEAP_KEPT]" "Global"
 
 bit ok = 1;
 bit ready;

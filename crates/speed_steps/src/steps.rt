@@ -2,11 +2,19 @@
 
 use crate::work::{BASE, ROUNDS, Work};
 use heap_machine::Machine;
+use heap_reply::{Reply, Shown};
 use std::alloc::Global;
 use std::io;
 use std::time::{CpuClock, Duration};
 use sweep_pool::{Cutting, Open};
 use trace_text::Command;
+
+// How many commands were done, and a sum of what all were answered: an answer that nobody asks for needn't be made.
+#[derive(Clone, Copy)]
+struct Done {
+    steps: u64,
+    sum: u64,
+}
 
 /// Times this work on a heap of so many pages.
 pub(crate) fn time_steps(rt: &HostRuntime, pages: u32, work: &Work) -> io::Result<()> {
@@ -14,15 +22,16 @@ pub(crate) fn time_steps(rt: &HostRuntime, pages: u32, work: &Work) -> io::Resul
         return println!(rt; "no machine");
     };
     let mut least = Duration::MAX;
-    let mut steps = 0u64;
+    let mut done = Done { steps: 0, sum: 0 };
     for _ in 0..ROUNDS {
         let start = rt.thread_cpu_time()?;
-        steps = steps.wrapping_add(repeat(&mut machine, rt.alloc(), work));
+        done = repeat(&mut machine, rt.alloc(), work, done);
         least = least.min(rt.thread_cpu_time()?.saturating_sub(start));
         step(&mut machine, rt.alloc(), Command::Sweep);
     }
     let name = work.name;
-    println!(rt; "{name}, pages {pages}: {steps} times")?;
+    let Done { steps, sum } = done;
+    println!(rt; "{name}, pages {pages}: {steps} times, answered {sum:#x}")?;
     let nanoseconds = least.as_nanos() / u128::from(work.times.max(1));
     eprintln!(rt; "{name}, pages {pages}: {nanoseconds} ns")
 }
@@ -37,28 +46,56 @@ pub(crate) fn prepared(alloc: Global, pages: u32) -> Option<Machine> {
     Some(machine)
 }
 
-// Does the work once, and answers how often its commands were done.
-fn repeat(machine: &mut Machine, alloc: Global, work: &Work) -> u64 {
-    let mut done = 0u64;
+// Does the work once more.
+fn repeat(machine: &mut Machine, alloc: Global, work: &Work, before: Done) -> Done {
+    let mut done = before;
     for _ in 0..work.times {
-        if in_turn(machine, alloc, &work.commands, work.count) {
-            done = done.wrapping_add(1);
+        done = in_turn(machine, alloc, work, done);
+    }
+    done
+}
+
+// Does its commands in turn.
+fn in_turn(machine: &mut Machine, alloc: Global, work: &Work, before: Done) -> Done {
+    let mut done = before;
+    for command in work.commands.iter().take(work.count) {
+        if let Some(reply) = step(machine, alloc, *command) {
+            done.steps = done.steps.wrapping_add(1);
+            done.sum = done.sum.wrapping_mul(3).wrapping_add(number_of(reply));
         }
     }
     done
 }
 
-// Does the first of these commands in turn, and tells whether all were done.
-fn in_turn(machine: &mut Machine, alloc: Global, commands: &[Command; 3], count: usize) -> bool {
-    let mut all = true;
-    for command in commands.iter().take(count) {
-        all &= step(machine, alloc, *command);
+// Does a command.
+#[inline]
+fn step(machine: &mut Machine, alloc: Global, command: Command) -> Option<Reply> {
+    if !command.is_valid() {
+        return None;
     }
-    all
+    machine.step_alone(alloc, command, &Open).ok()
 }
 
-// Does a command, and tells whether it was done.
-#[inline]
-fn step(machine: &mut Machine, alloc: Global, command: Command) -> bool {
-    command.is_valid() && machine.step_alone(alloc, command, &Open).is_ok()
+// A number that depends on all that these answers tell.
+fn number_of(reply: Reply) -> u64 {
+    match reply {
+        Reply::Block { base, top } => base ^ (top as u64),
+        Reply::Held(bytes) => bytes,
+        Reply::Swept { cleared, released } => u64::from(cleared) ^ released,
+        Reply::Shown(
+            Shown {
+                tag,
+                address,
+                base,
+                top,
+                perms,
+                otype,
+                exponent,
+            },
+        ) => {
+            let kind = u64::from(perms) ^ u64::from(otype) ^ u64::from(exponent) ^ u64::from(tag);
+            address ^ base.wrapping_mul(3) ^ (top as u64) ^ kind
+        }
+        _ => 1,
+    }
 }
