@@ -79,7 +79,7 @@ fn step(machine: &mut Machine, alloc: Global, command: Command) -> Option<Reply>
 // A number that depends on all that these answers tell.
 fn number_of(reply: Reply) -> u64 {
     match reply {
-        Reply::Block { base, top } => base ^ (top as u64),
+        Reply::Block { base, top } => base ^ (top % (1 << 64)) as u64,
         Reply::Held(bytes) => bytes,
         Reply::Swept { cleared, released } => u64::from(cleared) ^ released,
         Reply::Shown(
@@ -94,7 +94,7 @@ fn number_of(reply: Reply) -> u64 {
             },
         ) => {
             let kind = u64::from(perms) ^ u64::from(otype) ^ u64::from(exponent) ^ u64::from(tag);
-            address ^ base.wrapping_mul(3) ^ (top as u64) ^ kind
+            address ^ base.wrapping_mul(3) ^ (top % (1 << 64)) as u64 ^ kind
         }
         _ => 1,
     }
