@@ -59,26 +59,30 @@ fn repeat(machine: &mut Machine, alloc: Global, work: &Work, before: Done) -> Do
 fn in_turn(machine: &mut Machine, alloc: Global, work: &Work, before: Done) -> Done {
     let mut done = before;
     for command in work.commands.iter().take(work.count) {
-        if let Some(reply) = step(machine, alloc, *command) {
+        if let Some(number) = step(machine, alloc, *command) {
             done.steps = done.steps.wrapping_add(1);
-            done.sum = done.sum.wrapping_mul(3).wrapping_add(number_of(reply));
+            done.sum = done.sum.wrapping_mul(3).wrapping_add(number);
         }
     }
     done
 }
 
-// Does a command.
+// Does a command, and tells its answer as a number.
 #[inline]
-fn step(machine: &mut Machine, alloc: Global, command: Command) -> Option<Reply> {
+fn step(machine: &mut Machine, alloc: Global, command: Command) -> Option<u64> {
     if !command.is_valid() {
         return None;
     }
-    machine.step_alone(alloc, command, &Open).ok()
+    match machine.step_alone(alloc, command, &Open) {
+        Ok(ref reply) => Some(number_of(reply)),
+        Err(_) => None,
+    }
 }
 
 // A number that depends on all that these answers tell.
-fn number_of(reply: Reply) -> u64 {
-    match reply {
+#[inline]
+fn number_of(reply: &Reply) -> u64 {
+    match *reply {
         Reply::Block { base, top } => base ^ (top % (1 << 64)) as u64,
         Reply::Held(bytes) => bytes,
         Reply::Swept { cleared, released } => u64::from(cleared) ^ released,
