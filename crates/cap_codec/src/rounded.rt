@@ -13,7 +13,6 @@ use crate::word::{Bounds, Fields, Word};
 pub const SHORT: u128 = 1 << 12;
 
 // The word with these bounds, rounded for this exponent, as `with_bounds` promises it.
-#[inline(always)]
 pub fn with_exponent(w: Word, base: u64, top: u128, exponent: u8) -> (Word, bool)
     requires order { base ≤ top }
     requires room { top ≤ 2 ^ 64 }

@@ -20,8 +20,6 @@ use crate::word::Word;
 /// assert!(rt; !exact);
 /// assert_eq!(rt; bounds(word).top, 0x4000_1008);
 /// ```
-// Inlined: of short bounds, as most are, little is then left to round.
-#[inline(always)]
 pub fn with_bounds(w: Word, base: u64, top: u128) -> (Word, bool)
     requires order { base ≤ top }
     requires room { top ≤ 2 ^ 64 }

@@ -57,7 +57,6 @@ impl Storage {
         // What the command's type says of its numbers, for the law `steps`.
         ensures fits { FitsTypes command }
     {
-        // What answers without a pass is inlined: each call would have room for a reply of its own, which every step clears.
         match command {
             Command::Malloc { rd, size } => self.malloc(rd, size, pass),
             Command::Free { rs } => Ok(self.free(rs)),
@@ -100,7 +99,6 @@ impl Storage {
         Reply::Done
     }
 
-    #[inline(always)]
     fn narrow(&mut self, rd: u8, rs: u8, length: u64) -> Reply
         requires storage { IsStorage self.old }
         requires valid { IsValid (Command.Narrow rd rs length) }
@@ -153,7 +151,6 @@ impl Storage {
         Ok(((fields(word).address - self.memory.base()) / GRANULE) as usize)
     }
 
-    #[inline(always)]
     fn store_cap(&mut self, ra: u8, rs: u8) -> Reply
         requires storage { IsStorage self.old }
         requires valid { IsValid (Command.StoreCap ra rs) }
@@ -171,7 +168,6 @@ impl Storage {
         Reply::Done
     }
 
-    #[inline(always)]
     fn load_cap(&mut self, rd: u8, ra: u8) -> Reply
         requires storage { IsStorage self.old }
         requires valid { IsValid (Command.LoadCap rd ra) }
@@ -188,7 +184,6 @@ impl Storage {
         Reply::Done
     }
 
-    #[inline(always)]
     fn write(&mut self, ra: u8, bytes: [u8; 16]) -> Reply
         requires storage { IsStorage self.old }
         requires valid { IsValid (Command.Write ra bytes) }
@@ -203,7 +198,6 @@ impl Storage {
         Reply::Done
     }
 
-    #[inline(always)]
     fn show(&self, rs: u8) -> Reply
         requires storage { IsStorage self.now }
         requires valid { IsValid (Command.Show rs) }

@@ -1,6 +1,5 @@
 -- Single bits of words.
-use Rattle.std.proofs.Common.{◌≡◌, ◌≢◌, ℕ, zero, suc, ◌+◌, ◌-◌, ◌*◌, ◌/◌, ◌%◌, ◌^◌, ◌==◌, ◌<◌, min, Bool, true, false, if◌then◌else◌, List, [], ◌∷◌, length, get_or, map, refl, sym, subst, ◌∙◌, ap, arith, bit_and, bit_or, w64}
-use mir.Val.{bool_byte}
+use Rattle.std.proofs.Common.{◌≡◌, ◌≢◌, ℕ, zero, suc, ◌+◌, ◌-◌, ◌*◌, ◌/◌, ◌%◌, ◌^◌, ◌==◌, ◌<◌, min, Bool, true, false, if◌then◌else◌, List, [], ◌∷◌, length, get_or, map, refl, sym, ◌∙◌, ap, arith, bit_and, bit_or, w64}
 use native.Mathlib.Decide.{ℕ_discrete}
 use mathlib.Core.Logic.{dite}
 use lib.Lanes.{mask_l}
@@ -8,7 +7,7 @@ use Rattle.std.specs.Int.{bit_at, bit_not}
 use Rattle.std.specs.Int.RustNames.{count_ones}
 use Rattle.std.specs.List.{count_by}
 use Rattle.std.proofs.lemmas.Bool.{eq-eqb, eqb-false, eqb-true, ne_eqb}
-use Rattle.std.proofs.lemmas.Nat.Bits.{bit_at-lt, bit_at-suc, bit_at-zero, bit_at_and, bit_at_or, bit_at_clear_same, bit_at_clear_other, bit_at_lowest}
+use Rattle.std.proofs.lemmas.Nat.Bits.{bit_at-lt, bit_at-suc, bit_at-zero, bit_at_and, bit_at_clear_same, bit_at_clear_other, bit_at_lowest}
 use Rattle.std.proofs.lemmas.Simd.{bit_mask_l, mask_l-lt, ones-mask_l}
 use Rattle.tag_memory.specs.Laws.{is_set-other, is_set-same, same_test}
 use Rattle.tag_memory.specs.Tags.{is_set, number_of_bits}
@@ -26,21 +25,6 @@ pub is_set-and_not : (word j k : ℕ) → j < 64 → k < 64 → is_set (bit_and 
 is_set-and_not word j k hj hk = dite (ℕ_discrete k j)
     (λ here. rw (eq-eqb k j here) (rw here (same_test _ 0 (bit_at_clear_same w64 word j hj))))
     (λ other. rw (ne_eqb k j other) (same_test _ _ (bit_at_clear_other w64 word j hj k hk other)))
-
--- the word with this bit j: cleared, and then set by it
-pub is_set-put : (word j k : ℕ) (bit : Bool) → j < 64 → k < 64
-    → is_set (bit_or (bit_and word (bit_not w64 (1 * 2 ^ j % 2 ^ 64))) (bool_byte bit * 2 ^ j % 2 ^ 64)) k ≡ (if k == j then bit else is_set word k)
-is_set-put word j k true hj hk =
-    let rest = bit_and word (bit_not w64 (1 * 2 ^ j % 2 ^ 64)) in
-    let kept = is_set-and_not word j k hj hk in
-    is_set-or rest j k hj hk ∙ dite (ℕ_discrete k j)
-    (λ here. rw (eq-eqb k j here) refl)
-    (λ other. rw (ne_eqb k j other) (subst (λ (here : Bool). is_set rest k ≡ (if here then false else is_set word k)) (ne_eqb k j other) kept))
-is_set-put word j k false hj hk =
-    let rest = bit_and word (bit_not w64 (1 * 2 ^ j % 2 ^ 64)) in
-    let none : 0 * 2 ^ j % 2 ^ 64 ≡ 0 = omega arith in
-    let same : bit_at (bit_or rest 0) k ≡ bit_at rest k = let or = bit_at_or rest 0 k in let zeros = bit_at-zero k in omega (arith, or, zeros) in
-    same_test _ _ (ap (λ (m : ℕ). bit_at (bit_or rest m) k) none ∙ same) ∙ is_set-and_not word j k hj hk
 
 -- ---- the lowest bit of a number, which bit j is, and the number one less
 

@@ -19,8 +19,8 @@ pub fn with_bit(word: u64, j: usize, bit: bool) -> u64
     requires { j < 64 }
     ensures { (k : ℕ) → k < 64 → is_set result k ≡ (if k == j then bit else is_set word k) }
 {
-    // Without a branch: in a sweep over many held blocks none can tell which tag is next to go.
-    (word & !(1 << j)) | (u64::from(bit) << j)
+    let place = 1 << j;
+    if bit { word | place } else { word & !place }
 }
 
 /// The place of the lowest bit that is 1.

@@ -74,7 +74,6 @@ impl RevokedTags {
 
 impl Storage {
     // The block with just a register's bounds goes into quarantine.
-    #[inline(always)]
     pub(super) fn free(&mut self, rs: u8) -> Reply
         requires storage { IsStorage self.old }
         requires valid { IsValid (Command.Free rs) }
