@@ -4,3 +4,4 @@ pub mod HexadecimalLaws
 pub mod Shown
 pub mod ShortText
 pub mod WordLine
+pub mod Kind

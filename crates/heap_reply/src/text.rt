@@ -1,6 +1,7 @@
 //! The texts of replies.
 
 ghost use Rattle.std.specs.Prelude.{◌≡◌, ◌≤◌, ◌+◌, ◌++◌, Some, length};
+ghost use Rattle.heap_reply.specs.Kind.{kind_text};
 ghost use Rattle.heap_reply.specs.ReplyText.{text_of_reply, block_text, shown_text, trap_name};
 
 use crate::display::flag_number;
@@ -29,6 +30,26 @@ impl Trap {
     }
 }
 
+// Puts what a capability allows, its type and its exponent before what stands.
+#[inline(always)]
+fn put_kind(text: &mut ShortText, perms: u16, otype: u32, exponent: u8)
+    requires room { 79 + length text.old ≤ 256 }
+    ensures text { text.new ≡ kind_text perms otype exponent ++ text.old }
+    ensures length { length text.new ≤ 79 + length text.old }
+{
+    // An unsealed pointer into a block of less than 4 KiB has just these.
+    if perms == 0x3d && otype == 0x3ffff && exponent == 0 {
+        text.put(" perms 0x3d type 0x3ffff exponent 0");
+        return;
+    }
+    text.put_decimal(u64::from(exponent));
+    text.put(" exponent ");
+    text.put_hexadecimal(u64::from(otype));
+    text.put(" type ");
+    text.put_hexadecimal(u64::from(perms));
+    text.put(" perms ");
+}
+
 // Puts what is shown of a register before what stands.
 #[inline(always)]
 fn put_shown(text: &mut ShortText, shown: &Shown)
@@ -36,12 +57,7 @@ fn put_shown(text: &mut ShortText, shown: &Shown)
     ensures text { text.new ≡ shown_text shown.now ++ text.old }
     ensures length { length text.new ≤ 200 + length text.old }
 {
-    text.put_decimal(u64::from(shown.exponent));
-    text.put(" exponent ");
-    text.put_hexadecimal(u64::from(shown.otype));
-    text.put(" type ");
-    text.put_hexadecimal(u64::from(shown.perms));
-    text.put(" perms ");
+    put_kind(text, shown.perms, shown.otype, shown.exponent);
     text.put_bounded_address(shown.address, shown.base, shown.top);
     text.put(" ");
     text.put_decimal(u64::from(flag_number(shown.tag)));

@@ -7,6 +7,7 @@ use Rattle.byteorder.specs.Endian.{little_bytes, little_number}
 use Rattle.byteorder.specs.Numbers.{little_number-reads_back}
 use Rattle.heap_machine.specs.Storage.{MachineState}
 use Rattle.tag_memory.specs.Cells.{Cell, Granule, AreRegisters, is_dirty_at, null_cell, register_at, registers_with}
+use Rattle.state_bytes.specs.Reading.{IsReadAt}
 use Rattle.state_bytes.specs.State.{HasInvariant}
 use Rattle.state_bytes.specs.Writing.{StandsAt}
 use Rattle.state_bytes.specs.Text.{block_number, dirty_text, flag_byte, granule_text, head_text, kind_number, length_told, memory_text, register_text, starts_in, text_length, text_of, texts_below}
@@ -89,10 +90,6 @@ flag_at bytes part tail at n flag long stands =
       byte_flag false = refl
 
 -- So a granule's bytes and its tag are read.
-pub record IsReadAt (bytes : List ℕ) (i : ℕ) (granule : Granule) : Type 0 where
-  pub bits : little_number 16 (drop (13 + 21 * i) bytes) ≡ granule.0
-  pub tag : (get_or bytes (13 + 21 * i + 16) 0 == 1) ≡ granule.1
-
 pub granule_read : (m : MachineState) (bytes : List ℕ) (i : ℕ) → HasInvariant m → text_of m ≡ bytes → i < length m.state.granules → IsReadAt bytes i (get_or m.state.granules i (0, false))
 unfolding granule_text
 granule_read m bytes i e text lt =
@@ -105,19 +102,21 @@ granule_read m bytes i e text lt =
           ∙ flag_at (text_of m) (little_bytes 16 (get_or m.state.granules i (0, false)).0) _ (13 + 21 * i) 16 (get_or m.state.granules i (0, false)).1 (length_little 16 (get_or m.state.granules i (0, false)).0) stands;
     }
 
--- One granule more is the machine's.
-pub granules_more : (m : MachineState) (bytes : List ℕ) (granules : List Granule) (i bits : ℕ) (tag : Bool) → HasInvariant m → text_of m ≡ bytes → length m.state.granules ≡ length granules → i < length granules
-    → bits ≡ little_number 16 (drop (13 + 21 * i) bytes) → tag ≡ (get_or bytes (13 + 21 * i + 16) 0 == 1)
-    → ((k : ℕ) → k < i → get_or granules k (0, false) ≡ get_or m.state.granules k (0, false))
-    → (k : ℕ) → k < i + 1 → get_or (set granules i (bits, tag)) k (0, false) ≡ get_or m.state.granules k (0, false)
-granules_more m bytes granules i bits tag e text count lt bits_is tag_is before k less =
+-- One granule is read there.
+pub read_same : (bytes : List ℕ) (i : ℕ) (g h : Granule) → IsReadAt bytes i g → IsReadAt bytes i h → g ≡ h
+read_same bytes i g h one other =
+    let bits = sym one.bits ∙ other.bits in
+    let tag = sym one.tag ∙ other.tag in
+    λ j. (bits j, tag j)
+
+-- One granule more is read.
+pub reads_more : (bytes : List ℕ) (granules : List Granule) (i bits : ℕ) (tag : Bool) → i < length granules → IsReadAt bytes i (bits, tag)
+    → ((k : ℕ) → k < i → IsReadAt bytes k (get_or granules k (0, false)))
+    → (k : ℕ) → k < i + 1 → IsReadAt bytes k (get_or (set granules i (bits, tag)) k (0, false))
+reads_more bytes granules i bits tag lt read before k less =
     elim (cases_eq k i) [
-      | inl same ↦
-          let read = granule_read m bytes i e text (omega (arith, lt, count)) in
-          let first = bits_is ∙ read.bits in
-          let second = tag_is ∙ read.tag in
-          get_or-set_at granules i k (bits, tag) (0, false) same lt ∙ ((λ j. (first j, second j)) ∙ ap (λ (x : ℕ). get_or m.state.granules x (0, false)) (sym same))
-      | inr other ↦ get_or-set_other granules i k (bits, tag) (0, false) other ∙ before k (omega (arith, less, other))
+      | inl same ↦ rw (get_or-set_at granules i k (bits, tag) (0, false) same lt) (rw same read)
+      | inr other ↦ rw (get_or-set_other granules i k (bits, tag) (0, false) other) (before k (omega (arith, less, other)))
     ]
 
 later : (bytes part piece : List ℕ) (at n : ℕ) → length part ≡ n → StandsAt bytes at (part ++ piece) → StandsAt bytes (at + n) piece

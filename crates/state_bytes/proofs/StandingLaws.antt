@@ -1,5 +1,5 @@
 -- What stands in bytes, piece by piece.
-use Rattle.std.proofs.Common.{◌≡◌, ◌∙◌, ◌≤◌, ◌<◌, ◌+◌, ◌/◌, ◌%◌, ◌*◌, ◌^◌, inl, inr, refl, ℕ, zero, suc, List, [], ◌∷◌, ◌++◌, length, drop, take, get_or, sym, ap, append_assoc, length-append, add-one, arith}
+use Rattle.std.proofs.Common.{◌≡◌, ◌∙◌, ◌≤◌, ◌<◌, ◌+◌, ◌/◌, ◌%◌, ◌*◌, ◌^◌, ◌==◌, inl, inr, refl, ℕ, zero, suc, Bool, List, [], ◌∷◌, ◌++◌, length, drop, take, get_or, sym, ap, append_assoc, length-append, add-one, arith}
 use Rattle.std.proofs.Math.Nat.{div-div-eq-div-mul, pow-succ'}
 use Rattle.std.proofs.Math.Seq.{drop-cons}
 use Rattle.std.proofs.lemmas.Bool.{cases_lt}
@@ -7,7 +7,8 @@ use Rattle.std.proofs.lemmas.List.{append-nil, drop-drop, drop_at, get_or-drop, 
 use Rattle.std.specs.Int.{byte_at, bytes_low_first}
 use Rattle.byteorder.specs.Endian.{little_bytes, little_from, little_number}
 use Rattle.byteorder.specs.Numbers.{little_number-reads_back}
-use Rattle.state_bytes.specs.Text.{texts_below}
+use Rattle.tag_memory.specs.Laws.{of_test}
+use Rattle.state_bytes.specs.Text.{flag_byte, texts_below}
 use Rattle.state_bytes.specs.Writing.{StandsAt}
 
 pub stands_none : (bytes : List ℕ) (at : ℕ) → StandsAt bytes at []
@@ -107,3 +108,16 @@ stands_read bytes at n x inside small read =
 -- And a number whose bytes stand there is read.
 pub reads_standing : (bytes : List ℕ) (at n x : ℕ) → x < 256 ^ n → StandsAt bytes at (little_bytes n x) → little_number n (drop at bytes) ≡ x
 reads_standing bytes at n x fits stands = ap (little_number n) stands.is ∙ little_number-reads_back n x stands.rest fits
+
+-- ---- a flag
+
+pub flag_standing : (bytes : List ℕ) (at : ℕ) (flag : Bool) → StandsAt bytes at (flag_byte flag ∷ []) → get_or bytes at 0 ≡ flag_byte flag
+flag_standing bytes at flag stands =
+    ap (λ (k : ℕ). get_or bytes k 0) (omega arith) ∙ (sym (get_or-drop at bytes 0 0) ∙ ap (λ (l : List ℕ). get_or l 0 0) stands.is)
+
+-- A byte of 0 or 1 stands for what is read of it.
+pub stands_flag : (bytes : List ℕ) (at : ℕ) (flag : Bool) → at < length bytes → get_or bytes at 0 ≤ 1 → (get_or bytes at 0 == 1) ≡ flag → StandsAt bytes at (flag_byte flag ∷ [])
+stands_flag bytes at flag inside small read = record {
+  rest = drop (suc at) bytes;
+  is = drop-cons bytes at 0 inside ∙ ap (λ (x : ℕ). x ∷ drop (suc at) bytes) (sym (of_test (get_or bytes at 0) (omega (arith, small))) ∙ ap flag_byte read);
+}

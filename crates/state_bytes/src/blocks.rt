@@ -87,6 +87,7 @@ fn read_others(heap: &mut Heap, bytes: &[u8]) -> bool
 }
 
 // The block that starts at a granule, if it waits or is live. Most rows tell of none.
+#[inline(always)]
 fn read_row(heap: &mut Heap, bytes: &[u8], i: usize) -> bool
     requires inside { 16 * i < heap.old.size }
     requires row { 13 + 21 * (i + 1) ≤ length bytes.now }

@@ -1,8 +1,9 @@
 //! Whether bytes are those of a machine's state.
 
-ghost use Rattle.std.specs.Prelude.{◌≡◌, ◌<◌, ◌≤◌, ◌+◌, ◌*◌, ◌∷◌, [], length, true};
+ghost use Rattle.std.specs.Prelude.{◌≡◌, ◌<◌, ◌≤◌, ◌+◌, ◌*◌, ◌∷◌, [], ℕ, length, true};
 ghost use Rattle.byteorder.specs.Endian.{little_bytes};
-ghost use Rattle.tag_memory.specs.Cells.{register_count};
+ghost use Rattle.tag_memory.specs.Cells.{Granule, register_count};
+ghost use Rattle.state_bytes.specs.Reading.{AreReadFrom, IsReadAt};
 ghost use Rattle.state_bytes.specs.State.{HasInvariant};
 ghost use Rattle.state_bytes.specs.Text.{dirty_text, flag_byte, granule_text, head_text, memory_text, register_text, text_of, texts_below};
 ghost use Rattle.state_bytes.specs.Writing.{StandsAt};
@@ -14,8 +15,9 @@ use heap_core::Heap;
 use heap_machine::Machine;
 use tag_memory::{Memory, REGISTERS, Registers};
 
-/// Whether the bytes are those that tell of a machine's state.
+/// Whether the bytes from which a machine's granules were read are those that tell of its state.
 pub fn is_text(bytes: &[u8], machine: &Machine) -> bool
+    requires read { AreReadFrom bytes.now machine.now.state.granules }
     ensures yes { result ≡ true → text_of machine.now ≡ bytes.now }
     ensures no { text_of machine.now ≡ bytes.now → result ≡ true }
     ensures invariant { HasInvariant machine.now }
@@ -55,32 +57,32 @@ fn is_head(bytes: &[u8], base: u64, pages: u32, is_open: bool) -> bool
 
 // All granules.
 fn are_granules(bytes: &[u8], heap: &Heap, memory: &Memory) -> bool
+    requires read { AreReadFrom bytes.now memory.now.granules }
     requires same { 16 * length memory.now.granules ≡ heap.now.size }
     requires inside { 13 + 21 * length memory.now.granules ≤ length bytes.now }
     ensures yes { result ≡ true → StandsAt bytes.now 13 (memory_text heap.now memory.now.granules) }
     ensures no { StandsAt bytes.now 13 (memory_text heap.now memory.now.granules) → result ≡ true }
 {
     for i in 0..memory.granules() {
-        let (bits, tag) = memory.cell(i);
-        if !is_granule(bytes, heap, i, bits, tag) {
+        if !is_granule(bytes, heap, i) {
             return false;
         }
     }
     true
 }
 
-// One granule.
-fn is_granule(bytes: &[u8], heap: &Heap, i: usize, bits: u128, tag: bool) -> bool
+// One granule: what was read of it tells its bytes, but a tag's byte may be one that stands for none.
+#[inline(always)]
+fn is_granule(bytes: &[u8], heap: &Heap, i: usize) -> bool
     requires granule { 16 * i < heap.now.size }
     requires inside { 13 + 21 * (i + 1) ≤ length bytes.now }
-    ensures yes { result ≡ true → StandsAt bytes.now (13 + 21 * i) (granule_text heap.now i (bits, tag)) }
-    ensures no { StandsAt bytes.now (13 + 21 * i) (granule_text heap.now i (bits, tag)) → result ≡ true }
+    ensures yes { result ≡ true → (granule : Granule) → IsReadAt bytes.now i granule
+        → StandsAt bytes.now (13 + 21 * i) (granule_text heap.now i granule) }
+    ensures no { (granule : Granule) → IsReadAt bytes.now i granule
+        → StandsAt bytes.now (13 + 21 * i) (granule_text heap.now i granule) → result ≡ true }
 {
     let at = HEAD + ROW * i;
-    if !is_16(bytes, at, bits) {
-        return false;
-    }
-    if !is_flag(bytes, at + TAG, tag) {
+    if bytes[at + TAG] > 1 {
         return false;
     }
     is_4(bytes, at + NUMBER, number_at(heap, i))

@@ -4,7 +4,7 @@ ghost use Rattle.std.specs.Prelude.{◌≡◌, ◌≢◌, ◌≤◌, ◌==◌, �
 ghost use Rattle.byteorder.specs.Endian.{little_number};
 ghost use Rattle.heap_machine.specs.Making.{machine_of_fields};
 ghost use Rattle.heap_machine.specs.Storage.{MachineState};
-ghost use Rattle.state_bytes.specs.Reading.{HasHead, HasParts};
+ghost use Rattle.state_bytes.specs.Reading.{AreReadFrom, HasHead, HasParts};
 ghost use Rattle.state_bytes.specs.State.{AreExact, IsSameState, IsState, HasInvariant};
 ghost use Rattle.state_bytes.specs.Text.{text_of};
 ghost use Rattle.state_bytes.specs.Text as text;
@@ -54,6 +54,7 @@ pub fn decode(alloc: Global, cutting: Cutting, bytes: &[u8]) -> Result<Machine, 
 fn read(alloc: Global, cutting: Cutting, bytes: &[u8]) -> Result<Machine, BytesFault>
     ensures exact { IfOk result (λ machine. AreExact machine.state.heap) }
     ensures cutting { IfOk result (λ machine. machine.cutting ≡ cutting) }
+    ensures read { IfOk result (λ machine. AreReadFrom bytes.now machine.state.granules) }
     ensures same { IfOk result (λ machine. (m : MachineState) → IsState m → text_of m ≡ bytes.now → IsSameState machine m) }
     ensures refused { IfErr result (λ why. why ≢ BytesFault.Memory → (m : MachineState) → IsState m → text_of m ≢ bytes.now) }
 {
@@ -116,6 +117,7 @@ fn read_words(memory: &mut Memory, bytes: &[u8]) -> Registers
         → (memory.new.granules ≡ m.state.granules) × (memory.new.dirty ≡ m.dirty) }
     ensures registers { (m : MachineState) → IsState m → text_of m ≡ bytes.now → length m.dirty ≡ length memory.old.dirty
         → result ≡ m.state.registers }
+    ensures read { AreReadFrom bytes.now memory.new.granules }
 {
     memory.invariant();
     let registers = HEAD + ROW * memory.granules();

@@ -99,6 +99,7 @@ fn put_granule(out: &mut [u8], heap: &Heap, i: usize, bits: u128, tag: bool)
 }
 
 /// The number of the block that starts at a granule, or 0.
+#[inline(always)]
 pub fn number_at(heap: &Heap, i: usize) -> u32
     requires inside { 16 * i < heap.now.size }
     ensures { result ≡ block_number heap.now (heap.now.base + 16 * i) }

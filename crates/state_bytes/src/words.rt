@@ -3,6 +3,7 @@
 ghost use Rattle.std.specs.Prelude.{◌≡◌, ◌<◌, ◌≤◌, ◌+◌, ◌*◌, ℕ, Bool, false, if◌then◌else◌, length, slice_index_or, slice_set, true};
 ghost use Rattle.heap_machine.specs.Storage.{MachineState};
 ghost use Rattle.tag_memory.specs.Cells.{register_count};
+ghost use Rattle.state_bytes.specs.Reading.{AreReadFrom};
 ghost use Rattle.state_bytes.specs.State.{IsState};
 ghost use Rattle.state_bytes.specs.Text.{text_of};
 
@@ -20,6 +21,7 @@ pub fn read_granules(memory: &mut Memory, bytes: &[u8])
     ensures base { memory.new.base ≡ memory.old.base }
     ensures granules { (m : MachineState) → IsState m → text_of m ≡ bytes.now → length m.state.granules ≡ length memory.old.granules
         → memory.new.granules ≡ m.state.granules }
+    ensures read { AreReadFrom bytes.now memory.new.granules }
 {
     for i in 0..memory.granules() {
         let at = HEAD + ROW * i;
@@ -28,7 +30,8 @@ pub fn read_granules(memory: &mut Memory, bytes: &[u8])
     }
 }
 
-// Writes a granule that is zero and untagged, if it is to be another.
+// Writes a granule that is zero and untagged, if it is to be another. Few are.
+#[inline(always)]
 fn put_over_zero(memory: &mut Memory, granule: usize, bits: u128, tag: bool)
     requires inside { granule < length memory.old.granules }
     requires zero { slice_index_or memory.old.granules granule (0, false) ≡ (0, false) }

@@ -7,6 +7,7 @@ ghost use Rattle.heap_model.specs.Sweep.{takes_tag};
 ghost use Rattle.sweep_masks.specs.Masks.{IsShadowOf, is_hit, is_hit_at};
 ghost use Rattle.sweep_masks.specs.Masks as masks;
 ghost use Rattle.sweep_masks.specs.declared.sweep.SweepFault.TheVariants.{Memory};
+ghost use Rattle.tag_memory.specs.Bases as bases;
 ghost use Rattle.tag_memory.specs.Cells.{cell_of, register_at, register_count};
 ghost use Rattle.tag_memory.specs.Tags.{is_set, is_tagged};
 
@@ -14,7 +15,7 @@ use cap_codec::{Word, bounds};
 use heap_model::Shadow;
 use std::alloc::AllocError;
 use tag_memory::{
-    FAR, GRANULE, Memory, REGISTERS, Registers, WORD_GRANULES, lowest_bit, with_bit, without_lowest,
+    FAR, GRANULE, Memory, REGISTERS, Registers, WORD_GRANULES, lowest_bit, without_lowest,
 };
 use thiserror::Error;
 
@@ -48,13 +49,30 @@ fn is_painted(shadow: &Shadow, base: u64, address: u64) -> bool
     shadow.painted(granule)
 }
 
+// How many of a shadow's granules, counted from the first, a memory may name as a base's.
+fn near_granules(shadow: &Shadow) -> usize
+    ensures inside { result ≤ length shadow.now }
+    ensures near { result ≤ bases.far }
+{
+    let granules = shadow.granules();
+    if granules < FAR as usize {
+        return granules;
+    }
+    FAR as usize
+}
+
 // Whether the base of granule `i`'s word lies in a painted granule. The memory keeps where it lies, so that it is decoded
-// only where that is far away.
-fn is_base_painted(memory: &Memory, shadow: &Shadow, i: usize) -> bool
-    requires { i < length memory.now.granules }
+// only where that is far away; the first `near` granules, where most lie, are asked for by one comparison.
+fn is_base_painted(memory: &Memory, shadow: &Shadow, near: usize, i: usize) -> bool
+    requires granule { i < length memory.now.granules }
+    requires inside { near ≤ length shadow.now }
+    requires near { near ≤ bases.far }
     ensures { result ≡ masks.is_painted shadow.now memory.now.base (base_of (cell_of (slice_index_or memory.now.granules i (0, false))).0) }
 {
     let granule = memory.base_granule(i);
+    if (granule as usize) < near {
+        return shadow.painted(granule as usize);
+    }
     if granule == FAR {
         let (bits, _) = memory.cell(i);
         return is_painted(shadow, memory.base(), bounds(Word { bits }).base);
@@ -93,10 +111,11 @@ fn tagged_mask(memory: &Memory, shadow: &Shadow, w: usize) -> u64
     let _granules = memory.granules();
     let mut rest = memory.tag_word(w);
     let mut mask = 0;
+    let near = near_granules(shadow);
     while rest != 0 {
         let j = lowest_bit(rest);
-        let is_hit = is_base_painted(memory, shadow, WORD_GRANULES * w + j);
-        mask = with_bit(mask, j, is_hit);
+        let is_hit = is_base_painted(memory, shadow, near, WORD_GRANULES * w + j);
+        mask |= u64::from(is_hit) << j;
         rest = without_lowest(rest);
     }
     mask

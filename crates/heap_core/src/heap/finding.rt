@@ -31,6 +31,8 @@ impl Heap {
     }
 
     /// The live or held block that starts at a granule, counted from the heap's base.
+    // Inlined: at most granules none does, and little is done.
+    #[inline(always)]
     pub fn block_starting_at(&self, granule: usize) -> Option<(Block, Kind)>
         requires inside { 16 * granule < self.now.size }
         ensures start { IfSome result (λ found. found.0.base ≡ self.now.base + 16 * granule) }

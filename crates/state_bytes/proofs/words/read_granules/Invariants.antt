@@ -1,8 +1,6 @@
--- The granules so far are the machine's, and the others are zero.
+-- The granules so far are read, and the others are zero.
 use Rattle.std.proofs.Common.{◌≡◌, ◌<◌, ◌≤◌, ℕ, false, get_or, length}
-use Rattle.heap_machine.specs.Storage.{MachineState}
-use Rattle.state_bytes.specs.State.{IsState}
-use Rattle.state_bytes.specs.Text.{text_of}
+use Rattle.state_bytes.specs.Reading.{IsReadAt}
 use Rattle.state_bytes.proofs.words.read_granules.Given as goal
 
 abbrev pub invariant-loop-i : goal.invariant-loop-i
@@ -11,6 +9,5 @@ invariant-loop-i l = record {
   pages : length l.memory.dirty ≡ length l.fn.memory.dirty;
   base : l.memory.base ≡ l.fn.memory.base;
   rest : (k : ℕ) → l.i ≤ k → get_or l.memory.granules k (0, false) ≡ (0, false);
-  all : (m : MachineState) → IsState m → text_of m ≡ l.bytes → length m.state.granules ≡ length l.fn.memory.granules
-      → (k : ℕ) → k < l.i → get_or l.memory.granules k (0, false) ≡ get_or m.state.granules k (0, false);
+  read : (k : ℕ) → k < l.i → IsReadAt l.bytes k (get_or l.memory.granules k (0, false));
 }
