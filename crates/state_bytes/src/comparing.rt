@@ -71,7 +71,8 @@ fn are_granules(bytes: &[u8], heap: &Heap, memory: &Memory) -> bool
     true
 }
 
-// One granule: what was read of it tells its bytes, but a tag's byte may be one that stands for none.
+// One granule. Its bytes and its tag were read from there; left are the tag's byte, which must be 0 or 1, and the number of the
+// block that starts there.
 #[inline(always)]
 fn is_granule(bytes: &[u8], heap: &Heap, i: usize) -> bool
     requires granule { 16 * i < heap.now.size }
