@@ -16,16 +16,16 @@ use sweep_pool::{
     sweep_masks_alone,
 };
 
-// To look where the bases of so many tagged granules lie takes longer than a worker more costs: the start of
-// its thread, and its tries of the tasks that others have claimed.
-const GRANULES_A_WORKER: usize = 16_000;
+// Where each worker looks at so many tagged granules, one worker more saves what it costs: the start of its thread,
+// and its tries of the tasks that others have claimed.
+const GRANULES_A_WORKER: usize = 43_000;
 
 // How a pass over so many tagged granules is cut: a worker is started only where its work is worth it.
 fn cutting_for(cutting: Cutting, tagged: usize) -> Cutting
     ensures pages { result.pages_per_task ≡ cutting.pages_per_task }
     ensures workers { result.workers ≤ cutting.workers }
 {
-    let worthwhile = tagged / GRANULES_A_WORKER + 1;
+    let worthwhile = (tagged / GRANULES_A_WORKER).max(1);
     let workers = worthwhile.min(cutting.workers() as usize) as u32;
     Cutting::new(workers, cutting.pages_per_task()).unwrap()
 }

@@ -37,7 +37,7 @@ fn put_kind(text: &mut ShortText, perms: u16, otype: u32, exponent: u8)
     ensures text { text.new ≡ kind_text perms otype exponent ++ text.old }
     ensures length { length text.new ≤ 79 + length text.old }
 {
-    // An unsealed pointer into a block of less than 4 KiB has just these.
+    // What a malloc gives of less than 4 KiB has these, until some are taken from it.
     if perms == 0x3d && otype == 0x3ffff && exponent == 0 {
         text.put(" perms 0x3d type 0x3ffff exponent 0");
         return;

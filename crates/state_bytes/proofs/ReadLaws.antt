@@ -1,7 +1,7 @@
 -- What stands where in the text of a machine.
 use Rattle.std.proofs.Common.{◌≡◌, ◌∙◌, ◌<◌, ◌≤◌, ◌+◌, ◌*◌, ◌^◌, ◌==◌, inl, inr, ℕ, zero, suc, Bool, true, false, List, [], ◌∷◌, ◌++◌, length, get_or, set, drop, if◌then◌else◌, refl, sym, ap, eq-eqb, append_assoc, length-append, length-set, arith}
 use Rattle.std.proofs.lemmas.Bool.{cases_eq, cases_lt, ne_eqb}
-use Rattle.std.proofs.lemmas.List.{drop-drop, append-nil, drop_at, ext_get_or, get_or-drop, get_or-set_other}
+use Rattle.std.proofs.lemmas.List.{drop-drop, append-nil, drop_at, ext_get_or, get_or-set_other}
 use Rattle.std.proofs.lemmas.Grind.{get_or-set_at}
 use Rattle.byteorder.specs.Endian.{little_bytes, little_number}
 use Rattle.byteorder.specs.Numbers.{little_number-reads_back}
@@ -12,6 +12,7 @@ use Rattle.state_bytes.specs.State.{HasInvariant}
 use Rattle.state_bytes.specs.Writing.{StandsAt}
 use Rattle.state_bytes.specs.Text.{block_number, dirty_text, flag_byte, granule_text, head_text, kind_number, length_told, memory_text, register_text, starts_in, text_length, text_of, texts_below}
 use Rattle.state_bytes.proofs.NumberLaws.{length_of_number}
+use Rattle.state_bytes.proofs.StandingLaws.{flag_standing}
 use Rattle.heap_model.specs.Found.{blocks_in}
 use Rattle.heap_model.specs.declared.block.Kind.{Kind}
 use Rattle.state_bytes.proofs.OneText.{register_fits, register_other, short_of, sizes_of}
@@ -82,8 +83,7 @@ pub flag_at : (bytes part tail : List ℕ) (at n : ℕ) (flag : Bool) → length
 flag_at bytes part tail at n flag long stands =
     let next : drop n (drop at bytes) ≡ flag_byte flag ∷ (tail ++ stands.rest) =
     ap (drop n) (stands.is ∙ append_assoc part ((flag_byte flag ∷ []) ++ tail) stands.rest) ∙ drop_at part (((flag_byte flag ∷ []) ++ tail) ++ stands.rest) n long in
-    let here : get_or bytes (at + n) 0 ≡ flag_byte flag =
-    ap (λ (k : ℕ). get_or bytes k 0) (omega arith) ∙ (sym (get_or-drop (at + n) bytes 0 0) ∙ ap (λ (l : List ℕ). get_or l 0 0) (sym (drop-drop n at bytes) ∙ next)) in
+    let here = flag_standing bytes (at + n) flag (record { rest = tail ++ stands.rest; is = sym (drop-drop n at bytes) ∙ next }) in
     ap (λ (x : ℕ). x == 1) here ∙ byte_flag flag where
       byte_flag : (b : Bool) → (flag_byte b == 1) ≡ b
       byte_flag true = refl

@@ -16,20 +16,20 @@ use trace_text::Command;
 
 const BASE: u64 = 0x4000_0000;
 
-// From 16,000 tagged granules on a pass has two workers.
-const TAGGED: u64 = 16_002;
+// From 86,000 tagged granules on a pass has two workers.
+const TAGGED: u64 = 90_002;
 
-// Two blocks: of 16 bytes, which is given up, and of 63 pages, which begins at granule 16. In so many granules of the
+// Two blocks: of 16 bytes, which is given up, and of 352 pages, which begins at granule 128. In so many granules of the
 // second stand the capabilities of both by turns, first that of the first.
 const FREED: u128 = 0x003d_0000_0405_8004_0000_0000_4000_0000;
 
-const KEPT: u128 = 0x003d_0000_03e3_8009_0000_0000_4000_0100;
+const KEPT: u128 = 0x003d_0000_0183_c00c_0000_0000_4000_0800;
 
 // That of the second with the address of the last such granule.
-const LAST: u128 = 0x003d_0000_03e3_8009_0000_0000_4003_e910;
+const LAST: u128 = 0x003d_0000_0183_c00c_0000_0000_4016_0110;
 
 // The capabilities of the first block: those in memory, and one in register 1.
-const STORED: u32 = 8_001;
+const STORED: u32 = 45_001;
 
 const SWEPT: Reply = Reply::Swept {
     cleared: STORED + 1,
@@ -40,16 +40,16 @@ const BEGUN: Reply = Reply::Begun { cleared: STORED };
 
 // The address of a granule of the second block, by its place there.
 fn address_of(place: u64) -> u64
-    requires { place < 16002 }
+    requires { place < 90002 }
 {
-    BASE + 0x100 + 16 * place
+    BASE + 0x800 + 16 * place
 }
 
 // The trace: a store into each of these granules, and a sweep once the first block is freed. Its room is taken at
 // once, so that few allocations are there to be refused.
 fn trace_text(alloc: Global) -> Option<String> {
-    let mut text = String::with_capacity(alloc, 700_000).ok()?;
-    text.push_str("heap 0x40000000 64\nmalloc c1 16\nmalloc c2 258048\n")
+    let mut text = String::with_capacity(alloc, 3_700_000).ok()?;
+    text.push_str("heap 0x40000000 360\nmalloc c1 16\nmalloc c2 1441792\n")
         .ok()?;
     for place in 0..TAGGED {
         let address = address_of(place);
@@ -62,9 +62,9 @@ fn trace_text(alloc: Global) -> Option<String> {
 
 // Its report.
 fn report_text(alloc: Global) -> Option<String> {
-    let mut report = String::with_capacity(alloc, 600_000).ok()?;
+    let mut report = String::with_capacity(alloc, 3_300_000).ok()?;
     report
-        .push_str("2 malloc block 0x40000000 0x40000010\n3 malloc block 0x40000100 0x4003f100\n")
+        .push_str("2 malloc block 0x40000000 0x40000010\n3 malloc block 0x40000800 0x40160800\n")
         .ok()?;
     for place in 0..TAGGED {
         let line = 4 + 2 * place;
@@ -73,7 +73,7 @@ fn report_text(alloc: Global) -> Option<String> {
     }
     report
         .push_str(
-            "32008 free held 16\n32009 sweep cleared 8002 released 16\nend live 258048 held 0 free 4096 tags 8003\n",
+            "180008 free held 16\n180009 sweep cleared 45002 released 16\nend live 1441792 held 0 free 32768 tags 45003\n",
         )
         .ok()?;
     Some(report)
@@ -81,7 +81,7 @@ fn report_text(alloc: Global) -> Option<String> {
 
 // What a granule has once the capabilities of the first block have lost their tags.
 fn swept_granule(i: usize) -> (u128, bool) {
-    match i.checked_sub(16) {
+    match i.checked_sub(128) {
         Some(place) if place < TAGGED as usize => {
             if place % 2 == 0 {
                 (FREED, false)
@@ -94,7 +94,7 @@ fn swept_granule(i: usize) -> (u128, bool) {
 }
 
 fn memory_is_swept(rt: &impl Abort, memory: &Memory) {
-    assert_eq!(rt; memory.granules(), 16_384);
+    assert_eq!(rt; memory.granules(), 92_160);
     for i in 0..memory.granules() {
         assert_eq!(rt; memory.cell(i), swept_granule(i), "granule {i}");
     }
@@ -128,7 +128,7 @@ fn run_is_right<R: Abort + Threads + Sync>(rt: &R, alloc: Global) {
     let Some(report) = report_text(alloc) else {
         return;
     };
-    let cutting = Cutting::new(2, 1).expect(rt, "it is a cutting");
+    let cutting = Cutting::new(2, 6).expect(rt, "it is a cutting");
     match run(rt, alloc, text.as_bytes(), cutting) {
         Ok(outcome) => outcome_is_swept(rt, &outcome, &report),
         Err(fault) => assert_eq!(rt; fault, RunFault::Memory),
@@ -152,13 +152,13 @@ fn a_refused_allocation_and_thread_of_a_shared_run_are_told(rt: HostRuntime) {
 
 // The machine after those stores, with the first block freed; none where an allocation was refused.
 fn machine<R: Threads + Sync>(rt: &R, alloc: Global) -> Option<Machine> {
-    let cutting = Cutting::new(2, 1).ok()?;
-    let mut machine = Machine::new(alloc, BASE, 64, cutting).ok()?;
+    let cutting = Cutting::new(2, 6).ok()?;
+    let mut machine = Machine::new(alloc, BASE, 360, cutting).ok()?;
     for command in [
         Command::Malloc { rd: 1, size: 16 },
         Command::Malloc {
             rd: 2,
-            size: 258_048,
+            size: 1_441_792,
         },
     ] {
         let _ = machine.step(rt, alloc, command, &Open).ok()?;
@@ -179,7 +179,7 @@ fn store_at<R: Threads + Sync>(
     machine: &mut Machine,
     place: u64,
 ) -> Option<()>
-    requires { place < 16002 }
+    requires { place < 90002 }
 {
     let address = address_of(place);
     let moved = Command::SetAddr {

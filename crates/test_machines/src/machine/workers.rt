@@ -50,14 +50,15 @@ impl Gate for Count {
     }
 }
 
-// A machine of 130 pages and 33,000 blocks of 16 bytes, each of which holds its own capability; the last
-// of them is held, and its capability is in register 1 too. It has up to 64 workers, and 1 page a task.
+// A machine of 532 pages and 136,000 blocks of 16 bytes, each of which holds its own capability; the last
+// of them is held, and its capability is in register 1 too. It may have 64 workers, of which three are worth their start,
+// and 1 page a task.
 fn crowded_machine<R: Threads + Sync>(rt: &R, alloc: Global) -> Result<Machine, MachineFault> {
     let Ok(cutting) = Cutting::new(64, 1) else {
         return Err(MachineFault::Memory);
     };
-    let mut machine = Machine::new(alloc, 0x4000_0000, 130, cutting)?;
-    for _ in 0..33_000 {
+    let mut machine = Machine::new(alloc, 0x4000_0000, 532, cutting)?;
+    for _ in 0..136_000 {
         let _ = machine.step(rt, alloc, Command::Malloc { rd: 1, size: 16 }, &Open)?;
         let _ = machine.step(rt, alloc, Command::StoreCap { ra: 1, rs: 1 }, &Open)?;
     }
@@ -76,9 +77,9 @@ fn a_sweep_of_many_tags_is_shared(rt: HostRuntime) {
     let gate = Count::of(2);
     let reply = machine.step(&rt, rt.alloc(), Command::Sweep, &gate);
     assert_eq!(rt; reply, Ok(SWEPT));
-    assert_eq!(rt; gate.calls.load(SeqCst), 130);
-    assert_eq!(rt; gate.tasks.load(SeqCst), 130 * 129 / 2);
-    assert_eq!(rt; machine.memory().tagged(), 32_999);
+    assert_eq!(rt; gate.calls.load(SeqCst), 532);
+    assert_eq!(rt; gate.tasks.load(SeqCst), 532 * 531 / 2);
+    assert_eq!(rt; machine.memory().tagged(), 135_999);
 }
 
 #[test]
@@ -110,9 +111,9 @@ fn a_sweep_of_many_tags_is_made_alone(rt: HostRuntime) {
     let gate = Count::of(0);
     let reply = machine.step_alone(rt.alloc(), Command::Sweep, &gate);
     assert_eq!(rt; reply, Ok(SWEPT));
-    assert_eq!(rt; gate.calls.load(SeqCst), 130);
-    assert_eq!(rt; gate.tasks.load(SeqCst), 130 * 129 / 2);
-    assert_eq!(rt; machine.memory().tagged(), 32_999);
+    assert_eq!(rt; gate.calls.load(SeqCst), 532);
+    assert_eq!(rt; gate.tasks.load(SeqCst), 532 * 531 / 2);
+    assert_eq!(rt; machine.memory().tagged(), 135_999);
 }
 
 // The sweep of a malloc is shared too, and is one.
@@ -126,8 +127,8 @@ fn a_malloc_that_sweeps_shares_its_sweep(rt: HostRuntime) {
     };
     let reply = machine.step(&rt, rt.alloc(), asked, &gate);
     assert_eq!(rt; reply, Ok(Reply::NoSpaceAfter { cleared: 2 }));
-    assert_eq!(rt; gate.calls.load(SeqCst), 130);
-    assert_eq!(rt; machine.memory().tagged(), 32_999);
+    assert_eq!(rt; gate.calls.load(SeqCst), 532);
+    assert_eq!(rt; machine.memory().tagged(), 135_999);
 }
 
 // Whichever threads are refused, a sweep is the same.
@@ -136,7 +137,7 @@ fn a_refused_thread_of_a_sweep_changes_nothing(rt: HostRuntime) {
     let mut machine = crowded_machine(&rt, rt.alloc()).expect(&rt, "there is memory");
     let reply = machine.step(&rt, rt.alloc(), Command::Sweep, &Open);
     assert_eq!(rt; reply, Ok(SWEPT));
-    assert_eq!(rt; machine.memory().tagged(), 32_999);
+    assert_eq!(rt; machine.memory().tagged(), 135_999);
 }
 
 #[test]
@@ -148,5 +149,5 @@ fn a_refused_thread_of_a_malloc_that_sweeps_changes_nothing(rt: HostRuntime) {
     };
     let reply = machine.step(&rt, rt.alloc(), asked, &Open);
     assert_eq!(rt; reply, Ok(Reply::NoSpaceAfter { cleared: 2 }));
-    assert_eq!(rt; machine.memory().tagged(), 32_999);
+    assert_eq!(rt; machine.memory().tagged(), 135_999);
 }
