@@ -6,15 +6,18 @@
  * returns. The functions are the exports of the crate kernelstint of the repository, whose contracts say it in full.
  * What is trusted: that this header declares them as they are, which tests try; the compilers; bindings/c/pointers.c, which
  * tests pointers before it calls an export; and, for the functions of the machine, which take memory, the ten lines of
- * bindings/c/allocator.c and the program's malloc, realloc and free.
+ * bindings/c/allocator.c and the program's malloc, realloc and free. The library as C (kernelstint.c) is made of the same proved
+ * sources, and more is trusted of it: docs/C_LIBRARY.md says what, and how it takes memory.
  *
- * No function waits or prints, and none but those of kernelstint_machine keeps anything. Each may be called by any thread at any
- * time, those on one machine by one thread at a time.
+ * No function waits or prints, and none but those of kernelstint_machine keeps anything. Each may be called by any thread at
+ * any time, those on one machine by one thread at a time.
  *
- * A code is 0 (KERNELSTINT_DONE) where a function did what it was asked, and else says why it did not. Where several would be
- * true, it is the first of these: KERNELSTINT_NULL, KERNELSTINT_OVERLAP, KERNELSTINT_NO_MACHINE, KERNELSTINT_IS_OPEN,
- * KERNELSTINT_SHORT_TEXT of kernelstint_step_line, those of a number, a record or a line (in the order of the function's comment),
- * KERNELSTINT_BAD_ROOM, KERNELSTINT_NO_MEMORY, KERNELSTINT_BAD_STATE or KERNELSTINT_BAD_TRACE, and what is left.
+ * A code is 0 (KERNELSTINT_CODE_DONE) where a function did what it was asked, and else says why it did not. Where several would
+ * be true, it is the first of these: KERNELSTINT_CODE_NULL, KERNELSTINT_CODE_OVERLAP, KERNELSTINT_CODE_NO_MACHINE,
+ * KERNELSTINT_CODE_IS_OPEN, KERNELSTINT_CODE_SHORT_TEXT of kernelstint_step_line, those of a number, a record or a line (in the
+ * order of the function's comment), KERNELSTINT_CODE_BAD_ROOM, KERNELSTINT_CODE_NO_MEMORY, KERNELSTINT_CODE_BAD_STATE or
+ * KERNELSTINT_CODE_BAD_TRACE, and then what only a state or a trace can be asked: KERNELSTINT_CODE_BAD_ADDRESS,
+ * KERNELSTINT_CODE_DIFFERS and KERNELSTINT_CODE_SHORT_TEXT.
  */
 #ifndef KERNELSTINT_H
 #define KERNELSTINT_H
@@ -45,62 +48,62 @@ uint32_t kernelstint_version(void);
 
 /* ---- Codes ---- */
 
-#define KERNELSTINT_DONE 0u
+#define KERNELSTINT_CODE_DONE 0u
 /* The bytes are not 16. */
-#define KERNELSTINT_BAD_LENGTH 1u
+#define KERNELSTINT_CODE_BAD_LENGTH 1u
 /* A field is past its width. */
-#define KERNELSTINT_BAD_FIELDS 2u
+#define KERNELSTINT_CODE_BAD_FIELDS 2u
 /* The bounds end before they begin, or past 2^64. */
-#define KERNELSTINT_BAD_BOUNDS 3u
+#define KERNELSTINT_CODE_BAD_BOUNDS 3u
 /* A pointer is null. */
-#define KERNELSTINT_NULL 4u
+#define KERNELSTINT_CODE_NULL 4u
 /* The room for a state is not as long as that state. */
-#define KERNELSTINT_BAD_ROOM 5u
+#define KERNELSTINT_CODE_BAD_ROOM 5u
 /* The bytes are no state's. */
-#define KERNELSTINT_BAD_STATE 6u
+#define KERNELSTINT_CODE_BAD_STATE 6u
 /* No heap has so many pages: 1 to 1,024. */
-#define KERNELSTINT_BAD_SIZE 7u
+#define KERNELSTINT_CODE_BAD_SIZE 7u
 /* The base is no multiple of 4,096, or the end of the heap is past 2^64. */
-#define KERNELSTINT_BAD_BASE 8u
+#define KERNELSTINT_CODE_BAD_BASE 8u
 /* A register of 32 or more. */
-#define KERNELSTINT_BAD_REGISTER 9u
+#define KERNELSTINT_CODE_BAD_REGISTER 9u
 /* No granule starts at the address. */
-#define KERNELSTINT_BAD_ADDRESS 10u
+#define KERNELSTINT_CODE_BAD_ADDRESS 10u
 /* The room for a text is too short. */
-#define KERNELSTINT_SHORT_TEXT 11u
+#define KERNELSTINT_CODE_SHORT_TEXT 11u
 /* The line has no word, or is a comment. */
-#define KERNELSTINT_PASSED_OVER 12u
+#define KERNELSTINT_CODE_PASSED_OVER 12u
 /* The line is no command. */
-#define KERNELSTINT_BAD_LINE 13u
+#define KERNELSTINT_CODE_BAD_LINE 13u
 /* malloc answered null. */
-#define KERNELSTINT_NO_MEMORY 14u
+#define KERNELSTINT_CODE_NO_MEMORY 14u
 /* No kind of command has this number, a register is 32 or more, or a mask has more than 16 bits. */
-#define KERNELSTINT_BAD_COMMAND 15u
+#define KERNELSTINT_CODE_BAD_COMMAND 15u
 /* No kind of reply or no trap has this number, or a tag that is shown is above 1. */
-#define KERNELSTINT_BAD_REPLY 16u
+#define KERNELSTINT_CODE_BAD_REPLY 16u
 /* The answer is not allowed. */
-#define KERNELSTINT_DIFFERS 17u
+#define KERNELSTINT_CODE_DIFFERS 17u
 /* The text is no trace. */
-#define KERNELSTINT_BAD_TRACE 18u
+#define KERNELSTINT_CODE_BAD_TRACE 18u
 /* Two places lie over one another, of which one is written. */
-#define KERNELSTINT_OVERLAP 19u
+#define KERNELSTINT_CODE_OVERLAP 19u
 /* No machine is held there. */
-#define KERNELSTINT_NO_MACHINE 20u
+#define KERNELSTINT_CODE_NO_MACHINE 20u
 /* A machine is held there already. */
-#define KERNELSTINT_IS_OPEN 21u
+#define KERNELSTINT_CODE_IS_OPEN 21u
 
 /* ---- Permissions, each by its bit ---- */
 
 /* May be stored by way of any capability that may store capabilities. */
-#define KERNELSTINT_GLOBAL 0x1u
+#define KERNELSTINT_PERM_GLOBAL 0x1u
 /* May load data. */
-#define KERNELSTINT_LOAD 0x4u
+#define KERNELSTINT_PERM_LOAD 0x4u
 /* May store data. */
-#define KERNELSTINT_STORE 0x8u
+#define KERNELSTINT_PERM_STORE 0x8u
 /* May load capabilities with their tags. */
-#define KERNELSTINT_LOAD_CAPABILITY 0x10u
+#define KERNELSTINT_PERM_LOAD_CAPABILITY 0x10u
 /* May store capabilities with their tags. */
-#define KERNELSTINT_STORE_CAPABILITY 0x20u
+#define KERNELSTINT_PERM_STORE_CAPABILITY 0x20u
 
 /* ---- What is passed ---- */
 
@@ -117,7 +120,7 @@ typedef struct kernelstint_word {
 typedef struct kernelstint_fields {
     uint64_t address;
     uint32_t otype;   /* the object type, 18 bits: all ones where the word is not sealed */
-    uint16_t perms;   /* permissions, 16 bits: KERNELSTINT_GLOBAL and others */
+    uint16_t perms;   /* permissions, 16 bits: KERNELSTINT_PERM_GLOBAL and others */
     uint16_t top12;   /* the top field, 12 bits */
     uint16_t base14;  /* the base field, 14 bits */
     uint8_t reserved; /* 2 bits */
@@ -125,17 +128,17 @@ typedef struct kernelstint_fields {
     uint8_t internal; /* 1 where the low 3 bits of top12 and of base14 hold the exponent, else 0 */
 } kernelstint_fields;
 
-/* The bytes from `base` on, before the top, which is top + 2^64 * top_64. */
+/* The bytes from `base` on, before the top, which is top + 2^64 * top_high. */
 typedef struct kernelstint_bounds {
     uint64_t base;
-    uint64_t top;   /* the top's lower 64 bits */
-    uint8_t top_64; /* its bit 64: the top 2^64 is 0 and 1 */
+    uint64_t top;      /* the top's lower 64 bits */
+    uint64_t top_high; /* what is above: the top 2^64 is 0 and 1 */
 } kernelstint_bounds;
 
-/* A length in bytes: length + 2^64 * length_64. */
+/* A length in bytes: length + 2^64 * length_high. */
 typedef struct kernelstint_length {
-    uint64_t length;   /* the lower 64 bits */
-    uint8_t length_64; /* bit 64: the length 2^64 is 0 and 1 */
+    uint64_t length;      /* the lower 64 bits */
+    uint64_t length_high; /* what is above: the length 2^64 is 0 and 1 */
 } kernelstint_length;
 
 /* By how many windows base and top lie apart from what the address's upper bits say: -1, 0 or 1 each. */
@@ -163,22 +166,22 @@ typedef struct kernelstint_narrowed_word {
 kernelstint_word kernelstint_null_word(void);
 
 /*
- * The word that `length` bytes hold, as memory has them. KERNELSTINT_BAD_LENGTH where length is not 16, KERNELSTINT_NULL where
- * `bytes` is null. Condition: so many bytes can be read there, which nothing writes meanwhile.
+ * The word that `length` bytes hold, as memory has them. KERNELSTINT_CODE_BAD_LENGTH where length is not 16,
+ * KERNELSTINT_CODE_NULL where `bytes` is null. Condition: so many bytes can be read there, which nothing writes meanwhile.
  */
 kernelstint_coded_word kernelstint_word_from_bytes(const uint8_t *bytes, size_t length);
 
 /*
- * Writes the 16 bytes of a word, and answers 0. KERNELSTINT_BAD_LENGTH, and nothing is written, where length is not 16;
- * KERNELSTINT_NULL where `bytes` is null. Condition: so many bytes can be read and written there, which nothing else reads or
- * writes meanwhile.
+ * Writes the 16 bytes of a word, and answers 0. KERNELSTINT_CODE_BAD_LENGTH, and nothing is written, where length is not 16;
+ * KERNELSTINT_CODE_NULL where `bytes` is null. Condition: so many bytes can be read and written there, which nothing else reads
+ * or writes meanwhile.
  */
 uint32_t kernelstint_word_to_bytes(kernelstint_word word, uint8_t *bytes, size_t length);
 
 /* The fields of a word. They are within their widths, and kernelstint_word_of_fields makes the same word of them. */
 kernelstint_fields kernelstint_fields_of(kernelstint_word word);
 
-/* The one word that has these fields. KERNELSTINT_BAD_FIELDS where a field is past its width, or a flag above 1. */
+/* The one word that has these fields. KERNELSTINT_CODE_BAD_FIELDS where a field is past its width, or a flag above 1. */
 kernelstint_coded_word kernelstint_word_of_fields(kernelstint_fields fields);
 
 /* ---- What a word says, whatever its 128 bits are ---- */
@@ -188,7 +191,7 @@ uint8_t kernelstint_exponent_of(kernelstint_word word);
 
 /*
  * The bounds that the word decodes to. Of a word that was made for bounds they begin at or before their end, which is
- * 2^64 at most; of other bits the top may be any number below 2^65, also one below the base. top_64 is 1 or 0.
+ * 2^64 at most; of other bits the top may be any number below 2^65, also one below the base. top_high is 1 or 0.
  */
 kernelstint_bounds kernelstint_bounds_of(kernelstint_word word);
 
@@ -207,7 +210,7 @@ bool kernelstint_is_allowed(kernelstint_word word, uint16_t permission);
  * The word with these bounds, and its address at their base; all else stays. Bounds that no word can hold as they are
  * become the least ones around them that the encoding has for their exponent, and then `exact` is false. Bounds shorter
  * than 4,096 bytes are always exact, and others where base and top are multiples of 2^(exponent + 3).
- * KERNELSTINT_BAD_BOUNDS where the top is below the base or above 2^64. It does not ask whether the bounds lie within
+ * KERNELSTINT_CODE_BAD_BOUNDS where the top is below the base or above 2^64. It does not ask whether the bounds lie within
  * those of the word: compare first where that matters.
  */
 kernelstint_narrowed_word kernelstint_with_bounds(kernelstint_word word, kernelstint_bounds bounds);
@@ -215,7 +218,7 @@ kernelstint_narrowed_word kernelstint_with_bounds(kernelstint_word word, kernels
 /*
  * The capability of a block of memory with these bounds: not sealed, its address their base, and with GLOBAL, LOAD,
  * STORE, LOAD_CAPABILITY and STORE_CAPABILITY. Bounds are rounded as by kernelstint_with_bounds.
- * KERNELSTINT_BAD_BOUNDS where the top is below the base or above 2^64.
+ * KERNELSTINT_CODE_BAD_BOUNDS where the top is below the base or above 2^64.
  */
 kernelstint_coded_word kernelstint_block_capability(kernelstint_bounds bounds);
 
@@ -241,7 +244,7 @@ uint64_t kernelstint_alignment_mask(uint64_t length);
 /*
  * A state is plain bytes: a heap of 1 to 1,024 pages of 4,096 bytes, its blocks, 32 registers and its dirty pages. It holds no
  * pointer, is written by these functions alone, and two states are the same exactly where their bytes are. A heap of so many
- * pages has states of one length, kernelstint_state_length(pages).
+ * pages has states of one length, KERNELSTINT_STATE_LENGTH(pages).
  *
  *     at                          bytes  what
  *     0                           8      the base of the heap, as all numbers here little endian
@@ -253,8 +256,8 @@ uint64_t kernelstint_alignment_mask(uint64_t length);
  *     KERNELSTINT_REGISTER_AT     17     register r: its 16 bytes, and its tag (0 or 1); register 0 is null
  *     KERNELSTINT_PAGE_AT         1      page p: 1 where it is dirty, else 0
  *
- * A heap of n pages has the granules 0 to 256 * n - 1. These functions take any bytes, and answer KERNELSTINT_BAD_STATE for
- * those that are no state's. Bytes of the length and form above are a state's where all of this holds, and only there:
+ * A heap of n pages has the granules 0 to 256 * n - 1. These functions take any bytes, and answer KERNELSTINT_CODE_BAD_STATE
+ * for those that are no state's. Bytes of the length and form above are a state's where all of this holds, and only there:
  *
  * - there are 1 to 1,024 pages, the base is a multiple of 4,096, and the heap ends at 2^64 at most
  * - register 0 is zero and untagged
@@ -266,33 +269,39 @@ uint64_t kernelstint_alignment_mask(uint64_t length);
  *
  * Conditions, where a function is given pointers: at each can be read, or written where the function writes, as many bytes as
  * the length beside it says, or one struct, and nothing else writes or reads there meanwhile. A null pointer is answered by
- * KERNELSTINT_NULL, also beside a length of 0, and places that lie over one another, of which one is written, by
- * KERNELSTINT_OVERLAP; a place of no bytes lies over none. States and texts may begin at any address: no alignment is asked.
- * Where the code is not 0, nothing is written but what the function's comment names. Each function takes memory from malloc while it runs, and answers
- * KERNELSTINT_NO_MEMORY where it gets none; a step on a heap of one page makes 12 to 14 allocations.
+ * KERNELSTINT_CODE_NULL, also beside a length of 0, and places that lie over one another, of which one is written, by
+ * KERNELSTINT_CODE_OVERLAP; a place of no bytes lies over none. States and texts may begin at any address: no alignment is
+ * asked. Where the code is not 0, nothing is written but what the function's comment names. Each function takes memory from
+ * malloc while it runs, and answers KERNELSTINT_CODE_NO_MEMORY where it gets none; a step on a heap of one page makes 12 to 14
+ * allocations. No function takes more than 20 KB of the stack. The library as C keeps what it takes for later calls, 79 MiB at most.
+ *
+ * Each function that is given a state reads and tests all of it, kernelstint_counts, kernelstint_register and
+ * kernelstint_granule too, which take more than half as long as a step: what is asked often is read where it stands.
  */
 #define KERNELSTINT_GRANULES(pages) ((size_t)256 * (pages))
 #define KERNELSTINT_GRANULE_AT(i) ((size_t)13 + (size_t)21 * (i))
 #define KERNELSTINT_REGISTER_AT(pages, r) (KERNELSTINT_GRANULE_AT(KERNELSTINT_GRANULES(pages)) + (size_t)17 * (r))
 #define KERNELSTINT_PAGE_AT(pages, p) (KERNELSTINT_REGISTER_AT(pages, 32) + (p))
+/* kernelstint_state_length of 1 to 1,024 pages, for the size of an array. */
+#define KERNELSTINT_STATE_LENGTH(pages) KERNELSTINT_PAGE_AT(pages, pages)
 /* Where in a granule or a register its tag is, and in a granule the number of the block that starts there. */
 #define KERNELSTINT_TAG_IN 16
 #define KERNELSTINT_BLOCK_IN 17
 
 /* The kinds of commands, with what each uses. */
-#define KERNELSTINT_MALLOC 0 /* malloc first, number: a block of `number` bytes, its capability to register `first` */
-#define KERNELSTINT_FREE 1 /* free first */
-#define KERNELSTINT_COPY 2 /* copy first, second: register `second` to register `first` */
-#define KERNELSTINT_SETADDR 3 /* setaddr first, second, number: an address */
-#define KERNELSTINT_NARROW 4 /* narrow first, second, number: a length */
-#define KERNELSTINT_ANDPERM 5 /* andperm first, second, number: a mask of 16 bits */
-#define KERNELSTINT_STORECAP 6 /* storecap first, second: register `second` to where `first` points */
-#define KERNELSTINT_LOADCAP 7 /* loadcap first, second: what lies where `second` points to register `first` */
-#define KERNELSTINT_WRITE 8 /* write first: the 16 bytes of low and high to where `first` points */
-#define KERNELSTINT_SHOW 9 /* show first */
-#define KERNELSTINT_SWEEP 10 /* sweep */
-#define KERNELSTINT_BEGIN 11 /* begin */
-#define KERNELSTINT_END 12 /* end */
+#define KERNELSTINT_COMMAND_MALLOC 0 /* malloc first, number: a block of `number` bytes, its capability to register `first` */
+#define KERNELSTINT_COMMAND_FREE 1 /* free first */
+#define KERNELSTINT_COMMAND_COPY 2 /* copy first, second: register `second` to register `first` */
+#define KERNELSTINT_COMMAND_SETADDR 3 /* setaddr first, second, number: an address */
+#define KERNELSTINT_COMMAND_NARROW 4 /* narrow first, second, number: a length */
+#define KERNELSTINT_COMMAND_ANDPERM 5 /* andperm first, second, number: a mask of 16 bits */
+#define KERNELSTINT_COMMAND_STORECAP 6 /* storecap first, second: register `second` to where `first` points */
+#define KERNELSTINT_COMMAND_LOADCAP 7 /* loadcap first, second: what lies where `second` points to register `first` */
+#define KERNELSTINT_COMMAND_WRITE 8 /* write first: the 16 bytes of low and high to where `first` points */
+#define KERNELSTINT_COMMAND_SHOW 9 /* show first */
+#define KERNELSTINT_COMMAND_SWEEP 10 /* sweep */
+#define KERNELSTINT_COMMAND_BEGIN 11 /* begin */
+#define KERNELSTINT_COMMAND_END 12 /* end */
 
 /* A command. The registers stand in the order of a trace's line; what a kind does not use is not looked at. */
 typedef struct kernelstint_command {
@@ -305,17 +314,17 @@ typedef struct kernelstint_command {
 } kernelstint_command;
 
 /* The kinds of replies, with what each tells. */
-#define KERNELSTINT_BLOCK 0 /* a block: base, top */
-#define KERNELSTINT_BLOCK_AFTER 1 /* the same after a sweep: base, top, cleared */
-#define KERNELSTINT_NO_SPACE 2 /* no space */
-#define KERNELSTINT_NO_SPACE_AFTER 3 /* no space after a sweep: cleared */
-#define KERNELSTINT_HELD 4 /* a block is held: bytes, how many went into quarantine by this free */
+#define KERNELSTINT_REPLY_BLOCK 0 /* a block: base, top */
+#define KERNELSTINT_REPLY_BLOCK_AFTER 1 /* the same after a sweep: base, top, cleared */
+#define KERNELSTINT_REPLY_NO_SPACE 2 /* no space */
+#define KERNELSTINT_REPLY_NO_SPACE_AFTER 3 /* no space after a sweep: cleared */
+#define KERNELSTINT_REPLY_HELD 4 /* a block is held: bytes, how many went into quarantine by this free */
 #define KERNELSTINT_REPLY_DONE 5 /* done */
-#define KERNELSTINT_CLEARED 6 /* done, and the tag was cleared, since this address would change the bounds */
-#define KERNELSTINT_SWEPT 7 /* a sweep, or the end of an epoch: cleared, and bytes, how many were released by it */
-#define KERNELSTINT_BEGUN 8 /* an epoch is open: cleared */
-#define KERNELSTINT_SHOWN 9 /* a register: base, top, address, otype, perms, tag, exponent */
-#define KERNELSTINT_TRAP 10 /* a trap: trap */
+#define KERNELSTINT_REPLY_CLEARED 6 /* done, and the tag was cleared, since this address would change the bounds */
+#define KERNELSTINT_REPLY_SWEPT 7 /* a sweep, or the end of an epoch: cleared, and bytes, how many were released by it */
+#define KERNELSTINT_REPLY_BEGUN 8 /* an epoch is open: cleared */
+#define KERNELSTINT_REPLY_SHOWN 9 /* a register: base, top, address, otype, perms, tag, exponent */
+#define KERNELSTINT_REPLY_TRAP 10 /* a trap: trap */
 
 /* The traps. */
 #define KERNELSTINT_TRAP_TAG 0
@@ -390,22 +399,23 @@ typedef struct kernelstint_tagged_word {
 size_t kernelstint_state_length(uint32_t pages);
 
 /*
- * Writes the first state of a heap of so many pages at `base`: zero, untagged, without a block. KERNELSTINT_BAD_SIZE,
- * KERNELSTINT_BAD_BASE or KERNELSTINT_BAD_ROOM where it can't.
+ * Writes the first state of a heap of so many pages at `base`: zero, untagged, without a block. KERNELSTINT_CODE_BAD_SIZE,
+ * KERNELSTINT_CODE_BAD_BASE or KERNELSTINT_CODE_BAD_ROOM where it can't.
  */
 uint32_t kernelstint_first(uint64_t base, uint32_t pages, uint8_t *out, size_t out_length);
 
 /*
  * Does a command in a state, and writes the state that it leaves to `out`, which is as long, and the reply. A trap is a reply.
- * KERNELSTINT_BAD_COMMAND, KERNELSTINT_BAD_ROOM or KERNELSTINT_BAD_STATE.
+ * KERNELSTINT_CODE_BAD_COMMAND, KERNELSTINT_CODE_BAD_ROOM or KERNELSTINT_CODE_BAD_STATE.
  */
 uint32_t kernelstint_step(const uint8_t *state, size_t length, kernelstint_command command, uint8_t *out, size_t out_length,
                           kernelstint_reply *reply);
 
 /*
  * Judges what an allocator answered to a command, which may place blocks as it likes. Where that is allowed, the state that it
- * leaves is written to `out`, which is as long as the state; else the answer is KERNELSTINT_DIFFERS, and the reason is written to
- * `why` alone. KERNELSTINT_BAD_COMMAND, KERNELSTINT_BAD_REPLY, KERNELSTINT_BAD_ROOM or KERNELSTINT_BAD_STATE.
+ * leaves is written to `out`, which is as long as the state; else the answer is KERNELSTINT_CODE_DIFFERS, and the reason is
+ * written to `why` alone. KERNELSTINT_CODE_BAD_COMMAND, KERNELSTINT_CODE_BAD_REPLY, KERNELSTINT_CODE_BAD_ROOM or
+ * KERNELSTINT_CODE_BAD_STATE.
  */
 uint32_t kernelstint_follow(const uint8_t *state, size_t length, kernelstint_command command, kernelstint_reply answer,
                             uint8_t *out, size_t out_length, kernelstint_why *why);
@@ -415,26 +425,30 @@ uint32_t kernelstint_follow(const uint8_t *state, size_t length, kernelstint_com
 
 /*
  * Does the command of a line of a trace, without its line feed, as kernelstint_step does; writes the text of the reply, as a
- * report has it, without an end, where `text` begins, and its length to `count`. KERNELSTINT_SHORT_TEXT where text_length is
- * below KERNELSTINT_LONGEST_REPLY; KERNELSTINT_PASSED_OVER, KERNELSTINT_BAD_LINE, KERNELSTINT_BAD_ROOM or KERNELSTINT_BAD_STATE.
+ * report has it, without an end, where `text` begins, and its length to `count`. KERNELSTINT_CODE_SHORT_TEXT where text_length
+ * is below KERNELSTINT_LONGEST_REPLY; KERNELSTINT_CODE_PASSED_OVER, KERNELSTINT_CODE_BAD_LINE, KERNELSTINT_CODE_BAD_ROOM or
+ * KERNELSTINT_CODE_BAD_STATE.
  */
 uint32_t kernelstint_step_line(const uint8_t *state, size_t length, const uint8_t *line, size_t line_length, uint8_t *out,
                                size_t out_length, uint8_t *text, size_t text_length, size_t *count);
 
-/* Writes the counts of a state. KERNELSTINT_BAD_STATE. */
+/* Writes the counts of a state. KERNELSTINT_CODE_BAD_STATE. */
 uint32_t kernelstint_counts(const uint8_t *state, size_t length, kernelstint_counts_of *counts);
 
-/* Writes what register `number` of a state holds. KERNELSTINT_BAD_REGISTER or KERNELSTINT_BAD_STATE. */
+/* Writes what register `number` of a state holds. KERNELSTINT_CODE_BAD_REGISTER or KERNELSTINT_CODE_BAD_STATE. */
 uint32_t kernelstint_register(const uint8_t *state, size_t length, uint8_t number, kernelstint_tagged_word *word);
 
-/* Writes what the granule of a state holds that starts at this address. KERNELSTINT_BAD_ADDRESS or KERNELSTINT_BAD_STATE. */
+/*
+ * Writes what the granule of a state holds that starts at this address. KERNELSTINT_CODE_BAD_STATE or, of a state, which says
+ * where its granules start, KERNELSTINT_CODE_BAD_ADDRESS.
+ */
 uint32_t kernelstint_granule(const uint8_t *state, size_t length, uint64_t address, kernelstint_tagged_word *word);
 
 /* ---- Whole traces ---- */
 
 /*
  * Runs the trace that a text is, and writes its report where `out` begins and the report's length to `count`.
- * KERNELSTINT_SHORT_TEXT where out_length is below that length, which alone is written. KERNELSTINT_BAD_TRACE.
+ * KERNELSTINT_CODE_SHORT_TEXT where out_length is below that length, which alone is written. KERNELSTINT_CODE_BAD_TRACE.
  */
 uint32_t kernelstint_run(const uint8_t *trace, size_t length, uint8_t *out, size_t out_length, size_t *count);
 
@@ -457,15 +471,15 @@ typedef struct kernelstint_fault {
 } kernelstint_fault;
 
 /*
- * Writes the first fault of a text that is no trace, and answers KERNELSTINT_BAD_TRACE. Where it is one the answer is
- * KERNELSTINT_DONE, and nothing is written. It runs nothing: it is for a text for which kernelstint_run or kernelstint_states
- * has answered KERNELSTINT_BAD_TRACE.
+ * Writes the first fault of a text that is no trace, and answers KERNELSTINT_CODE_BAD_TRACE. Where it is one the answer is
+ * KERNELSTINT_CODE_DONE, and nothing is written. It runs nothing: it is for a text for which kernelstint_run or
+ * kernelstint_states has answered KERNELSTINT_CODE_BAD_TRACE.
  */
 uint32_t kernelstint_trace_fault(const uint8_t *trace, size_t length, kernelstint_fault *fault);
 
 /*
- * The same of a line that is no command, which is line 1: KERNELSTINT_BAD_LINE. Where it is one the answer is KERNELSTINT_DONE;
- * KERNELSTINT_PASSED_OVER. It takes no memory.
+ * The same of a line that is no command, which is line 1: KERNELSTINT_CODE_BAD_LINE. Where it is one the answer is
+ * KERNELSTINT_CODE_DONE; KERNELSTINT_CODE_PASSED_OVER. It takes no memory; as C it does for a line of more than 16,000 bytes.
  */
 uint32_t kernelstint_line_fault(const uint8_t *line, size_t length, kernelstint_fault *fault);
 
@@ -480,22 +494,25 @@ typedef struct kernelstint_machine {
     void *at; /* NULL where no machine is held */
 } kernelstint_machine;
 
-/* Opens a machine in a state, where none is held. KERNELSTINT_IS_OPEN or KERNELSTINT_BAD_STATE. */
+/* Opens a machine in a state, where none is held. KERNELSTINT_CODE_IS_OPEN or KERNELSTINT_CODE_BAD_STATE. */
 uint32_t kernelstint_machine_open(const uint8_t *state, size_t length, kernelstint_machine *machine);
 
 /*
- * Does a command, as kernelstint_step does, and writes the reply. KERNELSTINT_NO_MACHINE or KERNELSTINT_BAD_COMMAND. Where the
- * code is not 0, the machine is in the state before.
+ * Does a command, as kernelstint_step does, and writes the reply. KERNELSTINT_CODE_NO_MACHINE or KERNELSTINT_CODE_BAD_COMMAND.
+ * Where the code is not 0, the machine is in the state before.
  */
 uint32_t kernelstint_machine_step(kernelstint_machine *machine, kernelstint_command command, kernelstint_reply *reply);
 
-/* Opens another machine in the same state, where none is held. KERNELSTINT_NO_MACHINE or KERNELSTINT_IS_OPEN. */
-uint32_t kernelstint_machine_copy(kernelstint_machine *machine, kernelstint_machine *copy);
+/*
+ * Opens another machine in the same state, where none is held. It copies the machine's parts, in less time than it takes to
+ * open a state's bytes. KERNELSTINT_CODE_NO_MACHINE or KERNELSTINT_CODE_IS_OPEN.
+ */
+uint32_t kernelstint_machine_copy(const kernelstint_machine *machine, kernelstint_machine *copy);
 
-/* Writes the machine's state to `out`, which is as long. KERNELSTINT_NO_MACHINE or KERNELSTINT_BAD_ROOM. */
-uint32_t kernelstint_machine_bytes(kernelstint_machine *machine, uint8_t *out, size_t out_length);
+/* Writes the machine's state to `out`, which is as long. KERNELSTINT_CODE_NO_MACHINE or KERNELSTINT_CODE_BAD_ROOM. */
+uint32_t kernelstint_machine_bytes(const kernelstint_machine *machine, uint8_t *out, size_t out_length);
 
-/* Gives the machine's memory back; none is held then. KERNELSTINT_NO_MACHINE. */
+/* Gives the machine's memory back; none is held then. KERNELSTINT_CODE_NO_MACHINE. */
 uint32_t kernelstint_machine_close(kernelstint_machine *machine);
 
 #ifdef __cplusplus

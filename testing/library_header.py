@@ -5,6 +5,7 @@ whose comment is gone. And what it asks of the bytes of a state, as a function."
 import ctypes
 import re
 
+import language_table
 import library_python
 import log_state
 
@@ -39,7 +40,7 @@ class Rows:
 
     def __init__(self, library, without_memory):
         self.library, self.rows = library, {}
-        self.row("NO_MEMORY", "malloc answered null.", without_memory, 14)
+        self.row("CODE_NO_MEMORY", "malloc answered null.", without_memory, 14)
         for part in (self.commands, self.replies, self.whys, self.codes, self.faults, self.permissions, self.words, self.members):
             part()
 
@@ -74,7 +75,7 @@ class Rows:
             state, kind = self.after(*lines), self.library.CommandKind[name]
             done = [self.raised(lambda parts=them: state.step(self.library.Command(kind, **parts))) for them in (parts, {**UNUSED, **parts})]
             by_line = state.step(line)
-            self.row(name, words, done, [by_line, by_line])
+            self.row(f"COMMAND_{name}", words, done, [by_line, by_line])
 
     def replies(self):
         """A command is answered by a record of the kind that tells this, and nothing else."""
@@ -85,15 +86,14 @@ class Rows:
             ("NO_SPACE", "no space", full, "malloc c3 16", {}),
             ("NO_SPACE_AFTER", "no space after a sweep: cleared", (*full, "free c1"), "malloc c3 8192", {"cleared": 2}),
             ("HELD", "a block is held: bytes, how many went into quarantine by this free", ("malloc c1 16", "malloc c2 48", "free c1"), "free c2", {"bytes": 48}),
-            ("REPLY_DONE", "done", READY, "copy c3 c1", {}),
+            ("DONE", "done", READY, "copy c3 c1", {}),
             ("CLEARED", "done, and the tag was cleared, since this address would change the bounds", READY, "setaddr c3 c1 0", {}),
             ("SWEPT", "a sweep, or the end of an epoch: cleared, and bytes, how many were released by it", ("malloc c1 16", "free c1", "sweep", "malloc c1 16", "malloc c2 48", "copy c3 c2", "free c2"), "sweep", {"cleared": 2, "bytes": 48}),
             ("BEGUN", "an epoch is open: cleared", ("malloc c1 16", "storecap c1 c1", "free c1"), "begin", {"cleared": 1}),
             ("SHOWN", "a register: base, top, address, otype, perms, tag, exponent", ("malloc c1 20",), "show c1", SHOWN),
             ("TRAP", "a trap: trap", ("malloc c1 20", "free c1"), "free c1", {"trap": self.library.Trap.FREED}),
         ):
-            kind = self.library.ReplyKind[name.replace("REPLY_", "")]
-            self.row(name, words, self.raw_reply(lines, line), self.passed(kind, **told))
+            self.row(f"REPLY_{name}", words, self.raw_reply(lines, line), self.passed(self.library.ReplyKind[name], **told))
         self.row("reply.bytes", "how many this free put into quarantine, or this pass released", self.reply(("malloc c1 16", "malloc c2 48", "free c1", "begin", "free c2"), "end").bytes, 16)
         self.row("reply.cleared", "how many tags the sweep, or the pass of an epoch, cleared", [self.reply((*full, "free c1", *more), last).cleared for more, last in (((), "sweep"), (("begin",), "end"))], [2, 2])
         self.row("reply.tag", "1 or 0", [self.raw(lines, "show c1")["tag"] for lines in ((), ("malloc c1 16",))], [0, 1])
@@ -111,11 +111,11 @@ class Rows:
             ("WHY_NOT_OF_MALLOC", "no malloc is answered so", (), ("MALLOC", 1), done, {}),
             ("WHY_TOO_SHORT", "the block is shorter than asked", (), ("MALLOC", 1, 0, 17), block, {}),
             ("WHY_MAY_NOT_SWEEP", "no sweep may come first: an epoch is open, or no block waits", (), ("MALLOC", 1), swept, {}),
-            ("WHY_TAKES", "the sweep of the malloc takes `count` tags", held, ("MALLOC", 1), swept, {"count": 2}),
+            ("WHY_TAKES", "the sweep of the malloc takes `count` tags", held, ("MALLOC", 1), swept, {"tags": 2}),
             ("WHY_REFUSED", "the block's place is refused, for the reason `claim`", held, ("MALLOC", 1), block, {"claim": self.library.Claim.OVER_HELD, "base": BASE, "top": BASE + 16}),
         ):
             kind = self.library.WhyKind[name.removeprefix("WHY_")]
-            wanted = {"kind": kind, "claim": 0, "count": 0, "base": 0, "top": 0, **told}
+            wanted = {"kind": kind, "claim": 0, "tags": 0, "base": 0, "top": 0, **told}
             why = self.why(lines, line, answer)
             self.row(name, words, {part: getattr(why, part) for part in wanted}, wanted)
         may_not = self.why((*held, "begin"), ("MALLOC", 1), swept).kind
@@ -145,27 +145,30 @@ class Rows:
             ("PASSED_OVER", "The line has no word, or is a comment.", lambda: state.step(" "), lambda: state.step("# show c0")),
             ("BAD_LINE", "The line is no command.", lambda: state.step("heap 0 1"), lambda: state.step("show c32")),
             ("BAD_COMMAND", "No kind of command has this number, a register is 32 or more, or a mask has more than 16 bits.",
-             lambda: state.step(it.Command(13)), lambda: state.step(it.Command(it.CommandKind.FREE, 32)), lambda: state.step(it.Command(it.CommandKind.ANDPERM, 1, 1, 1 << 16))),
+             lambda: state.step(it.Command(len(language_table.COMMANDS))), lambda: state.step(it.Command(it.CommandKind.FREE, 32)), lambda: state.step(it.Command(it.CommandKind.ANDPERM, 1, 1, 1 << 16))),
             ("BAD_REPLY", "No kind of reply or no trap has this number, or a tag that is shown is above 1.",
-             lambda: state.follow(malloc, it.Reply(11)), lambda: state.follow(malloc, it.Reply(it.ReplyKind.TRAP, trap=10)), lambda: state.follow(malloc, it.Reply(it.ReplyKind.SHOWN, tag=2))),
+             lambda: state.follow(malloc, it.Reply(len(language_table.REPLIES))), lambda: state.follow(malloc, it.Reply(it.ReplyKind.TRAP, trap=len(language_table.TRAPS))), lambda: state.follow(malloc, it.Reply(it.ReplyKind.SHOWN, tag=2))),
             ("DIFFERS", "The answer is not allowed.", lambda: state.follow(malloc, block._replace(base=BASE + 8))),
             ("BAD_TRACE", "The text is no trace.", lambda: it.run("show c0"), lambda: it.states("")),
         ):  # fmt: skip
             wanted = "".join(word.title() for word in name.split("_"))
-            self.row(name, words, [type(self.raised(call)).__name__ for call in calls], [wanted] * len(calls))
+            self.row(f"CODE_{name}", words, [type(self.raised(call)).__name__ for call in calls], [wanted] * len(calls))
         passed, room, short = bytes(state), (ctypes.c_uint8 * 5934)(), (ctypes.c_uint8 * 5933)()
         text, count, reply, show = (ctypes.c_uint8 * 200)(), ctypes.c_size_t(), it._Reply(), it._Command(it.CommandKind.SHOW)
         step, step_line = it._library.kernelstint_step, it._library.kernelstint_step_line
         over = ctypes.cast((ctypes.c_uint8 * 5934).from_buffer(self.buffer_of(passed)), ctypes.POINTER(ctypes.c_uint8))
         in_place = step(ctypes.cast(over, ctypes.c_char_p), 5934, show, over, 5934, reply)
-        self.row("NULL", "A pointer is null.", step(None, 5934, show, room, 5934, reply), 4)
-        self.row("BAD_ROOM", "The room for a state is not as long as that state.", step(passed, 5934, show, short, 5933, reply), 5)
-        self.row("SHORT_TEXT", "The room for a text is too short.", step_line(passed, 5934, b"show c0", 7, room, 5934, text, 199, count), 11)
-        self.row("OVERLAP", "Two places lie over one another, of which one is written.", in_place, 19)
+        self.row("CODE_NULL", "A pointer is null.", step(None, 5934, show, room, 5934, reply), 4)
+        self.row("CODE_BAD_ROOM", "The room for a state is not as long as that state.", step(passed, 5934, show, short, 5933, reply), 5)
+        self.row("CODE_SHORT_TEXT", "The room for a text is too short.", step_line(passed, 5934, b"show c0", 7, room, 5934, text, 199, count), 11)
+        self.row("CODE_OVERLAP", "Two places lie over one another, of which one is written.", in_place, 19)
         none, held, open_at = it._Machine(), it._Machine(), it._library.kernelstint_machine_open
-        self.row("NO_MACHINE", "No machine is held there.", it._library.kernelstint_machine_step(none, it._Command(255), reply), 20)
-        self.row("IS_OPEN", "A machine is held there already.", [open_at(passed, 5934, held), open_at(passed, 0, held)], [0, 21])
+        self.row("CODE_NO_MACHINE", "No machine is held there.", it._library.kernelstint_machine_step(none, it._Command(255), reply), 20)
+        self.row("CODE_IS_OPEN", "A machine is held there already.", [open_at(passed, 5934, held), open_at(passed, 0, held)], [0, 21])
         it._library.kernelstint_machine_close(held)
+        granule, register, told = it._library.kernelstint_granule, it._library.kernelstint_register, it._TaggedWord()
+        both = [granule(passed[:7], 7, 1, told), register(passed[:7], 7, 32, told), granule(passed, 5934, 1, told)]
+        self.row("the first of two codes", "", both, [6, 9, 10])
 
     def faults(self):
         """A text of which this is wrong first has the number of its name, and the number of its line."""
@@ -216,7 +219,7 @@ class Rows:
                 state = self.after(*loaded, f"andperm c2 c1 {mask}")
                 done.append(tuple(number for number, line in enumerate(accesses) if state.step(line)[1].kind == self.library.ReplyKind.DONE))
             keeps_tag = self.after(*loaded, f"andperm c2 c1 {0x3D & ~bit}", "loadcap c3 c2").register(3).tag
-            self.row(name, words, (*done, keeps_tag), (alone, without, bit not in (0x4, 0x10)))
+            self.row(f"PERM_{name}", words, (*done, keeps_tag), (alone, without, bit not in (0x4, 0x10)))
 
     # ---- words
 
@@ -229,7 +232,7 @@ class Rows:
         self.row("word.metadata", "the upper half", (passed.metadata, word.bits >> 64), (halves[1], halves[1]))
         for name, words, bits in (
             ("otype", "the object type, 18 bits: all ones where the word is not sealed", 18),
-            ("perms", "permissions, 16 bits: KERNELSTINT_GLOBAL and others", 16),
+            ("perms", "permissions, 16 bits: KERNELSTINT_PERM_GLOBAL and others", 16),
             ("top12", "the top field, 12 bits", 12),
             ("base14", "the base field, 14 bits", 14),
             ("reserved", "2 bits", 2),
@@ -245,12 +248,12 @@ class Rows:
         self.row("fields.otype of a block", "", block.otype, 0x3FFFF)
         whole = it._library.kernelstint_bounds_of(it.NULL._passed)
         self.row("bounds.top", "the top's lower 64 bits", whole.top, 0)
-        self.row("bounds.top_64", "its bit 64: the top 2^64 is 0 and 1", whole.top_64, 1)
+        self.row("bounds.top_high", "what is above: the top 2^64 is 0 and 1", whole.top_high, 1)
         length = it._library.kernelstint_representable_length(2**64 - 1)
         self.row("length.length", "the lower 64 bits", length.length, 0)
-        self.row("length.length_64", "bit 64: the length 2^64 is 0 and 1", length.length_64, 1)
-        made = [it._library.kernelstint_with_bounds(it.NULL._passed, it._Bounds(*bounds)) for bounds in ((16, 32, 0), (32, 16, 0))]
-        self.row("narrowed_word.exact", "false where there is a code", [(one.code, one.exact) for one in made], [(0, True), (3, False)])
+        self.row("length.length_high", "what is above: the length 2^64 is 0 and 1", length.length_high, 1)
+        made = [it._library.kernelstint_with_bounds(it.NULL._passed, it._Bounds(*bounds)) for bounds in ((16, 32, 0), (32, 16, 0), (16, 32, 1 << 32))]
+        self.row("narrowed_word.exact", "false where there is a code", [(one.code, one.exact) for one in made], [(0, True), (3, False), (3, False)])
 
     def members(self):
         """What the members of a command are, which the rows of its kinds use."""

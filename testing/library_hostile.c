@@ -1,7 +1,7 @@
 /*
  * The machine under random use, by the header alone: traces of random commands, of which each step is done twice from the bytes
  * of the state before at two addresses, and some of them by the command's line, by what an allocator answers, and with
- * allocations refused (malloc and realloc are wrapped by the linker, as for testing/library_memory.c); the counts of each state,
+ * allocations refused (malloc and realloc are wrapped by the linker, or the library as C asks here; as for testing/library_memory.c); the counts of each state,
  * against its bytes; and states of which a random bit is turned, which are refused, or are their own encoding. Around each room
  * lie bytes that no call may write. It is given a seed and a number of traces, prints what it has tried, and ends with status 1
  * where an answer is wrong.
@@ -42,17 +42,24 @@ static uint32_t below(uint32_t bound) {
 static long asked, first_refused, next_granted;
 static bool is_refused;
 
-void *__real_malloc(size_t size);
-void *__real_realloc(void *block, size_t size);
-void *__wrap_malloc(size_t size);
-void *__wrap_realloc(void *block, size_t size);
-
 static bool is_granted(void) {
     bool is_now_refused = asked >= first_refused && asked < next_granted;
     asked++;
     is_refused = is_refused || is_now_refused;
     return !is_now_refused;
 }
+
+#ifdef PORTABLE /* the library as C asks its host */
+int room_may_have(void);
+
+int room_may_have(void) {
+    return is_granted();
+}
+#else
+void *__real_malloc(size_t size);
+void *__real_realloc(void *block, size_t size);
+void *__wrap_malloc(size_t size);
+void *__wrap_realloc(void *block, size_t size);
 
 void *__wrap_malloc(size_t size) {
     return is_granted() ? __real_malloc(size) : NULL;
@@ -61,6 +68,7 @@ void *__wrap_malloc(size_t size) {
 void *__wrap_realloc(void *block, size_t size) {
     return is_granted() ? __real_realloc(block, size) : NULL;
 }
+#endif
 
 static void grant_all(void) {
     first_refused = next_granted = 0;
@@ -108,7 +116,7 @@ static bool is_same(const room *one, const room *other) {
 static void want_written_well(const room *it, uint32_t code) {
     want(is_unwritten(it->bytes, it->at), "a byte before the room is written");
     want(is_unwritten(it->at + it->length, it->bytes + sizeof it->bytes), "a byte behind the room is written");
-    want(code == KERNELSTINT_DONE || is_unwritten(it->at, it->at + it->length), "the room is written beside a code");
+    want(code == KERNELSTINT_CODE_DONE || is_unwritten(it->at, it->at + it->length), "the room is written beside a code");
 }
 
 /* ---- Calls ---- */
@@ -121,7 +129,7 @@ static uint32_t step(const room *state, kernelstint_command command, room *out, 
     memset(reply, UNWRITTEN, sizeof *reply);
     uint32_t code = kernelstint_step(state->at, state->length, command, out->at, out->length, reply);
     want_written_well(out, code);
-    want(code == KERNELSTINT_DONE || is_unwritten(reply, reply + 1), "a reply is written beside a code");
+    want(code == KERNELSTINT_CODE_DONE || is_unwritten(reply, reply + 1), "a reply is written beside a code");
     return code;
 }
 
@@ -131,26 +139,26 @@ static bool is_same_reply(kernelstint_reply one, kernelstint_reply other) {
            one.address == other.address && one.bytes == other.bytes;
 }
 
-/* The step with an allocation refused: it is answered KERNELSTINT_NO_MEMORY where one was, or as without. */
+/* The step with an allocation refused: it is answered KERNELSTINT_CODE_NO_MEMORY where one was, or as without. */
 static void step_without_memory(const room *state, kernelstint_command command, uint32_t right, const room *after, kernelstint_reply told) {
     static room out;
     kernelstint_reply reply;
     refuse_some();
     uint32_t code = step(state, command, &out, &reply);
     grant_all();
-    if (code == KERNELSTINT_NO_MEMORY && right != code) {
+    if (code == KERNELSTINT_CODE_NO_MEMORY && right != code) {
         want(is_refused, "want of memory is told where there is none");
         without_memory++;
         return;
     }
     want(code == right, "a refused allocation changes a code");
-    want(code != KERNELSTINT_DONE || (is_same(&out, after) && is_same_reply(reply, told)), "a refused allocation changes an answer");
+    want(code != KERNELSTINT_CODE_DONE || (is_same(&out, after) && is_same_reply(reply, told)), "a refused allocation changes an answer");
 }
 
 static uint32_t counts_of(const room *state, kernelstint_counts_of *counts) {
     memset(counts, UNWRITTEN, sizeof *counts);
     uint32_t code = kernelstint_counts(state->at, state->length, counts);
-    want(code == KERNELSTINT_DONE || is_unwritten(counts, counts + 1), "counts are written beside a code");
+    want(code == KERNELSTINT_CODE_DONE || is_unwritten(counts, counts + 1), "counts are written beside a code");
     return code;
 }
 
@@ -159,9 +167,9 @@ static void counts_without_memory(const room *state, uint32_t right, uint64_t li
     refuse_some();
     uint32_t code = counts_of(state, &counts);
     grant_all();
-    want(code == right || (code == KERNELSTINT_NO_MEMORY && is_refused), "a refused allocation changes the code of counts");
-    want(code != KERNELSTINT_DONE || counts.live == live, "a refused allocation changes counts");
-    without_memory += code == KERNELSTINT_NO_MEMORY;
+    want(code == right || (code == KERNELSTINT_CODE_NO_MEMORY && is_refused), "a refused allocation changes the code of counts");
+    want(code != KERNELSTINT_CODE_DONE || counts.live == live, "a refused allocation changes counts");
+    without_memory += code == KERNELSTINT_CODE_NO_MEMORY;
 }
 
 /* The bytes in live blocks, and in held ones, as the state's own bytes tell them. */
@@ -177,12 +185,12 @@ static void add_blocks(const room *state, uint64_t *live, uint64_t *held) {
 static void try_counts(const room *state) {
     uint64_t live = 0, held = 0;
     kernelstint_counts_of counts;
-    want(counts_of(state, &counts) == KERNELSTINT_DONE, "a state has no counts");
+    want(counts_of(state, &counts) == KERNELSTINT_CODE_DONE, "a state has no counts");
     add_blocks(state, &live, &held);
     want(counts.live == live && counts.held == held, "the counts aren't those of the state's bytes");
     want(counts.live + counts.held + counts.free == UINT64_C(4096) * state->at[8], "the counts aren't all of the heap");
     want(counts.is_open == state->at[12], "the counts tell otherwise of an epoch");
-    if (below(4) == 0) counts_without_memory(state, KERNELSTINT_DONE, live);
+    if (below(4) == 0) counts_without_memory(state, KERNELSTINT_CODE_DONE, live);
 }
 
 /* ---- Random commands ---- */
@@ -191,10 +199,10 @@ static const char *const names[KINDS] = {"malloc", "free", "copy", "setaddr", "n
 
 /* Kinds of commands, as often as they come. */
 static const uint8_t often[] = {
-    KERNELSTINT_MALLOC, KERNELSTINT_MALLOC, KERNELSTINT_MALLOC, KERNELSTINT_MALLOC, KERNELSTINT_MALLOC, KERNELSTINT_MALLOC, KERNELSTINT_FREE, KERNELSTINT_FREE,
-    KERNELSTINT_FREE, KERNELSTINT_FREE, KERNELSTINT_COPY, KERNELSTINT_COPY, KERNELSTINT_SETADDR, KERNELSTINT_SETADDR, KERNELSTINT_NARROW, KERNELSTINT_NARROW, KERNELSTINT_NARROW,
-    KERNELSTINT_ANDPERM, KERNELSTINT_STORECAP, KERNELSTINT_STORECAP, KERNELSTINT_STORECAP, KERNELSTINT_STORECAP, KERNELSTINT_LOADCAP, KERNELSTINT_LOADCAP,
-    KERNELSTINT_WRITE, KERNELSTINT_SHOW, KERNELSTINT_SWEEP, KERNELSTINT_BEGIN, KERNELSTINT_END};
+    KERNELSTINT_COMMAND_MALLOC, KERNELSTINT_COMMAND_MALLOC, KERNELSTINT_COMMAND_MALLOC, KERNELSTINT_COMMAND_MALLOC, KERNELSTINT_COMMAND_MALLOC, KERNELSTINT_COMMAND_MALLOC, KERNELSTINT_COMMAND_FREE, KERNELSTINT_COMMAND_FREE,
+    KERNELSTINT_COMMAND_FREE, KERNELSTINT_COMMAND_FREE, KERNELSTINT_COMMAND_COPY, KERNELSTINT_COMMAND_COPY, KERNELSTINT_COMMAND_SETADDR, KERNELSTINT_COMMAND_SETADDR, KERNELSTINT_COMMAND_NARROW, KERNELSTINT_COMMAND_NARROW, KERNELSTINT_COMMAND_NARROW,
+    KERNELSTINT_COMMAND_ANDPERM, KERNELSTINT_COMMAND_STORECAP, KERNELSTINT_COMMAND_STORECAP, KERNELSTINT_COMMAND_STORECAP, KERNELSTINT_COMMAND_STORECAP, KERNELSTINT_COMMAND_LOADCAP, KERNELSTINT_COMMAND_LOADCAP,
+    KERNELSTINT_COMMAND_WRITE, KERNELSTINT_COMMAND_SHOW, KERNELSTINT_COMMAND_SWEEP, KERNELSTINT_COMMAND_BEGIN, KERNELSTINT_COMMAND_END};
 
 /* Sizes and lengths: small ones, some of none, any within the heap, all of it, and any. */
 static uint64_t random_length(uint32_t pages) {
@@ -208,9 +216,9 @@ static uint64_t random_length(uint32_t pages) {
 
 static uint64_t random_number(uint8_t kind, uint64_t base, uint32_t pages) {
     switch (kind) {
-    case KERNELSTINT_SETADDR: return below(8) == 0 ? any_number() : base + below(below(2) == 0 ? 320 : 4096 * pages) / 8 * 8;
-    case KERNELSTINT_ANDPERM: return below(2) == 0 ? below(65536) : 65535 ^ 1u << below(6);
-    case KERNELSTINT_NARROW: return below(2) == 0 ? below(4096 * pages) : random_length(pages);
+    case KERNELSTINT_COMMAND_SETADDR: return below(8) == 0 ? any_number() : base + below(below(2) == 0 ? 320 : 4096 * pages) / 8 * 8;
+    case KERNELSTINT_COMMAND_ANDPERM: return below(2) == 0 ? below(65536) : 65535 ^ 1u << below(6);
+    case KERNELSTINT_COMMAND_NARROW: return below(2) == 0 ? below(4096 * pages) : random_length(pages);
     default: return random_length(pages);
     }
 }
@@ -229,16 +237,16 @@ static void write_line(kernelstint_command it, char *line, size_t room_for) {
     char *at = line + count;
     size_t left = room_for - (size_t)count;
     switch (it.kind) {
-    case KERNELSTINT_MALLOC: snprintf(at, left, " c%u %" PRIu64, it.first, it.number); break;
-    case KERNELSTINT_SETADDR:
-    case KERNELSTINT_NARROW:
-    case KERNELSTINT_ANDPERM: snprintf(at, left, " c%u c%u 0x%" PRIx64, it.first, it.second, it.number); break;
-    case KERNELSTINT_COPY:
-    case KERNELSTINT_STORECAP:
-    case KERNELSTINT_LOADCAP: snprintf(at, left, " c%u c%u", it.first, it.second); break;
-    case KERNELSTINT_WRITE: snprintf(at, left, " c%u %016" PRIx64 "%016" PRIx64, it.first, __builtin_bswap64(it.low), __builtin_bswap64(it.high)); break;
-    case KERNELSTINT_FREE:
-    case KERNELSTINT_SHOW: snprintf(at, left, " c%u", it.first); break;
+    case KERNELSTINT_COMMAND_MALLOC: snprintf(at, left, " c%u %" PRIu64, it.first, it.number); break;
+    case KERNELSTINT_COMMAND_SETADDR:
+    case KERNELSTINT_COMMAND_NARROW:
+    case KERNELSTINT_COMMAND_ANDPERM: snprintf(at, left, " c%u c%u 0x%" PRIx64, it.first, it.second, it.number); break;
+    case KERNELSTINT_COMMAND_COPY:
+    case KERNELSTINT_COMMAND_STORECAP:
+    case KERNELSTINT_COMMAND_LOADCAP: snprintf(at, left, " c%u c%u", it.first, it.second); break;
+    case KERNELSTINT_COMMAND_WRITE: snprintf(at, left, " c%u %016" PRIx64 "%016" PRIx64, it.first, __builtin_bswap64(it.low), __builtin_bswap64(it.high)); break;
+    case KERNELSTINT_COMMAND_FREE:
+    case KERNELSTINT_COMMAND_SHOW: snprintf(at, left, " c%u", it.first); break;
     default: break;
     }
 }
@@ -255,7 +263,7 @@ static void try_line(const room *state, kernelstint_command command, const room 
     prepare(&out, state->length);
     uint32_t code = kernelstint_step_line(state->at, state->length, (const uint8_t *)line, strlen(line), out.at, out.length, text, sizeof text, &count);
     want_written_well(&out, code);
-    want(code == KERNELSTINT_DONE && count > 0 && is_same(&out, after), "a line leads to another state than its command");
+    want(code == KERNELSTINT_CODE_DONE && count > 0 && is_same(&out, after), "a line leads to another state than its command");
 }
 
 /* What the machine answers is allowed, and leads where the machine went. */
@@ -265,32 +273,32 @@ static void try_follow(const room *state, kernelstint_command command, kernelsti
     prepare(&out, state->length);
     uint32_t code = kernelstint_follow(state->at, state->length, command, reply, out.at, out.length, &why);
     want_written_well(&out, code);
-    want(code == KERNELSTINT_DONE && is_same(&out, after), "the machine's own answer isn't allowed");
+    want(code == KERNELSTINT_CODE_DONE && is_same(&out, after), "the machine's own answer isn't allowed");
 }
 
 /* Does a command in a state, which becomes the state after it. */
 static void try_step(room *state, kernelstint_command command) {
     static room after, copy, other;
     kernelstint_reply reply, again;
-    want(step(state, command, &after, &reply) == KERNELSTINT_DONE, "a step is refused");
+    want(step(state, command, &after, &reply) == KERNELSTINT_CODE_DONE, "a step is refused");
     copy_to(&copy, state);
-    want(step(&copy, command, &other, &again) == KERNELSTINT_DONE, "a step is refused from another address");
+    want(step(&copy, command, &other, &again) == KERNELSTINT_CODE_DONE, "a step is refused from another address");
     want(is_same(&after, &other) && is_same_reply(reply, again), "a step from the same bytes is another");
-    if (below(4) == 0) step_without_memory(state, command, KERNELSTINT_DONE, &after, reply);
+    if (below(4) == 0) step_without_memory(state, command, KERNELSTINT_CODE_DONE, &after, reply);
     if (below(4) == 0) try_line(state, command, &after);
     if (below(4) == 0) try_follow(state, command, reply, &after);
     want(reply.kind < REPLIES && reply.trap < TRAPS, "a reply of no kind");
     replies[reply.kind]++;
-    traps[reply.trap] += reply.kind == KERNELSTINT_TRAP;
+    traps[reply.trap] += reply.kind == KERNELSTINT_REPLY_TRAP;
     steps++;
     copy_to(state, &after);
 }
 
 /* `show`, which changes nothing, gives the bytes of a state back. */
 static uint32_t encode_anew(const room *state, room *out, kernelstint_reply *reply) {
-    kernelstint_command show = {.kind = KERNELSTINT_SHOW, .first = (uint8_t)below(32)};
+    kernelstint_command show = {.kind = KERNELSTINT_COMMAND_SHOW, .first = (uint8_t)below(32)};
     uint32_t code = step(state, show, out, reply);
-    want(code == KERNELSTINT_BAD_STATE || (code == KERNELSTINT_DONE && is_same(out, state)), "bytes are taken for a state, and are another's");
+    want(code == KERNELSTINT_CODE_BAD_STATE || (code == KERNELSTINT_CODE_DONE && is_same(out, state)), "bytes are taken for a state, and are another's");
     if (below(4) == 0) step_without_memory(state, show, code, out, *reply);
     return code;
 }
@@ -319,12 +327,12 @@ static void try_turned(const room *state) {
     changed.at[random_place(state)] ^= (uint8_t)(1u << below(8));
     uint32_t code = encode_anew(&changed, &out, &reply);
     turned++;
-    if (code == KERNELSTINT_DONE) {
+    if (code == KERNELSTINT_CODE_DONE) {
         taken++;
         try_counts(&changed);
     } else {
-        want(counts_of(&changed, &counts) == KERNELSTINT_BAD_STATE, "bytes are no state to a step, and one to counts");
-        if (below(4) == 0) counts_without_memory(&changed, KERNELSTINT_BAD_STATE, 0);
+        want(counts_of(&changed, &counts) == KERNELSTINT_CODE_BAD_STATE, "bytes are no state to a step, and one to counts");
+        if (below(4) == 0) counts_without_memory(&changed, KERNELSTINT_CODE_BAD_STATE, 0);
     }
 }
 
@@ -334,14 +342,14 @@ static void try_trace(void) {
     static room state, out;
     uint32_t pages = below(2) == 0 ? 1 : 1 + below(MOST_PAGES), turn = below(STEPS_A_TURN);
     uint64_t base = below(4) == 0 ? 0 - UINT64_C(4096) * pages : UINT64_C(4096) * below(1u << 20);
-    kernelstint_command whole = {.kind = KERNELSTINT_MALLOC, .first = 1, .number = UINT64_C(4096) * pages};
+    kernelstint_command whole = {.kind = KERNELSTINT_COMMAND_MALLOC, .first = 1, .number = UINT64_C(4096) * pages};
     kernelstint_reply reply;
     prepare(&state, kernelstint_state_length(pages));
-    want(kernelstint_first(base, pages, state.at, state.length) == KERNELSTINT_DONE, "no first state");
+    want(kernelstint_first(base, pages, state.at, state.length) == KERNELSTINT_CODE_DONE, "no first state");
     for (step_number = 0; step_number < STEPS; step_number++) {
         try_step(&state, step_number == 0 && below(4) == 0 ? whole : random_command(base, pages));
         try_counts(&state);
-        want(encode_anew(&state, &out, &reply) == KERNELSTINT_DONE, "a state is refused");
+        want(encode_anew(&state, &out, &reply) == KERNELSTINT_CODE_DONE, "a state is refused");
         if (step_number % STEPS_A_TURN == turn) try_turned(&state);
     }
 }

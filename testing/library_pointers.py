@@ -84,8 +84,8 @@ def calls_of(library):
         "line_fault": (line, fault),
         "machine_open": (state, none),
         "machine_step": (machine, malloc, written("reply", library._Reply)),
-        "machine_copy": (machine, none._replace(name="copy")),
-        "machine_bytes": (machine, out),
+        "machine_copy": (machine._replace(is_written=False), none._replace(name="copy")),
+        "machine_bytes": (machine._replace(is_written=False), out),
         "machine_close": (machine,),
     }
 
@@ -319,7 +319,10 @@ def all_of(tests, library, header):
     for name, rows in zip(calls, told_by([(ROOT / "out" / "libkernelstint.so", name) for name in calls])):
         for row, is_so in rows.items():
             tests.expect(is_so, f"pointers of {name}: {row}")
-    without_tests(tests, calls)
+    if tests.is_portable():
+        print("left out: changes of the tests in bindings/c/pointers.c, which stand over the native build")
+    else:
+        without_tests(tests, calls)
 
 
 def without_tests(tests, calls):

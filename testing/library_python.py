@@ -1,7 +1,8 @@
 """What testing/library tries of bindings/python/kernelstint.py by itself: each public call with values of wrong types, which a
 table has, and which is held to the module itself, so that a call or a parameter without a row fails; that values and exceptions
 can be copied, pickled and handed to other processes; that a trace is done by the lines of its file; that a refusal names the fault
-and its line, or says why an answer differs as heap_check does; and that its names are the interface alone."""
+and its line, or says why an answer differs as heap_check does; that the lists of a state have what the library tells of it, and the
+changes between two states lead from the one to the other; that its names are the interface alone; and its types, by mypy --strict."""
 
 import concurrent.futures
 import copy
@@ -11,6 +12,8 @@ import io
 import multiprocessing
 import pickle
 import pydoc
+import shutil
+import subprocess
 
 # Values that are no number, no bytes, no text, and none of the module's records.
 NO_NUMBER = (None, 1.0, 1.9, "1", b"1", 1j, (), [1])
@@ -20,6 +23,12 @@ NO_TEXT = (None, 1, 1.5, ["heap 0 1"], ("heap 0 1",))
 NO_REPLY_TEXT = (None, 1, 1.5, b"ok", ["ok"])
 NO_RECORD = (None, 1, 1.5, "ok", b"ok", (), [])
 NO_MEMBER = (None, 1.5, "1", b"1", ())
+# What is refused by another type, and what is said of it.
+TOLD_OF_TYPES = (
+    ("run", 5, "a trace is a str or bytes, and no int"), ("states", None, "a trace is a str or bytes, and no NoneType"), ("State", 5, "a state is made of bytes, and no int"),
+    ("State.step", 5, "a command is a str or a Command, and no int"), ("Machine.step", "show c0", "a command is a Command, and no str"),
+    ("Word.from_bytes", "0", "a word is made of bytes, and no str"),
+)  # fmt: skip
 # Lines of which none is a command's, though parts of them are.
 FALSE_LINES = ("show c0\n\n", "show c0\nshow c0", "\nshow c0", "\udcff", "malloc c1 \ud800", "heap 0x40000000 1", "")
 # Commands that are answered by every kind of reply.
@@ -50,8 +59,10 @@ FALSE_TEXTS = (
 )  # fmt: skip
 
 
+# Examples whose states are listed.
+LISTED = ("run_first_steps", "lesson_an_epoch_with_a_store", "lesson_a_copy_hidden_in_memory", "run_overwritten_capability")
 # What calls answer, and none takes.
-ANSWERED = {"Corrections", "TaggedWord", "Why"}
+ANSWERED = {"Block", "Change", "Corrections", "Tag", "TaggedWord", "Why"}
 # Methods of Python's own numbers and exceptions, which the help doesn't repeat for each kind.
 HIDDEN = ("as_integer_ratio", "with_traceback")
 
@@ -61,6 +72,7 @@ def rows_of(library):
     word, state = library.block_capability(0x1000, 0x2000), library.State.first(0x40000000, 1)
     malloc, block = library.Command(library.CommandKind.MALLOC, 1, number=16), library.Reply(library.ReplyKind.BLOCK, 0x40000000, 0x40000010)
     shown = library.Reply(library.ReplyKind.SHOWN)
+    no_trap = {"trap": (None, [it for it in NO_NUMBER if it is not None])}
 
     def stepped(**parts):
         return state.step(library.Command(**parts))
@@ -80,14 +92,15 @@ def rows_of(library):
         "Word.and_perms": (word.and_perms, {"mask": (1, NO_NUMBER)}),
         "Fields": (lambda **parts: library.Word.from_fields(library.Fields(**parts)), numbers(word.fields)),
         "Command": (stepped, {**numbers(malloc), "data": (bytes(16), (*NO_BYTES, b"", bytes(15)))}),
-        "Reply": (lambda **parts: state.follow(malloc, library.Reply(**parts)), numbers(block)),
-        "Reply.text": (lambda **parts: library.Reply(**parts).text, numbers(shown, -1)),
+        "Reply": (lambda **parts: state.follow(malloc, library.Reply(**parts)), {**numbers(block), **no_trap}),
+        "Reply.text": (lambda **parts: library.Reply(**parts).text, {**numbers(shown, -1), **no_trap}),
         "Reply.of_text": (library.Reply.of_text, {"text": ("ok", (*NO_REPLY_TEXT, *FALSE_TEXTS))}),
         "State": (library.State, {"data": (bytes(state), (*NO_BYTES, state))}),
         "State.first": (library.State.first, {"base": (0, NO_NUMBER), "pages": (1, NO_NUMBER)}),
         "State.step": (state.step, {"command": ("show c0", (*NO_LINE, tuple(malloc), block, *FALSE_LINES))}),
         "State.follow": (state.follow, {"command": (malloc, (*NO_RECORD, tuple(malloc), block)), "answer": (block, (*NO_RECORD, tuple(block), malloc))}),
-        "State.register": (state.register, {"number": (1, NO_NUMBER)}),
+        "State.changes": (state.changes, {"after": (state, (*NO_RECORD, bytes(state), library.State.first(0x40000000, 2), library.State.first(0x40001000, 1)))}),
+        "State.register": (state.register, {"number": (1, (*NO_NUMBER, -1, 32))}),
         "State.granule": (state.granule, {"address": (0x40000000, (*NO_NUMBER, -1))}),
         "Machine": (library.Machine, {"state": (state, (*NO_RECORD, bytes(state)))}),
         "Machine.step": (library.Machine(state).step, {"command": (malloc, (*NO_RECORD, "show c0", tuple(malloc), block))}),
@@ -206,6 +219,95 @@ def wrong_types(tests, library):
     for what in (lambda: delattr(state, "_bytes"), lambda: setattr(state, "_bytes", b""), lambda: delattr(library.NULL, "bits")):
         tests.expect(isinstance(raised_by(what, {}), AttributeError), "a part of a value can be set or deleted")
     tests.expect(bytes(state) == bytes(library.State.first(0x40000000, 1)), "a state has lost its bytes")
+    for name, wrong, wanted in TOLD_OF_TYPES:
+        told = raised_by(rows[name][0], {calls[name][0]: wrong})
+        tests.expect(str(told) == wanted, f"of {name} of {wrong!r} is told: {told}")
+
+
+def named_errors(tests, library):
+    """What has an error of its own is raised by that, also where it is past the width that is passed."""
+    state, malloc, reply = library.State.first(0x40000000, 1), library.Command(library.CommandKind.MALLOC), library.Reply(library.ReplyKind.DONE)
+    for past in (-1, 2**130):
+        for error, call in (
+            (library.BadRegister, lambda past=past: state.register(past)), (library.BadAddress, lambda past=past: state.granule(past)),
+            (library.BadSize, lambda past=past: library.State.first(0, past)), (library.BadBase, lambda past=past: library.State.first(past, 1)),
+            *((library.BadCommand, lambda part=part, past=past: state.step(malloc._replace(**{part: past}))) for part in ("kind", "first", "second", "number")),
+            *((library.BadReply, lambda part=part, past=past: state.follow(malloc, reply._replace(**{part: past}))) for part in ("kind", "top", "trap", "exponent")),
+            (library.BadReply, lambda past=past: reply._replace(kind=library.ReplyKind.HELD, bytes=past).text),
+        ):  # fmt: skip
+            told = raised_by(call, {})
+            tests.expect(type(told) is error, f"{told!r} is raised for {error}")
+    trap = library.Reply(library.ReplyKind.TRAP)
+    for call in (lambda: trap.text, lambda: state.follow(malloc, trap)):
+        tests.expect(type(raised_by(call, {})) is library.BadReply, "a trap that is none of the traps is told, or may be answered")
+
+
+def traps(tests, library):
+    """A reply has a trap where it is one, and else none."""
+    state = library.State.first(0x40000000, 1)
+    for line, wanted in (("show c1", None), ("sweep", None), ("free c1", library.Trap.TAG), ("end", library.Trap.NOT_OPEN)):
+        for told in (state.step(line)[1], library.Reply.of_text(state.step(line)[1].text), state.step(library.Command(library.CommandKind[line.split()[0].upper()], 1))[1]):
+            tests.expect(told.trap is wanted, f"{line} is answered by {told}, whose trap is {told.trap!r}")
+
+
+def lists(tests, library, examples):
+    """The lists of the states of each example's trace have what the library tells of these states, and their changes are those of
+    one after the other."""
+    tried = {it: 0 for it in ("epoch", "register", "block", "granule", "page")}
+    for trace in examples:
+        before = None
+        for line in trace.splitlines():
+            if not line.split("#")[0].strip():
+                continue
+            after = before.step(line)[0] if before else library.State.first(*(int(it, 0) for it in line.split()[1:3]))
+            listed(tests, library, after)
+            for change in before.changes(after) if before else []:
+                tried[change.part] += 1
+            tests.expect(before is None or changed(before, before.changes(after)) == parts_of(after), f"{line} changes {before and before.changes(after)}")
+            tests.expect(after.changes(after) == [], f"a state is changed to itself by {after.changes(after)}")
+            before = after
+    tests.expect(min(tried.values()) > 0, f"the examples change {tried}")
+
+
+def parts_of(state):
+    """A state as a dictionary of what each of its places holds."""
+    granules = {("granule", at): state.granule(at) for at in range(state.base, state.base + 4096 * state.pages, 16)}
+    registers = {("register", number): state.register(number) for number in range(32)}
+    pages = {("page", number): it for number, it in enumerate(state.marks)}
+    return {**granules, **registers, **pages, **{("block", it.base): it for it in state.blocks}, ("epoch", 0): state.is_open}
+
+
+def changed(state, changes):
+    """The same with these changes done, each of which has to begin with what is there."""
+    parts = parts_of(state)
+    for part, place, before, after in changes:
+        if parts.pop((part, place), None) != before:
+            return None
+        if after is not None:
+            parts[part, place] = after
+    return parts
+
+
+def listed(tests, library, state):
+    blocks, kinds = state.blocks, library.BlockKind
+    live = sum(it.top - it.base for it in blocks if it.kind is kinds.LIVE)
+    held = sum(it.top - it.base for it in blocks if it.kind is not kinds.LIVE)
+    tests.expect((live, held) == (state.live, state.held) and blocks == sorted(blocks), f"{state} has the blocks {blocks}")
+    tests.expect(state.is_open or all(it.kind is not kinds.PAINTED for it in blocks), f"{state} has painted blocks: {blocks}")
+    tests.expect(state.registers == [state.register(it) for it in range(32)], f"{state} has the registers {state.registers}")
+    of_granules = [(at, state.granule(at)) for at in range(state.base, state.base + 4096 * state.pages, 16)]
+    wanted = [("register", at, it.word) for at, it in enumerate(state.registers) if it.tag] + [("granule", at, it.word) for at, it in of_granules if it.tag]
+    tests.expect([tuple(it) for it in state.tags] == wanted, f"{state} has the tags {state.tags}")
+    tests.expect(state.marks == [it == 1 for it in bytes(state)[-state.pages :]] and len(state.marks) == state.pages, f"{state} has the marks {state.marks}")
+
+
+def types(tests, library):
+    """mypy finds nothing wrong in the file."""
+    if not shutil.which("mypy"):
+        print("skipped: the types of kernelstint.py: no mypy")
+        return
+    ran = subprocess.run(["mypy", "--strict", "--no-error-summary", f"--cache-dir={tests.scratch / 'mypy'}", library.__file__], capture_output=True, text=True)
+    tests.expect(ran.returncode == 0, f"mypy --strict says of kernelstint.py: {ran.stdout}{ran.stderr}")
 
 
 def raised_by(call, given, is_placed=False):
@@ -233,6 +335,7 @@ def copies(tests, library):
     command = library.Command(library.CommandKind.MALLOC, 1, number=20)
     values = [state, state.register(1), state.register(1).word, state.register(1).word.fields, command, *map(library.Reply, library.ReplyKind)]
     values += [library.NULL.corrections, *library.Permission, library.Permission(5), *library.Trap, *library.WhyKind, *library.Claim, *errors_of(library)]
+    values += [*library.BlockKind, *state.blocks, *state.tags, *library.State.first(0x40000000, 1).changes(state)]
     ways = [copy.copy, copy.deepcopy, *(lambda it, protocol=protocol: pickle.loads(pickle.dumps(it, protocol)) for protocol in range(pickle.HIGHEST_PROTOCOL + 1))]
     for value in values:
         for number, way in enumerate(ways):
@@ -287,6 +390,10 @@ def interface(tests, library):
 
 def all_of(tests, library, example):
     wrong_types(tests, library)
+    named_errors(tests, library)
+    traps(tests, library)
+    lists(tests, library, [(example.parent / it / "stdin").read_text(encoding="utf-8") for it in LISTED])
+    types(tests, library)
     read_back(tests, library)
     copies(tests, library)
     lines(tests, library, example)

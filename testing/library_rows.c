@@ -40,10 +40,8 @@ static kernelstint_word word(const char *digits) {
 
 static kernelstint_bounds bounds(char **words) {
     kernelstint_bounds read;
-    uint64_t high;
-    read_halves(words[1], &high, &read.top);
+    read_halves(words[1], &read.top_high, &read.top);
     read.base = number(words[0]);
-    read.top_64 = (uint8_t)high;
     return read;
 }
 
@@ -97,7 +95,7 @@ static void tell_fields(kernelstint_fields told) {
 
 static void tell_bounds(kernelstint_bounds told) {
     tell(0, told.base);
-    tell(told.top_64, told.top);
+    tell(told.top_high, told.top);
 }
 
 static void tell_narrowed(kernelstint_narrowed_word told) {
@@ -108,7 +106,7 @@ static void tell_narrowed(kernelstint_narrowed_word told) {
 
 static void tell_bytes(kernelstint_word told) {
     uint8_t bytes[16];
-    if (kernelstint_word_to_bytes(told, bytes, sizeof bytes) != KERNELSTINT_DONE) fail("16 bytes are refused");
+    if (kernelstint_word_to_bytes(told, bytes, sizeof bytes) != KERNELSTINT_CODE_DONE) fail("16 bytes are refused");
     printf(" ");
     for (size_t i = 0; i < sizeof bytes; i++) printf("%02x", bytes[i]);
 }
@@ -126,7 +124,7 @@ static void answer_corrections(kernelstint_word asked) {
 
 static void answer_length(uint64_t length) {
     kernelstint_length told = kernelstint_representable_length(length);
-    tell(told.length_64, told.length);
+    tell(told.length_high, told.length);
 }
 
 /* Writes what a call of some words answers; false where there is no such call. */
@@ -190,7 +188,7 @@ static void try_lengths(void) {
         uint8_t bytes[40];
         memset(bytes, 0xa5, sizeof bytes);
         uint32_t code = kernelstint_word_to_bytes(kernelstint_null_word(), bytes, length);
-        if (code != (length == 16 ? KERNELSTINT_DONE : KERNELSTINT_BAD_LENGTH)) fail("a length has another code");
+        if (code != (length == 16 ? KERNELSTINT_CODE_DONE : KERNELSTINT_CODE_BAD_LENGTH)) fail("a length has another code");
         for (size_t i = 0; i < sizeof bytes; i++) {
             if (bytes[i] != (length == 16 && i < 16 ? 0 : 0xa5)) fail("a byte is written that should not be, or is not");
         }

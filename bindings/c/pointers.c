@@ -1,11 +1,13 @@
 /*
  * The functions of kernelstint.h that are given pointers: each tests them, and then calls the proved export of
- * the crate kernelstint. It is trusted: nothing proves it. A pointer that is null is answered by KERNELSTINT_NULL, and places
- * of which one is written and that lie over one another by KERNELSTINT_OVERLAP; nothing is written then.
+ * the crate kernelstint. It is trusted: nothing proves it. A pointer that is null is answered by KERNELSTINT_CODE_NULL, and places
+ * of which one is written and that lie over one another by KERNELSTINT_CODE_OVERLAP; nothing is written then.
  */
 #include "kernelstint.h"
 
+#ifndef PUBLIC
 #define PUBLIC __attribute__((visibility("default")))
+#endif
 
 kernelstint_coded_word kernelstint_proved_word_from_bytes(const uint8_t *bytes, size_t length);
 uint32_t kernelstint_proved_word_to_bytes(kernelstint_word word, uint8_t *bytes, size_t length);
@@ -46,11 +48,11 @@ static bool are_over(place first, place second) {
 /* The code of places by themselves. */
 static uint32_t code_of(const place *places, size_t count) {
     for (size_t i = 0; i < count; i++)
-        if (places[i].at == NULL) return KERNELSTINT_NULL;
+        if (places[i].at == NULL) return KERNELSTINT_CODE_NULL;
     for (size_t i = 0; i < count; i++)
         for (size_t j = i + 1; j < count; j++)
-            if ((places[i].is_written || places[j].is_written) && are_over(places[i], places[j])) return KERNELSTINT_OVERLAP;
-    return KERNELSTINT_DONE;
+            if ((places[i].is_written || places[j].is_written) && are_over(places[i], places[j])) return KERNELSTINT_CODE_OVERLAP;
+    return KERNELSTINT_CODE_DONE;
 }
 
 #define READ(at, length) {(at), (length), false}
@@ -60,11 +62,11 @@ static uint32_t code_of(const place *places, size_t count) {
     do {                                                                        \
         const place places[] = {__VA_ARGS__};                                   \
         uint32_t code = code_of(places, sizeof places / sizeof places[0]);      \
-        if (code != KERNELSTINT_DONE) return code;                              \
+        if (code != KERNELSTINT_CODE_DONE) return code;                              \
     } while (0)
 
 PUBLIC kernelstint_coded_word kernelstint_word_from_bytes(const uint8_t *bytes, size_t length) {
-    if (bytes == NULL) return (kernelstint_coded_word){{0, 0}, KERNELSTINT_NULL};
+    if (bytes == NULL) return (kernelstint_coded_word){{0, 0}, KERNELSTINT_CODE_NULL};
     return kernelstint_proved_word_from_bytes(bytes, length);
 }
 
@@ -134,32 +136,35 @@ PUBLIC uint32_t kernelstint_line_fault(const uint8_t *line, size_t length, kerne
 
 PUBLIC uint32_t kernelstint_machine_open(const uint8_t *state, size_t length, kernelstint_machine *machine) {
     TEST_PLACES(READ(state, length), WRITTEN(machine, sizeof *machine));
-    if (machine->at != NULL) return KERNELSTINT_IS_OPEN;
+    if (machine->at != NULL) return KERNELSTINT_CODE_IS_OPEN;
     return kernelstint_proved_machine_open(state, length, machine);
 }
 
 PUBLIC uint32_t kernelstint_machine_step(kernelstint_machine *machine, kernelstint_command command, kernelstint_reply *reply) {
     TEST_PLACES(WRITTEN(machine, sizeof *machine), WRITTEN(reply, sizeof *reply));
-    if (machine->at == NULL) return KERNELSTINT_NO_MACHINE;
+    if (machine->at == NULL) return KERNELSTINT_CODE_NO_MACHINE;
     return kernelstint_proved_machine_step(machine, command, reply);
 }
 
-PUBLIC uint32_t kernelstint_machine_copy(kernelstint_machine *machine, kernelstint_machine *copy) {
-    TEST_PLACES(WRITTEN(machine, sizeof *machine), WRITTEN(copy, sizeof *copy));
-    if (machine->at == NULL) return KERNELSTINT_NO_MACHINE;
-    if (copy->at != NULL) return KERNELSTINT_IS_OPEN;
-    return kernelstint_proved_machine_copy(machine, copy);
+/* The two exports that follow take the machine out of its handle, and put it back: so they are handed another one. */
+PUBLIC uint32_t kernelstint_machine_copy(const kernelstint_machine *machine, kernelstint_machine *copy) {
+    TEST_PLACES(READ(machine, sizeof *machine), WRITTEN(copy, sizeof *copy));
+    if (machine->at == NULL) return KERNELSTINT_CODE_NO_MACHINE;
+    if (copy->at != NULL) return KERNELSTINT_CODE_IS_OPEN;
+    kernelstint_machine held = *machine;
+    return kernelstint_proved_machine_copy(&held, copy);
 }
 
-PUBLIC uint32_t kernelstint_machine_bytes(kernelstint_machine *machine, uint8_t *out, size_t out_length) {
-    TEST_PLACES(WRITTEN(machine, sizeof *machine), WRITTEN(out, out_length));
-    if (machine->at == NULL) return KERNELSTINT_NO_MACHINE;
-    return kernelstint_proved_machine_bytes(machine, out, out_length);
+PUBLIC uint32_t kernelstint_machine_bytes(const kernelstint_machine *machine, uint8_t *out, size_t out_length) {
+    TEST_PLACES(READ(machine, sizeof *machine), WRITTEN(out, out_length));
+    if (machine->at == NULL) return KERNELSTINT_CODE_NO_MACHINE;
+    kernelstint_machine held = *machine;
+    return kernelstint_proved_machine_bytes(&held, out, out_length);
 }
 
 PUBLIC uint32_t kernelstint_machine_close(kernelstint_machine *machine) {
     TEST_PLACES(WRITTEN(machine, sizeof *machine));
-    if (machine->at == NULL) return KERNELSTINT_NO_MACHINE;
+    if (machine->at == NULL) return KERNELSTINT_CODE_NO_MACHINE;
     kernelstint_proved_machine_close(machine);
-    return KERNELSTINT_DONE;
+    return KERNELSTINT_CODE_DONE;
 }

@@ -13,7 +13,7 @@ enum { LENGTH = 5934 };
 
 /* Ends the program where a call did not do what it was asked. */
 static void want_done(uint32_t code) {
-    if (code == KERNELSTINT_DONE) return;
+    if (code == KERNELSTINT_CODE_DONE) return;
     fprintf(stderr, "code %" PRIu32 ", which kernelstint.h explains\n", code);
     exit(1);
 }
@@ -30,14 +30,14 @@ static kernelstint_reply step(uint8_t *state, uint8_t kind, uint8_t first, uint8
 
 /* malloc c1 20: whole granules of 16 bytes. */
 static void hand_out(uint8_t *state) {
-    kernelstint_reply reply = step(state, KERNELSTINT_MALLOC, 1, 0, 20);
+    kernelstint_reply reply = step(state, KERNELSTINT_COMMAND_MALLOC, 1, 0, 20);
     printf("block 0x%" PRIx64 " 0x%" PRIx64 "\n", reply.base, reply.top);
 }
 
 /* Writes 16 zero bytes by register 2. A trap is a reply as others are, and leaves the state as it was. */
 static void write_by_copy(uint8_t *state) {
-    kernelstint_reply reply = step(state, KERNELSTINT_WRITE, 2, 0, 0);
-    puts(reply.kind != KERNELSTINT_TRAP ? "written" : reply.trap == KERNELSTINT_TRAP_TAG ? "trap: no tag" : "trap");
+    kernelstint_reply reply = step(state, KERNELSTINT_COMMAND_WRITE, 2, 0, 0);
+    puts(reply.kind != KERNELSTINT_REPLY_TRAP ? "written" : reply.trap == KERNELSTINT_TRAP_TAG ? "trap: no tag" : "trap");
 }
 
 int main(void) {
@@ -48,13 +48,13 @@ int main(void) {
     want_done(kernelstint_first(0x40000000, 1, state, LENGTH));
 
     hand_out(state);
-    step(state, KERNELSTINT_COPY, 2, 1, 0);
-    reply = step(state, KERNELSTINT_FREE, 1, 0, 0);
+    step(state, KERNELSTINT_COMMAND_COPY, 2, 1, 0);
+    reply = step(state, KERNELSTINT_COMMAND_FREE, 1, 0, 0);
     printf("held %" PRIu64 "\n", reply.bytes);
     /* The use after free: it harms nobody, since these bytes are no other block's yet. */
     write_by_copy(state);
     /* The sweep takes the tags of all capabilities whose base lies in the freed block, and then its bytes are free. */
-    reply = step(state, KERNELSTINT_SWEEP, 0, 0, 0);
+    reply = step(state, KERNELSTINT_COMMAND_SWEEP, 0, 0, 0);
     printf("cleared %" PRIu32 " released %" PRIu64 "\n", reply.cleared, reply.bytes);
     hand_out(state);
     write_by_copy(state);

@@ -8,9 +8,9 @@ libkernelstint.so.
     >>> block.set_bounds(0x40000010, 0x40000020)
     (Word(0x003d0000040980140000000040000010), True)
 
-The library is the file that the environment variable KERNELSTINT_LIBRARY names, or else out/libkernelstint.so of the
-repository in which this file lies: ./library there makes it. What is proved is said of its functions in
-include/kernelstint.h; this file is trusted to hand them on. Numbers past their widths are refused here, since ctypes would
+The library is the file that the environment variable KERNELSTINT_LIBRARY names; else the one beside this file, as pip installs
+it; else out/libkernelstint.so of the repository in which this file lies, where ./library makes it. What is proved is said of its
+functions in include/kernelstint.h; this file is trusted to hand them on. Numbers past their widths are refused here, since ctypes would
 cut them."""
 
 from __future__ import annotations
@@ -21,16 +21,18 @@ import enum as _enum
 import operator as _operator
 import os as _os
 import pathlib as _pathlib
-from typing import NamedTuple as _NamedTuple, NoReturn as _NoReturn
+import struct as _struct
+from typing import Any as _Any, Callable as _Callable, Iterator as _Iterator, Literal as _Literal, NamedTuple as _NamedTuple, NoReturn as _NoReturn
 
 # What is imported is no part of the interface.
 del annotations
 
 __all__ = [
     "BadAddress", "BadBase", "BadBounds", "BadCommand", "BadFields", "BadLength", "BadLine", "BadNumber", "BadRegister",
-    "BadReply", "BadSize", "BadState", "BadTrace", "Claim", "Closed", "Command", "CommandKind", "Corrections", "Differs", "Error",
-    "Fields", "LibraryError", "Machine", "NULL", "NoMemory", "PassedOver", "Permission", "Reply", "ReplyKind", "State", "TaggedWord", "Trap",
-    "VERSION", "Why", "WhyKind", "Word", "alignment_mask", "block_capability", "representable_length", "run", "states",
+    "BadReply", "BadSize", "BadState", "BadTrace", "Block", "BlockKind", "Change", "Claim", "Closed", "Command", "CommandKind", "Corrections",
+    "Differs", "Error", "Fields", "LibraryError", "Machine", "NULL", "NoMemory", "OtherHeap", "PassedOver", "Permission", "Reply",
+    "ReplyKind", "State", "Tag", "TaggedWord", "Trap", "VERSION", "Why", "WhyKind", "Word", "alignment_mask", "block_capability",
+    "representable_length", "run", "states",
 ]  # fmt: skip
 
 #: The version of the library that this file is for: major, minor, patch.
@@ -69,7 +71,7 @@ class BadBounds(Error, ValueError):
 
 
 class BadNumber(Error, ValueError):
-    """A number is below 0, or has more bits than are passed of it."""
+    """A number is below 0, or has more bits than are passed of it, and no other error has a name for that."""
 
 
 class BadState(Error, ValueError):
@@ -85,11 +87,15 @@ class BadBase(Error, ValueError):
 
 
 class BadRegister(Error, ValueError):
-    """A register of 32 or more."""
+    """A register below 0, or of 32 or more."""
 
 
 class BadAddress(Error, ValueError):
     """No granule starts at the address."""
+
+
+class OtherHeap(Error, ValueError):
+    """Two states are of two heaps: the base or the size of one is another."""
 
 
 class PassedOver(Error, ValueError):
@@ -116,11 +122,12 @@ class Closed(Error, ValueError):
 
 
 class BadCommand(Error, ValueError):
-    """No kind of command has this number, a register is 32 or more, or a mask has more than 16 bits."""
+    """No kind of command has this number, a register is 32 or more, a mask has more than 16 bits, or a number is past its width."""
 
 
 class BadReply(Error, ValueError):
-    """No kind of reply or no trap has this number, a tag that is shown is above 1, or a text is no reply's."""
+    """No kind of reply or no trap has this number, a tag that is shown is above 1, a number is past its width, or a text is no
+    reply's."""
 
 
 class BadTrace(Error, ValueError):
@@ -146,12 +153,12 @@ class Differs(Error):
     def __str__(self) -> str:
         said, block = f", and the log says {self.answer.text}", f"block {self.answer.base:#x} {self.answer.top:#x}"
         way = f"block {self.why.base:#x} {self.why.top:#x}"
-        refused = {
+        refused: dict[int, str] = {
             Claim.UNEVEN: "is not whole granules", Claim.EMPTY: "is empty", Claim.OUTSIDE: "lies outside the heap",
             Claim.INEXACT: "has bounds that no capability holds", Claim.OVER_LIVE: f"lies over the live {way}",
             Claim.OVER_HELD: f"lies over the held {way}",
         }  # fmt: skip
-        tags = f"{self.why.count} tag" + ("" if self.why.count == 1 else "s")
+        tags = f"{self.why.tags} tag" + ("" if self.why.tags == 1 else "s")
         return {
             WhyKind.MUST_BE: f"the answer must be {self.why.reply.text}{said}",
             WhyKind.NOT_OF_MALLOC: f"a malloc is answered by a block or by nospace{said}",
@@ -202,6 +209,12 @@ class Claim(_enum.IntEnum, metaclass=_OwnMembers):
     UNEVEN, EMPTY, OUTSIDE, INEXACT, OVER_LIVE, OVER_HELD = range(1, 7)
 
 
+class BlockKind(_enum.IntEnum, metaclass=_OwnMembers):
+    """What a block is: live, freed and not yet painted, or freed and painted."""
+
+    LIVE, HELD, PAINTED = range(1, 4)
+
+
 class Command(_NamedTuple):
     """A command: registers in the order of a trace's line, `number` as its size, address, length or mask, and the 16 bytes of a
     write. What a kind does not use may have any value of its type."""
@@ -214,14 +227,14 @@ class Command(_NamedTuple):
 
 
 class Reply(_NamedTuple):
-    """What a command was answered, as include/kernelstint.h has it: 0 where the kind does not tell it."""
+    """What a command was answered, as include/kernelstint.h has it. What its kind does not tell is 0, and of a trap None."""
 
     kind: ReplyKind
     base: int = 0
     top: int = 0
     cleared: int = 0
     bytes: int = 0
-    trap: int = 0
+    trap: Trap | None = None
     address: int = 0
     otype: int = 0
     perms: int = 0
@@ -230,13 +243,12 @@ class Reply(_NamedTuple):
 
     @property
     def text(self) -> str:
-        """The reply as a report has it. Raises BadReply and BadNumber."""
-        _passed_reply(self)
-        is_trap, is_shown = self.kind == ReplyKind.TRAP, self.kind == ReplyKind.SHOWN
-        if self.kind not in _REPLY_KINDS or is_trap and self.trap >= len(_TRAP_NAMES) or is_shown and self.tag > 1:
+        """The reply as a report has it. Raises BadReply."""
+        trap, is_trap = _passed_reply(self).trap, self.kind == ReplyKind.TRAP
+        if self.kind not in _REPLY_KINDS or is_trap and trap >= len(_TRAP_NAMES) or self.kind == ReplyKind.SHOWN and self.tag > 1:
             raise BadReply(f"no reply is {tuple(self)}")
         if is_trap:
-            return f"trap {_TRAP_NAMES[self.trap]}"
+            return f"trap {_TRAP_NAMES[trap]}"
         block = f"block {self.base:#x} {self.top:#x}"
         shown = f"tag {int(self.tag)} address {self.address:#x} base {self.base:#x} top {self.top:#x} perms {self.perms:#x} type {self.otype:#x} exponent {self.exponent}"
         return {
@@ -264,14 +276,17 @@ class Reply(_NamedTuple):
         """The reply of the text of one."""
         name, *words = text.split()
         if name == "trap":
-            return cls(ReplyKind.TRAP, trap=_TRAP_NAMES.index(words[0]))
+            return cls(ReplyKind.TRAP, trap=Trap(_TRAP_NAMES.index(words[0])))
         if name == "tag":
             words = [name, *words]
             told = {key: int(value, 0) for key, value in zip(words[::2], words[1::2])}
-            return cls(ReplyKind.SHOWN, tag=told.pop("tag") == 1, otype=told.pop("type"), **told)
+            base, top, address, otype, perms, exponent = (told[it] for it in ("base", "top", "address", "type", "perms", "exponent"))
+            return cls(ReplyKind.SHOWN, base, top, address=address, otype=otype, perms=perms, tag=told["tag"] == 1, exponent=exponent)
         numbers = [int(it, 0) for it in words if it[0].isdigit()]
         kind = _KINDS[name, len(numbers)]
-        return cls(kind, **dict(zip(_TOLD[kind], numbers)))
+        told = dict(zip(_TOLD[kind], numbers))
+        base, top, cleared, count = (told.get(it, 0) for it in ("base", "top", "cleared", "bytes"))
+        return cls(kind, base, top, cleared, count)
 
 
 _REPLY_KINDS = {*ReplyKind}
@@ -282,7 +297,7 @@ _KINDS = {
     ("nospace", 1): ReplyKind.NO_SPACE_AFTER, ("held", 1): ReplyKind.HELD, ("ok", 0): ReplyKind.DONE,
     ("cleared", 0): ReplyKind.CLEARED, ("cleared", 2): ReplyKind.SWEPT, ("cleared", 1): ReplyKind.BEGUN,
 }  # fmt: skip
-_TOLD = {
+_TOLD: dict[ReplyKind, tuple[str, ...]] = {
     ReplyKind.BLOCK: ("base", "top"), ReplyKind.BLOCK_AFTER: ("base", "top", "cleared"), ReplyKind.NO_SPACE: (),
     ReplyKind.NO_SPACE_AFTER: ("cleared",), ReplyKind.HELD: ("bytes",), ReplyKind.DONE: (), ReplyKind.CLEARED: (),
     ReplyKind.SWEPT: ("cleared", "bytes"), ReplyKind.BEGUN: ("cleared",),
@@ -295,7 +310,7 @@ class Why(_NamedTuple):
 
     kind: WhyKind
     claim: Claim | int
-    count: int
+    tags: int
     base: int
     top: int
     reply: Reply
@@ -306,6 +321,32 @@ class TaggedWord(_NamedTuple):
 
     word: Word
     tag: bool
+
+
+class Tag(_NamedTuple):
+    """A tagged word, and where it is: in the register of this number, or in the granule at this address."""
+
+    part: _Literal["register", "granule"]
+    place: int
+    word: Word
+
+
+class Block(_NamedTuple):
+    """A block: the bytes from the base on, before the top."""
+
+    base: int
+    top: int
+    kind: BlockKind
+
+
+class Change(_NamedTuple):
+    """What is another thing in another state: whether an epoch is open, at the place 0; what a register holds, by its number; the
+    block that starts at an address, or None; what the granule at an address holds; or whether a page is dirty, by its number."""
+
+    part: _Literal["epoch", "register", "block", "granule", "page"]
+    place: int
+    before: bool | TaggedWord | Block | None
+    after: bool | TaggedWord | Block | None
 
 
 class Fields(_NamedTuple):
@@ -343,11 +384,11 @@ class _Fields(_ctypes.Structure):
 
 
 class _Bounds(_ctypes.Structure):
-    _fields_ = [("base", _ctypes.c_uint64), ("top", _ctypes.c_uint64), ("top_64", _ctypes.c_uint8)]
+    _fields_ = [("base", _ctypes.c_uint64), ("top", _ctypes.c_uint64), ("top_high", _ctypes.c_uint64)]
 
 
 class _Length(_ctypes.Structure):
-    _fields_ = [("length", _ctypes.c_uint64), ("length_64", _ctypes.c_uint8)]
+    _fields_ = [("length", _ctypes.c_uint64), ("length_high", _ctypes.c_uint64)]
 
 
 class _Corrections(_ctypes.Structure):
@@ -451,8 +492,11 @@ _FAULTS = ["too-long", "no-heap", "bad-heap", "bad-command", "bad-count", "bad-r
 
 
 def _path_of_library() -> _pathlib.Path:
-    named = _os.environ.get("KERNELSTINT_LIBRARY")
-    return _pathlib.Path(named) if named else _pathlib.Path(__file__).resolve().parents[2] / "out" / "libkernelstint.so"
+    named, folder = _os.environ.get("KERNELSTINT_LIBRARY"), _pathlib.Path(__file__).resolve().parent
+    if named:
+        return _pathlib.Path(named)
+    beside = folder / "libkernelstint.so"
+    return beside if beside.exists() or len(folder.parents) < 3 else folder.parents[2] / "out" / "libkernelstint.so"
 
 
 def _load(path: _pathlib.Path) -> _ctypes.CDLL:
@@ -469,7 +513,7 @@ def _load(path: _pathlib.Path) -> _ctypes.CDLL:
         ) from wrong
     version = (packed >> 16, packed >> 8 & 0xFF, packed & 0xFF)
     if version[:2] != VERSION[:2]:
-        raise LibraryError(f"{path} is version {version[0]}.{version[1]}.{version[2]}, and kernelstint.py is for {VERSION[0]}.{VERSION[1]}")
+        raise LibraryError(f"{path} is version {version[0]}.{version[1]}.{version[2]}, and this module is for {VERSION[0]}.{VERSION[1]}")
     for name, answer, taken in _FUNCTIONS:
         function = getattr(library, f"kernelstint_{name}")
         function.restype = answer
@@ -492,11 +536,11 @@ def _integer(number: int, what: str) -> int:
         raise TypeError(f"{what} is an integer, and no {type(number).__name__}") from None
 
 
-def _within(number: int, bits: int, what: str) -> int:
-    """The number, which has so many bits."""
+def _within(number: int, bits: int, what: str, error: type[Error] = BadNumber) -> int:
+    """The number, which has so many bits: else it is an error."""
     number = _integer(number, what)
     if not 0 <= number < 1 << bits:
-        raise BadNumber(f"{what} {number:#x} is no number of {bits} bits")
+        raise error(f"{what} {number:#x} is no number of {bits} bits")
     return number
 
 
@@ -505,12 +549,12 @@ def _bytes_in(data: bytes, what: str) -> bytes:
     try:
         return bytes(memoryview(data))
     except TypeError:
-        raise TypeError(f"{what} are bytes, and no {type(data).__name__}") from None
+        raise TypeError(f"{what} bytes, and no {type(data).__name__}") from None
 
 
 def _text_in(text: str | bytes, what: str) -> bytes:
     """The bytes of a text, which may be given as such; what no UTF-8 can hold stays, since comments have any bytes."""
-    return text.encode("utf-8", "surrogatepass") if isinstance(text, str) else _bytes_in(text, what)
+    return text.encode("utf-8", "surrogatepass") if isinstance(text, str) else _bytes_in(text, f"{what} is a str or")
 
 
 def _bounds(base: int, top: int) -> _Bounds:
@@ -542,7 +586,7 @@ class Word:
     @classmethod
     def from_bytes(cls, data: bytes) -> Word:
         """The word that these 16 bytes hold, as memory has them. Raises BadLength."""
-        data = _bytes_in(data, "a word's")
+        data = _bytes_in(data, "a word is made of")
         return _made(_library.kernelstint_word_from_bytes(data, len(data)), f"{len(data)} bytes are no word: 16 are")
 
     @classmethod
@@ -585,14 +629,14 @@ class Word:
     @property
     def exponent(self) -> int:
         """By how many bits the mantissas of base and top are shifted, 0 to 52."""
-        return _library.kernelstint_exponent_of(self._passed)
+        return int(_library.kernelstint_exponent_of(self._passed))
 
     @property
     def bounds(self) -> tuple[int, int]:
         """The base and the top: the bytes from the base on, before the top. Of bits that nothing made for bounds the top may
         lie below the base, and up to 2^65 - 1."""
         it = _library.kernelstint_bounds_of(self._passed)
-        return it.base, it.top + (it.top_64 << 64)
+        return it.base, it.top + (it.top_high << 64)
 
     @property
     def base(self) -> int:
@@ -612,11 +656,11 @@ class Word:
 
     def representable(self, address: int) -> bool:
         """Whether the word with this address has the bounds that it has with its own. Raises BadNumber."""
-        return _library.kernelstint_representable(self._passed, _within(address, 64, "the address"))
+        return bool(_library.kernelstint_representable(self._passed, _within(address, 64, "the address")))
 
     def is_allowed(self, permission: int) -> bool:
         """Whether the word has this permission; of several bits, any of them. Raises BadNumber."""
-        return _library.kernelstint_is_allowed(self._passed, _within(permission, 16, "the permission"))
+        return bool(_library.kernelstint_is_allowed(self._passed, _within(permission, 16, "the permission")))
 
     def set_bounds(self, base: int, top: int) -> tuple[Word, bool]:
         """The word with these bounds, rounded outward where no word holds them as they are, and its address at their base; and
@@ -641,7 +685,7 @@ def _taken(word: _Word) -> Word:
     return Word(word.metadata << 64 | word.address)
 
 
-def _made(answer: _ctypes.Structure, wrong: str) -> Word:
+def _made(answer: _CodedWord | _NarrowedWord, wrong: str) -> Word:
     """The word of an answer with the code 0; else the code's error, which says what is wrong."""
     if answer.code != 0:
         raise _ERRORS[answer.code](wrong)
@@ -662,13 +706,13 @@ def block_capability(base: int, top: int) -> Word:
 def representable_length(length: int) -> int:
     """The least length from this one on that a word can hold from address 0, 2^64 at most. Raises BadNumber."""
     it = _library.kernelstint_representable_length(_within(length, 64, "the length"))
-    return it.length + (it.length_64 << 64)
+    return int(it.length + (it.length_high << 64))
 
 
 def alignment_mask(length: int) -> int:
     """The mask of the addresses from which a word can hold the representable length of this one: those for which
     `address & ~mask` is 0. Raises BadNumber."""
-    return _library.kernelstint_alignment_mask(_within(length, 64, "the length"))
+    return int(_library.kernelstint_alignment_mask(_within(length, 64, "the length")))
 
 
 def _done(code: int, wrong: str) -> None:
@@ -676,7 +720,7 @@ def _done(code: int, wrong: str) -> None:
         raise _ERRORS[code](wrong)
 
 
-def _fault_of(call: _ctypes._CFuncPtr, text: bytes) -> tuple[str, int]:
+def _fault_of(call: _Callable[..., int], text: bytes) -> tuple[str, int]:
     """What is wrong with a text that is no trace or no command: the fault's name, and its line."""
     fault = _Fault()
     _done({_BAD_LINE: 0, _BAD_TRACE: 0}.get(code := call(text, len(text), fault), code), "the fault can't be told")
@@ -684,26 +728,34 @@ def _fault_of(call: _ctypes._CFuncPtr, text: bytes) -> tuple[str, int]:
 
 
 def _reply_of(it: _Reply) -> Reply:
-    top = it.top + (it.top_high << 64)
-    return Reply(ReplyKind(it.kind), it.base, top, it.cleared, it.bytes, it.trap, it.address, it.otype, it.perms, it.tag == 1, it.exponent)
+    top, trap = it.top + (it.top_high << 64), Trap(it.trap) if it.kind == ReplyKind.TRAP else None
+    return Reply(ReplyKind(it.kind), it.base, top, it.cleared, it.bytes, trap, it.address, it.otype, it.perms, it.tag == 1, it.exponent)
 
 
 def _passed_command(command: Command) -> _Command:
     _instance(command, Command, "a command")
-    data = _bytes_in(command.data, "what a write writes")
+    data = _bytes_in(command.data, "a write writes")
     if len(data) != 16:
         raise BadCommand(f"{len(data)} bytes are not what a write writes: 16 are")
-    kind, first, second = (_within(it, 8, "the kind or register") for it in command[:3])
-    number = _within(command.number, 64, "the number")
+    kind, first, second = (_within(it, 8, "the kind or register", BadCommand) for it in command[:3])
+    number = _within(command.number, 64, "the number", BadCommand)
     return _Command(kind, first, second, number, int.from_bytes(data[:8], "little"), int.from_bytes(data[8:], "little"))
 
 
 def _passed_reply(reply: Reply) -> _Reply:
-    widths = (("kind", 8), ("base", 64), ("cleared", 32), ("bytes", 64), ("trap", 8), ("address", 64), ("otype", 32), ("perms", 16), ("tag", 8), ("exponent", 8))
+    widths = {"kind": 8, "base": 64, "top": 128, "cleared": 32, "bytes": 64, "trap": 8, "address": 64, "otype": 32, "perms": 16, "tag": 8, "exponent": 8}
     _instance(reply, Reply, "a reply")
-    top = _within(reply.top, 128, "the reply's top")
-    passed = {name: _within(getattr(reply, name), bits, f"the reply's {name}") for name, bits in widths}
+    # A trap that has no name has a number that no trap has.
+    untold = 0xFF if reply.kind == ReplyKind.TRAP else 0
+    told = {**reply._asdict(), "trap": untold if reply.trap is None else reply.trap}
+    passed = {name: _within(told[name], bits, f"the reply's {name}", BadReply) for name, bits in widths.items()}
+    top = passed.pop("top")
     return _Reply(top=top & (1 << 64) - 1, top_high=top >> 64, **passed)
+
+
+# Of a state's bytes the head, a granule and a register, as numbers: the base, the pages and whether an epoch is open; the two of
+# a word and its tag; and behind a granule's that of the block that starts there.
+_HEAD, _GRANULE, _REGISTER = (_struct.Struct(it) for it in ("<QIB", "<QQBI", "<QQB"))
 
 
 class State:
@@ -711,9 +763,10 @@ class State:
     their bytes are, and can be keys and members of sets. Raises BadState where bytes are no state's."""
 
     __slots__ = ("_bytes",)
+    _bytes: bytes
 
     def __init__(self, data: bytes) -> None:
-        data = _bytes_in(data, "a state's")
+        data = _bytes_in(data, "a state is made of")
         _done(_library.kernelstint_counts(data, len(data), _Counts()), f"{len(data)} bytes are no state's")
         object.__setattr__(self, "_bytes", data)
 
@@ -730,11 +783,13 @@ class State:
     def __copy__(self) -> State:
         return self
 
-    def __deepcopy__(self, memo: dict) -> State:
+    def __deepcopy__(self, memo: dict[int, _Any]) -> State:
         return self
 
     def __eq__(self, other: object) -> bool:
-        return self._bytes == other._bytes if isinstance(other, State) else NotImplemented
+        if not isinstance(other, State):
+            return NotImplemented
+        return self._bytes == other._bytes
 
     def __hash__(self) -> int:
         return hash(self._bytes)
@@ -755,7 +810,7 @@ class State:
     @classmethod
     def first(cls, base: int, pages: int) -> State:
         """The first state of a heap of so many pages at this base. Raises BadSize and BadBase."""
-        base, pages = _within(base, 64, "the base"), _within(pages, 32, "the number of pages")
+        pages, base = _within(pages, 32, "the number of pages", BadSize), _within(base, 64, "the base", BadBase)
         room = (_ctypes.c_uint8 * max(_library.kernelstint_state_length(pages), 1))()
         _done(_library.kernelstint_first(base, pages, room, len(room)), f"no heap has {pages} pages at {base:#x}")
         return cls._of(bytes(room))
@@ -763,6 +818,8 @@ class State:
     def step(self, command: str | Command) -> tuple[State, Reply]:
         """The state after a command, which is a line of a trace or a Command, and the reply. A line may end with its line feed, as
         those that a file is read by do. Raises BadLine and PassedOver for a line, BadCommand for a Command."""
+        if not isinstance(command, (str, Command)):
+            raise TypeError(f"a command is a str or a Command, and no {type(command).__name__}")
         room, told = (_ctypes.c_uint8 * len(self._bytes))(), _Reply()
         if isinstance(command, str):
             line, written, count = _text_in(command[:-1] if command.endswith("\n") else command, "a line"), (_ctypes.c_uint8 * _LONGEST_REPLY)(), _ctypes.c_size_t()
@@ -799,22 +856,63 @@ class State:
     @property
     def live(self) -> int:
         """How many bytes lie in live blocks."""
-        return self._counts().live
+        return int(self._counts().live)
 
     @property
     def held(self) -> int:
         """How many bytes lie in freed blocks that are held."""
-        return self._counts().held
+        return int(self._counts().held)
 
     @property
     def free(self) -> int:
         """How many bytes lie in no block."""
-        return self._counts().free
+        return int(self._counts().free)
 
     @property
     def is_open(self) -> bool:
         """Whether an epoch is open."""
-        return self._counts().is_open == 1
+        return self._bytes[12] == 1
+
+    @property
+    def blocks(self) -> list[Block]:
+        """The blocks, in the order of their bases."""
+        return [_block_of(at, number) for at, (_, _, _, number) in self._granules() if number]
+
+    @property
+    def registers(self) -> list[TaggedWord]:
+        """What each of the 32 registers holds."""
+        at = _HEAD.size + _GRANULE.size * 256 * self.pages
+        return [_word_of(*it) for it in _REGISTER.iter_unpack(self._bytes[at : at + 32 * _REGISTER.size])]
+
+    @property
+    def tags(self) -> list[Tag]:
+        """The tagged words: those in registers, and then those in memory."""
+        in_registers = [Tag("register", number, it.word) for number, it in enumerate(self.registers) if it.tag]
+        return in_registers + [Tag("granule", at, _word_of(low, high, tag).word) for at, (low, high, tag, _) in self._granules() if tag]
+
+    @property
+    def marks(self) -> list[bool]:
+        """Whether each page is dirty."""
+        return [it == 1 for it in self._bytes[-self.pages :]]
+
+    def changes(self, after: State) -> list[Change]:
+        """What is another thing in another state of this heap, in the order in which the bytes of a state have it. Raises OtherHeap."""
+        _instance(after, State, "another state")
+        if (self.base, self.pages) != (after.base, after.pages):
+            raise OtherHeap(f"{after!r} is of another heap than {self!r}")
+        found = [Change("epoch", 0, self.is_open, after.is_open)] if self.is_open != after.is_open else []
+        for (at, one), (_, other) in zip(self._granules(), after._granules()):
+            if one[3] != other[3]:
+                found.append(Change("block", at, *(_block_of(at, it[3]) if it[3] else None for it in (one, other))))
+            if one[:3] != other[:3]:
+                found.append(Change("granule", at, _word_of(*one[:3]), _word_of(*other[:3])))
+        found += [Change("register", number, *both) for number, both in enumerate(zip(self.registers, after.registers)) if both[0] != both[1]]
+        return found + [Change("page", number, *both) for number, both in enumerate(zip(self.marks, after.marks)) if both[0] != both[1]]
+
+    def _granules(self) -> _Iterator[tuple[int, tuple[int, ...]]]:
+        """The address of each granule, and its numbers."""
+        rows = memoryview(self._bytes)[_HEAD.size : _HEAD.size + _GRANULE.size * 256 * self.pages]
+        return zip(range(self.base, self.base + 4096 * self.pages, 16), _GRANULE.iter_unpack(rows))
 
     def _counts(self) -> _Counts:
         told = _Counts()
@@ -823,16 +921,24 @@ class State:
 
     def register(self, number: int) -> TaggedWord:
         """What a register holds. Raises BadRegister."""
-        told = _TaggedWord()
-        _done(_library.kernelstint_register(self._bytes, len(self._bytes), _within(number, 8, "the register"), told), f"no register is {number}")
-        return TaggedWord(Word(told.high << 64 | told.low), told.tag == 1)
+        told, number = _TaggedWord(), _within(number, 8, "the register", BadRegister)
+        _done(_library.kernelstint_register(self._bytes, len(self._bytes), number, told), f"no register is {number}")
+        return _word_of(told.low, told.high, told.tag)
 
     def granule(self, address: int) -> TaggedWord:
         """What the granule holds that starts at this address. Raises BadAddress."""
-        told = _TaggedWord()
-        code = _library.kernelstint_granule(self._bytes, len(self._bytes), _within(address, 64, "the address"), told)
-        _done(code, f"no granule starts at {address:#x}")
-        return TaggedWord(Word(told.high << 64 | told.low), told.tag == 1)
+        told, address = _TaggedWord(), _within(address, 64, "the address", BadAddress)
+        _done(_library.kernelstint_granule(self._bytes, len(self._bytes), address, told), f"no granule starts at {address:#x}")
+        return _word_of(told.low, told.high, told.tag)
+
+
+def _word_of(low: int, high: int, tag: int) -> TaggedWord:
+    return TaggedWord(Word(high << 64 | low), tag == 1)
+
+
+def _block_of(base: int, number: int) -> Block:
+    """The block that starts here with this number: its length and its kind."""
+    return Block(base, base + number - number % 16, BlockKind(number % 16))
 
 
 class Machine:
@@ -883,7 +989,7 @@ class Machine:
     def __copy__(self) -> Machine:
         return self.copy()
 
-    def __deepcopy__(self, memo: dict) -> Machine:
+    def __deepcopy__(self, memo: dict[int, _Any]) -> Machine:
         return self.copy()
 
     def __enter__(self) -> Machine:
@@ -900,9 +1006,9 @@ class Machine:
         return f"<Machine in {self.state}>" if self._held.at else "<Machine, closed>"
 
 
-def _whole(call: _ctypes._CFuncPtr, text: str | bytes) -> bytes:
+def _whole(call: _Callable[..., int], text: str | bytes) -> bytes:
     """What a call writes of a text: into a room that is made longer where it is too short."""
-    text = _text_in(text, "a trace's")
+    text = _text_in(text, "a trace")
     length = 64 * len(text) + 4096
     while True:
         room, count = (_ctypes.c_uint8 * length)(), _ctypes.c_size_t()
