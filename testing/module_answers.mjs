@@ -11,7 +11,8 @@ if (source.split(HANDED).length !== 2) throw new Error('the worker hands out roo
 const text = source.replace(HANDED, 'fits = mayHave() && at + size <= end,');
 
 let last = null, asked = 0, refusedFrom = Infinity;
-const worker = new Function('postMessage', 'mayHave', `${text}; return { onmessage, ANSWERS };`);
+// The page asks for the fault of a text that has no states alone; here it is asked for that of any.
+const worker = new Function('postMessage', 'mayHave', `${text}; ANSWERS.fault = text => ofText('page_fault', text); return { onmessage, ANSWERS };`);
 globalThis.onmessage = null;
 const { ANSWERS } = worker(answer => { last = answer; }, () => ++asked < refusedFrom);
 const handle = globalThis.onmessage;
