@@ -7,23 +7,28 @@ from run import counted
 
 WIDTH, HEIGHT = 960, 520
 LEFT, RIGHT, TOP, BOTTOM = 78, 882, 92, 356  # of the areas
-STRIP_TOP, STRIP = 404, 470  # of the passes: room for the longest stem, and where all stand
+STRIP_TOP, STRIP, END_STRIP = 404, 470, 482  # of the passes: room for the longest stem, where they stand, and where ends hang
+STEM = STRIP - STRIP_TOP - 12
 COLUMNS = RIGHT - LEFT
-# A line of more coordinates goes up and down in most columns.
-DENSE = 4 * COLUMNS
-# Passes of one kind that lie nearer to each other have one mark.
-NEAR = 3
+# A line of more steps goes up and down in most columns.
+DENSE = 2 * COLUMNS
+# Passes of one kind that lie nearer to each other have one mark, and numbers that do are left out.
+NEAR, NEAR_NUMBERS = 6, 32
 MARKS = {"sweep": "sweep", "begin": "begin of an epoch", "end": "end of an epoch"}
 STYLE = """text{font:13px sans-serif;fill:#000}.small{font-size:11px}.title{font-size:17px;font-weight:bold}
 .axis{stroke:#000;fill:none}.grid{stroke:#000;stroke-opacity:.18;fill:none}.live{fill:#a9c9e8;stroke:#000;stroke-width:.6}
 .held{fill:url(#hatch);stroke:#000;stroke-width:.6}.tags{fill:none;stroke-linejoin:round}.stem{stroke:#000;fill:none}
-.sweep,.end{fill:#000;stroke:#000}.begin{fill:#fff;stroke:#000}"""
+.dense{stroke:none}.sweep,.end{fill:#000;stroke:#000}.begin{fill:#fff;stroke:#000}"""
 PATTERN = """<pattern id="hatch" width="6" height="6" patternUnits="userSpaceOnUse" patternTransform="rotate(45)"><rect width="6" height="6" fill="#f6d7a8"/><path d="M0 0V6" stroke="#000" stroke-width="1.6"/></pattern>"""
 
 
 def number(value):
     """A coordinate, as short as it can be."""
     return f"{value:.1f}".removesuffix(".0")
+
+
+def shortened(text, most):
+    return text if len(text) <= most else text[: most - 3] + "..."
 
 
 def thinned(values, most):
@@ -56,9 +61,13 @@ def ticks(most, count, least=0):
 
 
 class Picture:
-    def __init__(self, run, title):
-        self.run, self.title, self.parts = run, title, []
-        self.commands = max(1, len(run.live) - 1)
+    def __init__(self, run, title, part=""):
+        self.run, self.title, self.part, self.parts = run, title, part, []
+        self.states = len(run.live)
+        self.most_taken = max([1, *(it.tags for it in run.passes)])
+        # the ends of epochs hang from a line below that on which all other passes stand, since each comes soon after its begin
+        ends = [it.tags for it in run.passes if it.kind == "end"]
+        self.height = HEIGHT + (END_STRIP - STRIP + 12 + round(self.stem(max(ends))) if ends else 0)
         self.heap = run.pages * 4096
         used = max(map(sum, zip(run.live, run.held)))
         # where less than half of the heap is ever used, the rest of it isn't drawn
@@ -67,7 +76,10 @@ class Picture:
         self.most_tags = max(1, *run.tags) * 1.15
 
     def x(self, command):
-        return LEFT + COLUMNS * command / self.commands
+        return LEFT + COLUMNS * command / self.states
+
+    def stem(self, tags):
+        return STEM * tags / self.most_taken
 
     def y(self, value, most):
         return BOTTOM - (BOTTOM - TOP) * value / most
@@ -80,16 +92,19 @@ class Picture:
         self.add(f'<text x="{number(x)}" y="{number(y)}"{more}>{html.escape(told)}</text>')
 
     def points(self, values, most):
-        """A path through the values, by steps from point to point."""
-        kept = without_middles([(round(self.x(at), 1), round(self.y(it, most), 1)) for at, it in thinned(values, COLUMNS)])
-        before, told = kept[0], [f"M{number(kept[0][0])} {number(kept[0][1])}l"]
+        """A path through the values, each of which holds up to the next command."""
+        shown = [*thinned(values, COLUMNS), (self.states, values[-1])]
+        kept = without_middles([(round(self.x(at), 1), round(self.y(it, most), 1)) for at, it in shown])
+        before, told = kept[0], [f"M{number(kept[0][0])} {number(kept[0][1])}"]
         for point in kept[1:]:
-            told.append(f"{number(point[0] - before[0])} {number(point[1] - before[1])} ")
+            right, down = round(point[0] - before[0], 1), round(point[1] - before[1], 1)
+            told.append((f"h{number(right)}" if right else "") + (f"v{number(down)}" if down else ""))
             before = point
-        return "".join(told).rstrip() if len(kept) > 1 else told[0] + "0 0"
+        return "".join(told)
 
     def area(self, values, kind):
-        self.add(f'<path class="{kind}" d="{self.points(values, self.most_bytes)}V{BOTTOM}H{LEFT}z"/>')
+        line = self.points(values, self.most_bytes)
+        self.add(f'<path class="{kind}{" dense" if line.count("v") > DENSE else ""}" d="{line}V{BOTTOM}H{LEFT}z"/>')
 
     def areas(self):
         """What is held is drawn up to the sum of both, and what is live over it."""
@@ -97,8 +112,8 @@ class Picture:
         self.area([live + held for live, held in zip(run.live, run.held)], "held")
         self.area(run.live, "live")
         line = self.points(run.tags, self.most_tags)
-        if line.count(" ") > DENSE:  # it would hide what it runs over
-            self.add(f'<path class="tags" stroke="#a01010" stroke-width=".4" d="{line}"/>')
+        if line.count("v") > DENSE:  # it would hide what it runs over
+            self.add(f'<path class="tags" stroke="#a01010" stroke-width=".4" stroke-opacity=".5" d="{line}"/>')
         else:
             self.add(f'<path class="tags" stroke="#fff" stroke-width="4" d="{line}"/><path class="tags" stroke="#a01010" stroke-width="1.8" stroke-dasharray="7 3" d="{line}"/>')
 
@@ -112,7 +127,7 @@ class Picture:
             y = self.y(it, self.most_tags)
             self.add(f'<path class="axis" d="M{RIGHT} {number(y)}h5"/>')
             self.text(RIGHT + 9, y + 4, f"{it:,.0f}")
-        for it in ticks(self.commands, 8, 1):
+        for it in ticks(max(1, self.states - 1), 8, 1):
             self.add(f'<path class="axis" d="M{number(self.x(it))} {BOTTOM}v5"/>')
             self.text(self.x(it), BOTTOM + 18, f"{it:,.0f}", anchor="middle")
         self.add(f'<path class="axis" d="M{LEFT} {TOP}V{BOTTOM}H{RIGHT}V{TOP}"/>')
@@ -121,7 +136,7 @@ class Picture:
         self.text((LEFT + RIGHT) / 2, BOTTOM + 34, "commands", anchor="middle")
 
     def legend(self):
-        free = f"free (cut: the heap has {self.heap:,} bytes)" if self.is_cut else "free"
+        free = f"free (partly drawn: the heap has {self.heap:,} bytes)" if self.is_cut else "free"
         x = LEFT
         for kind, told in (("live", "live"), ("held", "held in quarantine"), ("free", free)):
             shown = f'class="{kind}"' if kind != "free" else 'fill="#fff" stroke="#000" stroke-width=".6"'
@@ -153,40 +168,51 @@ class Picture:
 
     def strip(self):
         """A stem for each pass, as long as it took tags; the longest have their numbers, as far as there is room."""
-        self.add(f'<path class="axis" d="M{LEFT} {STRIP}H{RIGHT}"/>')
-        marks = list(self.marks())
-        most = max([1, *(it.tags for it, _ in marks)])
-        taken = []
-        for it, passes in sorted(marks, key=lambda mark: -mark[0].tags):
-            x, y = self.x(it.at), STRIP - (STRIP - STRIP_TOP - 12) * it.tags / most
-            self.add(f'<g><title>{self.told_of(it, passes)}</title><path class="stem" d="M{number(x)} {STRIP}V{number(y)}"/>{self.mark(it.kind, x, y)}</g>')
-            room = 4 * len(f"{it.tags:,}") + 2
-            if all(abs(x - other) > room + width for other, width in taken):
-                taken.append((x, room))
-                self.text(x, y - 6, f"{it.tags:,}", "small", "middle")
+        marks = sorted(self.marks(), key=lambda mark: -mark[0].tags)
+        for is_end, base, way in ((False, STRIP, -1), (True, END_STRIP, 1)):
+            placed = []
+            for it, passes in marks:
+                if (it.kind == "end") == is_end:
+                    x, y = self.x(it.at), base + way * self.stem(it.tags)
+                    placed.append((it, x, y))
+                    self.add(f'<g><title>{self.told_of(it, passes)}</title><path class="stem" d="M{number(x)} {base}V{number(y)}"/>{self.mark(it.kind, x, y)}</g>')
+            if placed or not is_end:
+                self.add(f'<path class="axis" d="M{LEFT} {base}H{RIGHT}"/>')
+            self.numbers(placed, not is_end)
         self.kinds(self.run.passes)
+
+    def numbers(self, placed, up):
+        """The numbers of stems, the longest first, where none lies over a longer stem or near another number."""
+        taken = []
+        for at, (it, x, y) in enumerate(placed):
+            room = 4 * len(f"{it.tags:,}") + 2
+            is_free = all(abs(x - other) > room + 4 or abs(y - end) < 2.5 for _, other, end in placed[:at])
+            if it.tags and is_free and all(abs(x - other) > max(room + width, NEAR_NUMBERS) for other, width in taken):
+                taken.append((x, room))
+                self.text(x, y - 6 if up else y + 14, f"{it.tags:,}", "small", "middle")
 
     def kinds(self, passes):
         x = LEFT
         told = f"tags taken by {'a pass' if passes else 'passes: there is none'}"
-        self.text(x, HEIGHT - 18, told)
+        self.text(x, self.height - 18, told)
         x += 7 * len(told) + 12
         for kind, name in MARKS.items():
             count = sum(it.kind == kind for it in passes)
             if count:
-                self.add(self.mark(kind, x, HEIGHT - 22))
-                self.text(x + 9, HEIGHT - 18, f"{name} ({count:,})")
+                self.add(self.mark(kind, x, self.height - 22))
+                self.text(x + 9, self.height - 18, f"{name} ({count:,})")
                 x += 42 + 7 * (len(name) + len(f"{count:,}"))
 
     def svg(self):
-        told = "; ".join(f"{name}: {text}" for name, text in self.run.rows())
-        title = self.title if len(self.title) <= 90 else self.title[:87] + "..."
-        self.text(LEFT, 32, title, "title")
+        told = "; ".join([*([self.part] if self.part else []), *(f"{name}: {text}" for name, text in self.run.rows())])
+        self.text(LEFT, 22 if self.part else 32, shortened(self.title, 90), "title")
+        if self.part:
+            self.text(LEFT, 41, shortened(self.part, 130))
         self.legend()
         self.areas()
         self.axes()
         self.strip()
         return "\n".join([
-            f'<svg xmlns="http://www.w3.org/2000/svg" viewBox="0 0 {WIDTH} {HEIGHT}" width="{WIDTH}" height="{HEIGHT}" role="img" aria-labelledby="title description">',
+            f'<svg xmlns="http://www.w3.org/2000/svg" viewBox="0 0 {WIDTH} {self.height}" width="{WIDTH}" height="{self.height}" role="img" aria-labelledby="title description">',
             f'<title id="title">{html.escape(self.title)}</title>', f'<desc id="description">{html.escape(told)}</desc>',
-            f"<style>{STYLE}</style><defs>{PATTERN}</defs>", f'<rect width="{WIDTH}" height="{HEIGHT}" fill="#fff"/>', *self.parts, "</svg>", ""])
+            f"<style>{STYLE}</style><defs>{PATTERN}</defs>", f'<rect width="{WIDTH}" height="{self.height}" fill="#fff"/>', *self.parts, "</svg>", ""])

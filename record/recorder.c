@@ -7,11 +7,13 @@
    anew. Other processes are counted in its head, or have records of their own in the folder that HEAP_RECORD_CHILDREN names.
 
    One lock is held while the allocator answers and the call is noted, so the calls of threads stand in an order that they had. A call
-   that comes from within the allocator isn't noted. */
+   counts when it is asked, and is noted once it is answered: one in which the allocator ended the program was asked alone. What is
+   handed out within the allocator, or before the environment is known, isn't noted, and nor is its free. */
 #define _GNU_SOURCE
 #include <dlfcn.h>
 #include <errno.h>
 #include <fcntl.h>
+#include <link.h>
 #include <malloc.h>
 #include <pthread.h>
 #include <stdint.h>
@@ -19,6 +21,7 @@
 #include <stdlib.h>
 #include <string.h>
 #include <sys/mman.h>
+#include <sys/prctl.h>
 #include <sys/resource.h>
 #include <sys/stat.h>
 #include <unistd.h>
@@ -33,6 +36,8 @@ enum {
     ROOM = 1 << 16,  /* bytes that a record's head has: whole pages of any system */
     PATH = 4096,     /* bytes of a path */
     WORDS = 2048,    /* bytes of a command's words */
+    NAME = 16,       /* bytes of a process's name */
+    UNNOTED = 256,   /* blocks without a call in the record that are told apart */
     COUNTED = 253,   /* children that are told apart */
     CHUNK = 1 << 20, /* bytes of entries that are mapped at once */
     MOST = 1 << 20   /* entries of a record: more calls than a text has, unless it leaves many out */
@@ -60,6 +65,10 @@ struct head {
     uint64_t error;    /* errno of what ended the record; 0: nothing did */
     uint64_t programs; /* how many programs this process has been, one after the other */
     uint64_t children; /* processes that have no record */
+    uint64_t is_ended; /* whether the program ended, and no other took its place that has no recorder */
+    uint64_t lacks;    /* whether the library that HEAP_RECORD_PRELOAD names isn't loaded */
+    uint64_t is_blind; /* whether more blocks than UNNOTED were handed out unnoted */
+    char name[NAME];   /* the process's, as the system has it */
     uint64_t length;   /* bytes of `words` */
     char words[WORDS]; /* the words of the command, each with a byte 0 at its end */
     uint64_t counted[COUNTED]; /* numbers of `children`, each where its remainder says */
@@ -103,6 +112,31 @@ static void *early_block(size_t size) {
 
 static int is_early(const void *block) { return (uintptr_t)block - (uintptr_t)early < sizeof early; }
 
+/* Blocks that were handed out and not noted. A forked child has those of its parent. */
+static const void *unnoted[UNNOTED];
+static unsigned unnoted_count;
+
+/* The lock is held, or there are no threads yet. */
+static int has_unnoted(void) { return state && state->phase != OFF; }
+
+static void keep_unnoted(const void *block) {
+    if (!block || !has_unnoted()) return;
+    if (unnoted_count < UNNOTED) unnoted[unnoted_count++] = block;
+    else if (state->head) state->head->is_blind = 1;
+}
+
+/* Whether a block is one of these; then it is one no longer. */
+static int take_unnoted(const void *block) {
+    if (unnoted_count == 0 || !has_unnoted()) return 0;
+    for (unsigned i = 0; i < unnoted_count; i++) {
+        if (unnoted[i] == block) {
+            unnoted[i] = unnoted[--unnoted_count];
+            return 1;
+        }
+    }
+    return 0;
+}
+
 /* Looks up the functions that come next, once; whether they are there. The first call comes before there are threads. */
 static int is_ready(void) {
     static int is_looking;
@@ -120,11 +154,12 @@ static int is_ready(void) {
     return next.free != 0;
 }
 
-/* Maps `size` bytes of a record, from `start` on, and takes their room on the disk before; else errno says why not. */
+/* Maps `size` bytes of a record, from `start` on, and takes their room on the disk before; else errno says why not. Only a child's
+   record is made here: a process that outlives the program finds no record, and leaves none. */
 static void *mapped(const char *path, off_t start, size_t size) {
     struct rlimit most;
     void *bytes = MAP_FAILED;
-    int error, file = open(path, O_RDWR | O_CREAT | O_CLOEXEC, 0600);
+    int error, file = open(path, O_RDWR | O_CLOEXEC | (path == own && start == 0 ? O_CREAT : 0), 0600);
     if (file < 0) return 0;
     /* past this limit a signal would end the program */
     if (getrlimit(RLIMIT_FSIZE, &most) == 0 && most.rlim_cur < (rlim_t)start + size) {
@@ -168,8 +203,9 @@ static int begin_record(struct state *it, const char *path, int is_program) {
     }
     head->mark = MARK;
     head->process = (uint64_t)getpid();
-    head->entries = head->calls = head->error = 0;
+    head->entries = head->calls = head->error = head->is_ended = head->lacks = head->is_blind = 0;
     head->programs += (uint64_t)is_program;
+    prctl(PR_GET_NAME, head->name);
     read_words(head);
     it->head = head;
     it->phase = NOTES;
@@ -249,11 +285,18 @@ static struct state *enter(void) {
     return 0;
 }
 
-/* Notes a call. An entry counts once it is whole. */
+/* Counts a call that is to be noted, and takes the lock for it; 0 where it isn't. */
+static struct state *ask(void) {
+    struct state *it = enter();
+    if (it) it->head->calls++;
+    return it;
+}
+
+/* Notes the answer of a call that was asked. An entry counts once it is whole. */
 static void note(struct state *it, enum kind kind, size_t size, const void *block, const void *old) {
-    if (!it) return;
-    it->head->calls++;
-    if (it->phase == COUNTS || (it->next == it->end && !extend(it))) return;
+    if (!it) keep_unnoted(block);
+    else if (block) take_unnoted(block);
+    if (!it || it->phase == COUNTS || (it->next == it->end && !extend(it))) return;
     *it->next++ = (struct entry){kind, size, (uintptr_t)block, (uintptr_t)old};
     __atomic_store_n(&it->head->entries, it->head->entries + 1, __ATOMIC_RELEASE);
 }
@@ -286,7 +329,7 @@ void *malloc(size_t size) {
     struct state *it;
     void *block;
     if (!is_ready()) return early_block(size);
-    it = enter();
+    it = ask();
     block = new_block(size, 0);
     note(it, HANDED_OUT, size, block, 0);
     leave(it);
@@ -299,7 +342,7 @@ void *calloc(size_t count, size_t each) {
     size_t size;
     int is_too_much = __builtin_mul_overflow(count, each, &size);
     if (!is_ready()) return is_too_much ? 0 : early_block(size);
-    it = enter();
+    it = ask();
     if (is_too_much || !is_cheri) {
         block = next.calloc(count, each);
     } else if ((block = new_block(size, 0))) {
@@ -311,11 +354,15 @@ void *calloc(size_t count, size_t each) {
 }
 
 void free(void *block) {
-    struct state *it;
+    struct state *it, *noted;
     if (!block || is_early(block) || !is_ready()) return;
     it = enter();
-    note(it, FREED, 0, 0, block);
+    /* what the program was given is noted too where it is freed within the allocator */
+    noted = it ? it : is_within != OUTSIDE && state->head ? state : 0;
+    if (take_unnoted(block)) noted = 0;
+    if (noted) noted->head->calls++;
     next.free(block);
+    note(noted, FREED, 0, 0, block);
     leave(it);
 }
 
@@ -332,15 +379,18 @@ static void *moved(void *old, size_t size) {
 void *realloc(void *old, size_t size) {
     struct state *it;
     void *block;
+    int is_unnoted;
     if (!old) return malloc(size);
     if (is_early(old)) {
         size_t rest = (size_t)(early + sizeof early - (char *)old);
         block = malloc(size);
         return block ? memcpy(block, old, size < rest ? size : rest) : 0;
     }
-    it = enter();
+    it = ask();
+    is_unnoted = take_unnoted(old);
     block = is_cheri && size ? moved(old, size) : next.realloc(old, size);
-    note(it, MOVED, size, block, old);
+    if (is_unnoted && size && !block) keep_unnoted(old);
+    note(it, is_unnoted ? HANDED_OUT : MOVED, size, block, is_unnoted ? 0 : old);
     leave(it);
     return block;
 }
@@ -356,7 +406,7 @@ void *aligned_alloc(size_t alignment, size_t size) {
     struct state *it;
     void *block;
     if (!is_ready()) return 0;
-    it = enter();
+    it = ask();
     block = new_block(size, alignment);
     note(it, HANDED_OUT, size, block, 0);
     leave(it);
@@ -368,7 +418,7 @@ int posix_memalign(void **block, size_t alignment, size_t size) {
     size_t unit = unit_of(size), length = (size ? size + unit - 1 : unit) / unit * unit;
     int error, is_asked_so = is_cheri && size <= PTRDIFF_MAX;
     if (!is_ready()) return ENOMEM;
-    it = enter();
+    it = ask();
     error = next.posix_memalign(block, is_asked_so && alignment < unit ? unit : alignment, is_asked_so ? length : size);
     note(it, HANDED_OUT, size, error ? 0 : *block, 0);
     leave(it);
@@ -430,5 +480,20 @@ DELETE(_ZdaPvmSt11align_val_t)
 DELETE(_ZdlPvSt11align_val_tRKSt9nothrow_t)
 DELETE(_ZdaPvSt11align_val_tRKSt9nothrow_t)
 
+static int is_named(struct dl_phdr_info *library, size_t size, void *name) {
+    const char *path = library->dlpi_name, *last = strrchr(path, '/');
+    (void)size;
+    return !strcmp(path, name) || (last && !strcmp(last + 1, name));
+}
+
 /* A program that asks for nothing has a record too. */
-__attribute__((constructor)) static void begin_at_once(void) { leave(enter()); }
+__attribute__((constructor)) static void begin_at_once(void) {
+    struct state *it = enter();
+    char *name = getenv("HEAP_RECORD_PRELOAD");
+    if (it && name) it->head->lacks = dl_iterate_phdr(is_named, name) == 0;
+    leave(it);
+}
+
+__attribute__((destructor)) static void end_well(void) {
+    if (state && state->head) state->head->is_ended = 1;
+}

@@ -1,5 +1,6 @@
 """The texts that heap_record makes of a record: a trace for heap_tool, or a log for heap_check."""
 
+import collections
 import dataclasses
 
 from calls import FREED, MOVED
@@ -13,6 +14,9 @@ EPOCH_CALLS = 20
 # Blocks of a log are moved by a multiple of this, which leaves each bound that fits into the heap as exact as it was.
 STEP = 1 << 13
 MOST_TITLE = 200
+MOST_LAST = 600  # bytes of the last comment
+# A block of so many bytes may be left out by its size.
+LARGE = 1 << 16
 
 
 @dataclasses.dataclass
@@ -34,6 +38,10 @@ class NoPlace(Full):
     """The same, since the heap has no place for a block."""
 
 
+class TooFar(NoPlace):
+    """The same, since a block and those before it have no place in one heap: its call, its size and its address."""
+
+
 def counted(count, one):
     return f"{count:,} {one}{'' if count == 1 else 's'}"
 
@@ -44,23 +52,43 @@ def title_of(words):
     return text if len(text) <= MOST_TITLE else text[: MOST_TITLE - 3] + "..."
 
 
+def freed_again(record):
+    """The calls, counted from 0, that give up a block which is freed once more before its address is handed out again."""
+    live, last, again = {}, {}, set()
+    for call, (kind, size, block, old) in enumerate(record):
+        if old and (block or not size):  # a realloc that failed leaves its block
+            if live.get(old):
+                live[old] -= 1
+            elif old in last:
+                again.add(last[old])
+            last[old] = call
+        if block:
+            live[block] = live.get(block, 0) + 1
+            last.pop(block, None)
+    return again
+
+
 class Text:
-    """A text to which whole calls are added. A block is known by its address, and its pointer by its slot in the table."""
+    """A text to which whole calls are added. A block is known by its address, and its pointer by its slot in the table. What the
+    allocator did goes in as it came: a block that is handed out while it is live has two pointers, and is freed twice."""
 
     every, longest = 1, 0  # how often the number of a call is told, and how many bytes a text may have
 
-    def __init__(self, words, options, slots):
-        self.options, self.slots = options, max(1, slots)
-        self.head = [f"# {title_of(words)}", "# " + self.about()]
+    def __init__(self, record, options, slots, again):
+        self.options, self.slots, self.again = options, max(1, slots), again
+        self.began_late = record.programs == 0 or record.is_blind  # whether there were blocks before the first call
+        self.head = [f"# {title_of(record.words)}", "# " + self.about()]
         self.free_slots = list(range(self.slots - 1, -1, -1))
-        self.blocks = {}  # address: slot and place; None where the block is left out
+        self.blocks = {}  # address: the slot and the place of each block that is live there, the last one last; None where it is left out
+        self.stale = {}  # address: the same of a block that was freed and is freed again
         self.lines, self.added = [], []
-        # the longest line of a heap has room, and the longest number of bytes of a table
-        self.bytes = sum(map(len, self.head)) + 2 + len(f"heap {BASE:#x} {MOST_PAGES}\n") + len(str(GRANULE * MOST_SLOTS)) - len(str(GRANULE * self.slots))
+        # the longest line of a heap has room, the longest number of bytes of a table, and the last comment
+        self.bytes = sum(map(len, self.head)) + 2 + len(f"heap {BASE:#x} {MOST_PAGES}\n") + len(str(GRANULE * MOST_SLOTS)) - len(str(GRANULE * self.slots)) + MOST_LAST
         self.commands = self.calls = self.pages = 0
         self.slots_now = self.most_slots = 0  # most at once: with this call, and of those that were added
-        self.left_out = self.failed = self.unknown = self.missed = self.in_place = 0
+        self.counts, self.counted = collections.Counter(), []  # what the calls that were added did, and what this one does
         self.ended = None  # the Full that ended it
+        self.last = None  # its last comment
 
     def slot(self):
         if not self.free_slots:
@@ -81,6 +109,12 @@ class Text:
                 self.ended = why
                 return
             self.calls += 1
+            if self.counted:
+                self.counts.update(self.counted)
+                self.counted.clear()
+
+    def count(self, what):
+        self.counted.append(what)
 
     def call(self, kind, size, block, old):
         if kind == FREED or (kind == MOVED and not block and not size):
@@ -113,32 +147,60 @@ class Text:
 
     def hand_out(self, size, block):
         if block in self.blocks:
-            self.missed += 1
-            self.take_back(block)
+            self.count("doubled")
         if size > self.options.at_most:
-            self.left_out += 1
-            self.blocks[block] = None
+            self.count("left_out")
+            known = None
         else:
-            self.blocks[block] = self.new(size, block)
+            known = self.new(size, block)
+        self.blocks.setdefault(block, []).append(known)
+
+    def removed(self, block):
+        """Removes a block that is given up: how to tell of it, and what is known of it."""
+        if owners := self.blocks.get(block):
+            known = owners.pop()
+            if not owners:
+                del self.blocks[block]
+            return self.give_up, known
+        if block in self.stale:
+            self.count("twice")
+            return self.give_up_again, self.stale.pop(block)
+        if self.began_late:
+            self.count("inherited")
+            return self.give_up, None
+        self.count("strays")
+        return self.give_up_none, None
+
+    def tell_of(self, block, tell, known):
+        """Tells of a block that was given up. Its slot keeps a pointer that is freed again."""
+        if known or tell != self.give_up:
+            tell(block, *(known or ()))
+        if self.calls in self.again and tell != self.give_up_none:
+            self.stale[block] = known
+        elif known:
+            self.free_slots.append(known[0])
 
     def take_back(self, block):
-        if block not in self.blocks:
-            self.unknown += 1
-        elif known := self.blocks.pop(block):
-            self.give_up(*known)
+        self.tell_of(block, *self.removed(block))
+
+    def move(self, size, block, old):
+        """A realloc is a new block, and a free of the old one."""
+        was = self.removed(old)
+        self.hand_out(size, block)
+        self.tell_of(old, *was)
 
     def written(self):
         """The whole text."""
-        return "\n".join([*self.head, f"heap {BASE:#x} {self.pages}", *self.lines, ""])
+        return "\n".join([*self.head, f"heap {BASE:#x} {self.pages}", *self.lines, *([f"# {self.last}"] if self.last else []), ""])
 
 
 class Trace(Text):
-    """The simulator places the blocks. A `realloc` is a new block and a `free`."""
+    """The simulator places the blocks, and answers what is freed again, or is no block, with a trap."""
 
     every, longest = 100, 4_194_304
 
-    def __init__(self, words, options, slots):
-        super().__init__(words, options, slots)
+    def __init__(self, record, options, slots, again):
+        super().__init__(record, options, slots, again)
         self.heap = Heap()
         self.heap.hand_out(GRANULE * self.slots)
         self.table = self.heap.live_granules
@@ -173,13 +235,7 @@ class Trace(Text):
         self.heap.end()
 
     def fail(self, size):
-        self.failed += 1
-
-    def move(self, size, block, old):
-        known = self.blocks.pop(old, None)
-        self.hand_out(size, block)
-        if known:
-            self.give_up(*known)
+        self.count("failed")
 
     def place(self, size):
         """Where the simulator places the block; where it has no place, it sweeps by itself."""
@@ -199,12 +255,23 @@ class Trace(Text):
         self.added += [f"malloc c1 {size}", f"setaddr c2 c31 {self.address(slot):#x}", "storecap c2 c1"]
         return slot, at
 
-    def give_up(self, slot, at):
+    def free(self, slot):
         self.added += [f"setaddr c2 c31 {self.address(slot):#x}", "loadcap c1 c2", "free c1"]
+
+    def give_up(self, block, slot, at):
+        self.free(slot)
         if self.options.clears:
             self.added += ["storecap c2 c0", "copy c1 c0"]
         self.heap.give_up(at)
-        self.free_slots.append(slot)
+
+    def give_up_again(self, block, slot=None, at=None):
+        if slot is None:
+            self.give_up_none(block)
+        else:
+            self.free(slot)
+
+    def give_up_none(self, block):
+        self.added += [f"setaddr c1 c0 {block:#x}", "free c1"]
 
 
 class Log(Text):
@@ -212,11 +279,12 @@ class Log(Text):
 
     every, longest = 1, 16_777_216
 
-    def __init__(self, words, options, slots, low):
-        super().__init__(words, options, slots)
+    def __init__(self, record, options, slots, again, low):
+        super().__init__(record, options, slots, again)
         table = block_of(GRANULE * self.slots)[0] * GRANULE
-        self.freed_by = [0] * (HEAP_BYTES // GRANULE)  # of each granule the call that last freed it
-        self.reused = None  # the first call that got freed bytes, and the call that freed them
+        # of each granule the calls that last handed it out, 0 where it isn't live, and that last freed it
+        self.live_by, self.freed_by = [0] * (HEAP_BYTES // GRANULE), [0] * (HEAP_BYTES // GRANULE)
+        self.first = None  # the first call that no safe allocator answers so, and what it does
         self.shift = low // STEP * STEP - (BASE + -(-table // STEP) * STEP)
         self.top = BASE + table
         self.added.append(f"malloc c31 {GRANULE * self.slots} -> block {BASE:#x} {self.top:#x}")
@@ -230,8 +298,11 @@ class Log(Text):
         return -(-(self.top - BASE) // PAGE)
 
     def fail(self, size):
-        self.failed += 1
+        self.count("failed")
         self.added.append(f"malloc c1 {size} -> nospace")
+
+    def tell_first(self, told):
+        self.first = self.first or (self.calls + 1, told)
 
     def bounds(self, size, block):
         """The bounds of a block, as granules; they have to be those of a capability, and lie in the heap."""
@@ -241,7 +312,7 @@ class Log(Text):
         if base % GRANULE:
             raise Full(f"{told} doesn't begin with a granule (--cheri asks for one that does)")
         if base < BASE or top > BASE + HEAP_BYTES:
-            raise NoPlace(f"{told} lies too far from the others for a heap of {HEAP_BYTES:,} bytes (--at-most leaves out large blocks)")
+            raise TooFar(self.calls + 1, size, block)
         if not is_exact(base, top):
             raise Full(f"{told} has bounds that no capability holds (--cheri asks for others, --at-most leaves out large blocks)")
         return base, top
@@ -249,65 +320,110 @@ class Log(Text):
     def granules(self, base, top):
         return slice((base - BASE) // GRANULE, (top - BASE) // GRANULE)
 
+    def mark(self, by, bounds, call):
+        granules = self.granules(*bounds)
+        by[granules] = [call] * (granules.stop - granules.start)
+
     def move(self, size, block, old):
-        known = self.blocks.get(old)
-        if block == old and known and size <= self.options.at_most:
+        """Where the block stays and its granules change, its old capability is given up before the new one is there."""
+        if block != old:
+            super().move(size, block, old)
+            return
+        known = self.blocks[old][-1] if old in self.blocks else None
+        if known and size <= self.options.at_most:
             if self.bounds(size, block) == known[1]:
                 return
-            self.in_place += 1
-            self.take_back(old)
-            self.hand_out(size, block)
-            return
-        self.blocks.pop(old, None)
+            self.count("in_place")
+        self.take_back(old)
         self.hand_out(size, block)
-        if known:
-            self.give_up(*known)
 
     def new(self, size, block):
-        base, top = self.bounds(size, block)
+        bounds = self.bounds(size, block)
         slot = self.slot()
-        self.top = max(self.top, top)
-        freed_by = max(self.freed_by[self.granules(base, top)])
-        if freed_by and not self.reused:
-            self.reused = self.calls + 1, freed_by
-        self.added += [f"malloc c1 {size} -> block {base:#x} {top:#x}", f"setaddr c2 c31 {self.address(slot):#x} -> ok", "storecap c2 c1 -> ok"]
-        return slot, (base, top)
+        self.top = max(self.top, bounds[1])
+        live_by, freed_by = (max(by[self.granules(*bounds)]) for by in (self.live_by, self.freed_by))
+        if live_by:
+            if block not in self.blocks:
+                self.count("doubled")
+            self.tell_first(f"get bytes of a live block, that of call {live_by:,}")
+        elif freed_by:
+            self.tell_first(f"get bytes that were freed, by call {freed_by:,}")
+        self.mark(self.live_by, bounds, self.calls + 1)
+        self.added += [f"malloc c1 {size} -> block {bounds[0]:#x} {bounds[1]:#x}", f"setaddr c2 c31 {self.address(slot):#x} -> ok", "storecap c2 c1 -> ok"]
+        return slot, bounds
 
-    def give_up(self, slot, bounds):
-        base, top = bounds
-        self.added += [f"setaddr c2 c31 {self.address(slot):#x} -> ok", "loadcap c1 c2 -> ok", f"free c1 -> held {top - base}"]
-        self.freed_by[self.granules(base, top)] = [self.calls + 1] * ((top - base) // GRANULE)
-        self.free_slots.append(slot)
+    def free(self, slot, bounds):
+        self.added += [f"setaddr c2 c31 {self.address(slot):#x} -> ok", "loadcap c1 c2 -> ok", f"free c1 -> held {bounds[1] - bounds[0]}"]
+
+    def give_up(self, block, slot, bounds):
+        self.free(slot, bounds)
+        self.mark(self.live_by, bounds, 0)
+        self.mark(self.freed_by, bounds, self.calls + 1)
+
+    def give_up_again(self, block, slot=None, bounds=None):
+        if slot is None:
+            self.give_up_none(block)
+            return
+        self.tell_first(f"free a block again, which call {max(self.freed_by[self.granules(*bounds)]):,} freed")
+        self.free(slot, bounds)
+
+    def give_up_none(self, block):
+        """The allocator took it without a word: no bytes of the heap wait, and the pointer is one to no block."""
+        self.tell_first("free what is no block")
+        self.added += [f"setaddr c1 c0 {(block - self.shift) % (1 << 64):#x} -> ok", "free c1 -> held 0"]
 
 
-def measured(record, options):
-    """How many pointers are kept at once in what a text can have of the record, and the lowest address of its blocks. A block
-    takes three commands and 50 bytes, and in a log the blocks of a text lie near one another."""
+def measured(record, options, again):
+    """How many pointers are kept at once in what a text can have of the record, at most, and the lowest address of its blocks. A
+    block takes three commands and 50 bytes, and in a log the blocks of a text lie near one another."""
     most = min((Log if options.is_log else Trace).longest // 50, options.commands // 3 + 1)
-    live, count, slots, low, high = set(), 0, 0, 1 << 64, 0
-    for kind, size, block, old in record:
-        if old:
-            live.discard(old)
+    live, kept, count, slots, low, high = {}, 0, 0, 0, 1 << 64, 0
+    for call, (kind, size, block, old) in enumerate(record):
+        if live.get(old) and (block or not size):
+            live[old] -= 1
+            kept -= call not in again
         if not block or size > options.at_most:
             continue
         if options.is_log and max(high, block + size) - min(low, block) > HEAP_BYTES:
             break
-        live.add(block)
-        low, high, count, slots = min(low, block), max(high, block + size), count + 1, max(slots, len(live) + 1)
+        live[block] = live.get(block, 0) + 1
+        kept += 1
+        low, high, count, slots = min(low, block), max(high, block + size), count + 1, max(slots, kept + 1)
         if count > most:
             break
     return min(slots, MOST_SLOTS), low if count else 0
 
 
+def told_of_far(record, options, far):
+    """Which of the blocks that have no place in one heap lies apart: the first that isn't where most of the run's blocks are."""
+    handed = [(call, size, block) for call, (kind, size, block, old) in enumerate(record, 1) if block and size <= options.at_most]
+    places = sorted(block for call, size, block in handed)
+    start, most, low = 0, 0, 0
+    for end, place in enumerate(places):
+        while place - places[start] > HEAP_BYTES:
+            start += 1
+        if end - start >= most:
+            most, low = end - start + 1, places[start]
+    call, size, block = next((it for it in handed if not low <= it[2] <= low + HEAP_BYTES), far.args)
+    if call > far.args[0]:
+        call, size, block = far.args
+    more = f"--at-most {size - 1} leaves it out" if size >= LARGE else "docs/REAL_PROGRAMS.md has what brings blocks together"
+    return f"the block of {counted(size, 'byte')} at {block:#x}, of call {call:,}, lies too far from the others for a heap of {HEAP_BYTES:,} bytes ({more})"
+
+
 def text_of(record, options):
     """The text of a record: its table has as many slots as the text needs."""
-    slots, low = measured(record, options)
+    again = freed_again(record)
+    slots, low = measured(record, options, again)
     before = None
     while True:
-        text = Log(record.words, options, slots, low) if options.is_log else Trace(record.words, options, slots)
+        text = Log(record, options, slots, again, low) if options.is_log else Trace(record, options, slots, again)
         text.add_all(record)
         if before and before.calls == text.calls:  # what ended it is no want of slots
             text.ended = before.ended
         if text.slots <= max(1, text.most_slots) or isinstance(text.ended, NoPlace):
-            return text
+            break
         before, slots = text, text.most_slots
+    if isinstance(text.ended, TooFar):
+        text.ended = NoPlace(told_of_far(record, options, text.ended))
+    return text

@@ -48,6 +48,7 @@ tags taken           5
 swept over           12,288 bytes: pages with a tag, and at an end dirty ones
 reuse distance       5 to 5 commands from a free to the next use of its bytes, median 5, of 1 block
 """
+USAGE = "usage: heap_curve [--workers N] [--cut N] [--table]\n"
 
 
 def draws(tests, trace, title, what):
@@ -71,6 +72,8 @@ def worked(tests):
     curve = draws(tests, WORKED, 'Worked <out> & "by hand"', "the trace worked out by hand")
     told = re.findall(r"<g><title>(.*?)</title>", curve)
     tests.expect(sorted(told) == ["line 14: begin of an epoch, 1 tag taken", "line 16: end of an epoch, 2 tags taken", "line 7: sweep, 2 tags taken"], f"the marks are {told}")
+    lines = re.findall(r'<path class="(?:live|held|tags)[^>]* d="([^"]*)"', curve)
+    tests.expect(len(lines) == 5 and all(re.fullmatch(r"M[\d.]+ [\d.]+([hv]-?[\d.]+)+(V\d+H\d+z)?", it) for it in lines), f"a state holds up to the next command: {lines}")
     both = tests.shell("$ROOT/heap_curve --workers 2 --cut 1 < trace")
     tests.expect(both.stdout == curve, "another cutting makes another curve")
 
@@ -105,24 +108,41 @@ def many(tests):
 
 def refusals(tests):
     for given, words, status, answer in (
-            ("heap 0 1\nmalloc c1\n", "", 3, "fault bad-count 2\n"), ("", "", 3, "fault no-heap 1\n"), ("", "--more", 2, "usage: heap_states [--workers N] [--cut N]\n"),
+            ("heap 0 1\nmalloc c1\n", "", 3, "fault bad-count 2\n"), ("", "", 3, "fault no-heap 1\n"), ("", "--more", 2, USAGE), ("", "--help", 2, USAGE),
             ("#" * 4_194_305, "--table", 3, "fault too-long\n")):
         (tests.scratch / "trace").write_text(given, encoding="ascii")
         ran = tests.shell(f"$ROOT/heap_curve {words} < trace")
         tests.expect((ran.returncode, ran.stdout) == (status, answer), f"a curve of {given[:40]!r} with {words}: {ran}")
     (tests.scratch / "trace").write_text("heap 0 1\n", encoding="ascii")
-    for commands, said in (("< trace > /dev/full", "standard output can't be written: No space left on device"), ("<&-", "standard input is closed, and can't be read")):
+    for commands, said in (("< trace > /dev/full", "standard output can't be written: No space left on device"), ("<&-", "standard input is closed, and can't be read"), ("< .", "standard input is a folder, and can't be read")):
         ran = tests.shell(f"$ROOT/heap_curve {commands}")
         tests.expect(ran.returncode == 4 and f"heap_curve: {said}" in ran.stderr, f"a curve with {commands}: {ran}")
+    tests.expect(tests.shell("$ROOT/heap_curve < trace > /dev/full 2> /dev/full").returncode == 4, "a curve and its fault that can't be written have another status")
+    for words in ("--help", "--workers 0"):
+        ran = tests.shell(f"$ROOT/heap_page {words} < trace")
+        tests.expect((ran.returncode, ran.stdout) == (2, "usage: heap_page [--language NAME] [--playground-at PLACE] [--workers N] [--cut N] or heap_page [--language NAME] --playground\n"), f"heap_page {words}: {ran}")
 
 
-# The texts of a picture that lie over another, or not within it.
+def sweeps(count, passes):
+    """So many passes that take from 1 to 12 tags, by commands of passes."""
+    lines = ["heap 0x40000000 2", "malloc c1 4096"]
+    for i in range(count):
+        lines.append("malloc c2 64")
+        lines += [line for k in range((i * 7919) % 11 + 1) for line in (f"setaddr c3 c1 {0x40000000 + 16 * k:#x}", "storecap c3 c2")]
+        lines += ["free c2", passes[0], *passes[1:]]
+    return "\n".join(lines) + "\n"
+
+
+# The texts of a picture that lie over another, or not within it, or the numbers that a stem or a mark strikes through.
 UNREADABLE = """(() => {
     const texts = [...document.querySelectorAll("text")].map(it => [it.textContent, it.getBoundingClientRect()]);
     const whole = document.documentElement.getBoundingClientRect();
     const outside = texts.filter(([, it]) => it.left < whole.left || it.right > whole.right || it.top < whole.top || it.bottom > whole.bottom);
     const over = texts.filter(([, a], i) => texts.some(([, b], k) => k < i && a.left < b.right && b.left < a.right && a.top + 3 < b.bottom && b.top + 3 < a.bottom));
-    return [...outside, ...over].map(([text]) => text);
+    const marks = [...document.querySelectorAll(".stem, g > .sweep, g > .begin, g > .end")].map(it => it.getBoundingClientRect());
+    const numbers = [...document.querySelectorAll("text.small")].map(it => [it.textContent, it.getBoundingClientRect()]);
+    const struck = numbers.filter(([, a]) => marks.some(b => a.left + 1 < b.right && b.left + 1 < a.right && a.top + 3 < b.bottom && b.top < a.bottom - 4));
+    return [...outside, ...over, ...struck].map(([text]) => text);
 })()"""
 
 
@@ -145,6 +165,7 @@ def in_a_browser(tests):
         print("skipped: curves in a browser: no chromium")
         return
     traces = {
+        "sweeps": sweeps(700, ["sweep"]), "epochs": sweeps(60, ["begin", "end"]), "part": sweeps(9, ["sweep"]) + "# Part: " + "the first of many " * 20 + "\n",
         "worked": WORKED, "empty": "heap 0 1\n", "one": "# " + "long " * 60 + "\nheap 0 1024\nmalloc c1 16\n",
         "full": "heap 0 1024\nmalloc c1 4194304\nfree c1\nsweep\n", "many": "heap 0 16\n" + "malloc c1 64\nstorecap c1 c1\nfree c1\nbegin\nend\nmalloc c2 32\nfree c2\nsweep\n" * 3000}
     for name, trace in traces.items():
@@ -157,6 +178,11 @@ def in_a_browser(tests):
             unreadable = browser.run(UNREADABLE)
             tests.expect(browser.run("document.querySelectorAll('text').length") > 8 and unreadable == [], f"{path.name}: these texts can't be read: {unreadable}")
             tests.expect(browser.noise() == [], f"{path.name}: the browser tells of {browser.noise()}")
+        (tests.scratch / "trace").write_text(traces["part"], encoding="ascii")
+        tests.shell("$ROOT/heap_page < trace > page.html")
+        shown(browser, tests.scratch / "page.html")
+        told = browser.run("[document.querySelector('#subtitle').textContent, document.querySelector('#lines .end .note').textContent]")
+        tests.expect(all(it.endswith(traces["part"].split("\n")[-2][2:].strip()) for it in told), f"the page of a trace that has a part says {told}")
     finally:
         browser.close()
 

@@ -160,6 +160,36 @@ static void forks_beside(void) {
     pthread_join(beside, 0);
 }
 
+/* The block is freed again after others took slots of their own. */
+static void frees_twice(void) {
+    void *volatile block = keep(malloc(40));
+    keep(malloc(24));
+    free(block);
+    keep(malloc(16));
+    free(block);
+    keep(malloc(32));
+}
+
+/* The C library finds this one, and ends the program. */
+static void frees_at_once(void) {
+    void *volatile block = keep(malloc(40));
+    free(block);
+    free(block);
+}
+
+static void frees_none(void) {
+    char local[16], *block = keep(malloc(40));
+    void *volatile none[] = {block + 16, local};
+    free(none[0]);
+    free(none[1]);
+    free(block);
+}
+
+static void far_first(void) {
+    keep(malloc(524288));
+    for (int i = 0; i < 20; i++) keep(malloc(8));
+}
+
 static void blocks(int count, size_t size) {
     for (int i = 0; i < count; i++) keep(malloc(size));
 }
@@ -187,6 +217,10 @@ int main(int count, char **words) {
     if (!strcmp(name, "becomes")) becomes();
     if (!strcmp(name, "threads")) threads();
     if (!strcmp(name, "forks_beside")) forks_beside();
+    if (!strcmp(name, "frees_twice")) frees_twice();
+    if (!strcmp(name, "frees_at_once")) frees_at_once();
+    if (!strcmp(name, "frees_none")) frees_none();
+    if (!strcmp(name, "far_first")) far_first();
     if (!strcmp(name, "blocks")) blocks(number, size);
     if (!strcmp(name, "turns")) turns(number, size);
     if (!strcmp(name, "says")) says();
