@@ -4,7 +4,7 @@
 export function addAddress(viewer) {
   const { run, view, byId } = viewer;
 
-  let addressDue = null;
+  let addressDue = null, opened = location.hash; // the address that was opened or written last
 
   function addressShown() {
     const pick = view.follow || !view.chosen ? null : run.namesOfPlaces[view.chosen.kind];
@@ -23,15 +23,18 @@ export function addAddress(viewer) {
   function writeAddress() {
     if (viewer.signal.aborted) return;
     const shown = addressShown();
-    if (location.hash === shown || !location.hash && shown === '#step=0') return;
+    if (location.hash !== opened) return; // one that was just given, and is opened next
+    if (opened === shown || !opened && shown === '#step=0') return;
     try {
       history.replaceState(null, '', shown);
+      opened = location.hash;
     } catch { /* inside of another page there may be no address to keep */ }
   }
 
   // What is no step, side, place or row of this page is passed over.
   function openAddress() {
-    const told = new URLSearchParams(location.hash.slice(1)), step = told.get('step') || '', row = told.get('row');
+    opened = location.hash;
+    const told = new URLSearchParams(opened.slice(1)), step = told.get('step') || '', row = told.get('row');
     const pick = pickOf(told.get('pick') || ''), other = told.get('with') || '', old = view.columns;
     if (told.has('embed') !== view.embed) viewer.embed();
     if ([...byId('columns').options].some(option => option.value === row)) view.columns = Number(row);

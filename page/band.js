@@ -1,6 +1,7 @@
 // The band above the slider: after each step the bytes that are live, held and free, and the tags; with ticks for passes and traps.
 
-import { element, grouped, plural, shape } from './dom.js';
+import { element, shape } from './dom.js';
+import { grouped, inTags, said } from './say.js';
 
 const BAND_HEIGHT = 34, THUMB = 12; // the slider's thumb (style.css), whose middle is the place of the step
 
@@ -19,10 +20,13 @@ export function bandShape(width, sums, room, ticks) {
   const y = part => Math.round((1 - part) * (BAND_HEIGHT - 8) * 10) / 10 + 4;
   const line = heightOf => steps.map(step => `H${x(step)}V${y(heightOf(step))}`).join('');
   const area = heightOf => `M${THUMB / 2} ${y(0)}${line(heightOf)}V${y(0)}Z`;
+  const held = area(step => (sums.live[step] + sums.held[step]) / room);
   const marks = (places, from, to) => [...new Set(places.map(x))].map(place => `M${Math.round(place)} ${from}V${to}`).join('');
   return shape('svg', { viewBox: `0 0 ${width + THUMB} ${BAND_HEIGHT}`, preserveAspectRatio: 'none', 'aria-hidden': 'true' },
     shape('rect', { class: 'band-free', x: THUMB / 2, y: y(1), width, height: y(0) - y(1) }),
-    shape('path', { class: 'band-held', d: area(step => (sums.live[step] + sums.held[step]) / room) }),
+    shape('pattern', { id: 'band-held-pattern', width: 5, height: 5, patternUnits: 'userSpaceOnUse' }, shape('path', { class: 'band-lines', d: 'M0 5L5 0' })),
+    shape('path', { class: 'band-held', d: held }),
+    shape('path', { fill: 'url(#band-held-pattern)', d: held }),
     shape('path', { class: 'band-live', d: area(step => sums.live[step] / room) }),
     shape('path', { class: 'band-tags', d: `M${THUMB / 2} ${y(0)}` + line(step => sums.tags[step] / most) }),
     shape('path', { class: 'band-passes', d: marks(ticks.passes, 0, BAND_HEIGHT) }),
@@ -46,11 +50,11 @@ export function addBand(viewer) {
       const bytes = 16 * (block.end - block.start);
       if (block.state === 'live') live += bytes; else held += bytes;
     }
-    const tags = [state.registers, state.granules].reduce((sum, cells) => sum + cells.filter(cell => cell.tag).length, 0);
+    const tags = state.tagged.register.size + state.tagged.granule.size;
     const told = (name, text) => element('span', {}, element('i', { class: 'swatch band-' + name }), text);
-    byId('sums').replaceChildren(told('live', grouped(live) + ' live'), told('held', grouped(held) + ' held'),
-      told('free', plural(4096 * run.pages - live - held, 'byte') + ' free'), told('tags', plural(tags, 'tag')),
-      told('passes', 'pass'), told('traps', 'trap'));
+    byId('sums').replaceChildren(told('live', said('{0} live', grouped(live))), told('held', said('{0} held', grouped(held))),
+      told('free', said('{0} bytes free', grouped(4096 * run.pages - live - held))), told('tags', inTags(tags)),
+      told('passes', said('pass')), told('traps', said('trap')));
   }
 
   Object.assign(viewer, { drawBand, drawSums });

@@ -1,11 +1,12 @@
 // The table of blocks, which has rows while it is open, and on paper.
 
-import { code, element, grouped, hex } from './dom.js';
+import { code, element, hex } from './dom.js';
 import { nameOf, stateName } from './cursor.js';
 import { Pieces } from './pieces.js';
+import { grouped } from './say.js';
 
 export function addBlocks(viewer) {
-  const { run, byId, cursor: state } = viewer;
+  const { byId, cursor: state } = viewer;
 
   let blockTable = null;
 
@@ -14,17 +15,7 @@ export function addBlocks(viewer) {
     return element('tr', {}, contents.map(content => element('td', {}, content)));
   }
 
-  // The blocks by rising base: each granule knows its own.
-  function sortedBlocks() {
-    const blocks = [];
-    for (let place = 0; place < run.granules; place++) {
-      const block = state.owners[place];
-      if (!block) continue;
-      blocks.push(block);
-      place = block.end - 1;
-    }
-    return blocks;
-  }
+  const sortedBlocks = () => [...state.blocks.values()].sort((one, other) => one.start - other.start);
 
   function drawBlocks(isAsked = false) {
     if (!isAsked && !(byId('block-details').open && state.touched.blocks.size)) return;

@@ -1,5 +1,7 @@
 // A capability word: fields, mantissas, window and bounds, on plain integers, as docs/DEFINITIONS.md says them.
 
+import { said } from './say.js';
+
 /** @param {number} exponent */
 export const power = exponent => 1n << BigInt(exponent);
 /** @param {bigint} number @param {bigint} by */
@@ -35,6 +37,25 @@ export function decode(bits, address = bits % SPACE) {
   const base = modulo(place(baseMantissa), SPACE), top = modulo(place(topMantissa), power(65));
   const isFar = exponent < 51 && modulo(top / power(63) - base / power(63), 4n) > 1n;
   return { address, ...fields, exponent, carry, baseMantissa, topMantissa, size, low, base, top: isFar ? top ^ SPACE : top };
+}
+
+// Permissions by letters, as CHERI's tools print them: capital ones are for capabilities. g is for GLOBAL.
+const LETTERS = { 2: 'r', 3: 'w', 4: 'R', 5: 'W', 0: 'g' };
+/** @param {bigint} permissions */
+export const lettersOf = permissions => [2, 3, 4, 5, 0].filter(bit => permissions >> BigInt(bit) & 1n).map(bit => LETTERS[bit]).join('') || said('none');
+/** @param {bigint} permissions */
+export const namesOfPermissions = permissions => [2, 3, 4, 5, 0].filter(bit => permissions >> BigInt(bit) & 1n).map(bit => PERMISSIONS[bit]).join(', ') || said('no permission');
+
+// How long a block of so many bytes is, and of what its base is a multiple: whole granules, and from 4,096 bytes on what a word can hold.
+/** @param {bigint} bytes */
+export function blockOf(bytes) {
+  let unit = 16n, length = bytes || 1n;
+  for (;;) {
+    length = (length + unit - 1n) / unit * unit;
+    const exponent = length < 4096n ? 0 : length.toString(2).length - 13, needed = power(exponent + 3);
+    if (needed <= unit) return { length, unit };
+    unit = needed;
+  }
 }
 
 // What the program's line tells of a word, by the names of `decode`; null for what is no such line.

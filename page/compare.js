@@ -1,7 +1,8 @@
 // What differs between the step that is shown and another one: each register, granule and block, as it is after both.
 
 import { bornAs, rangeOf, stateName } from './cursor.js';
-import { element, hex, plural } from './dom.js';
+import { element, hex } from './dom.js';
+import { said, saidCount } from './say.js';
 
 export function addComparison(viewer) {
   const { run, view, byId } = viewer;
@@ -29,25 +30,26 @@ export function addComparison(viewer) {
 
   // What a register, a granule or a block is, in a few words.
   function inWords(kind, thing) {
-    if (kind === 'block') return thing.state === null ? 'free' : `${stateName(thing.state)}, of ${bornAs(thing.born)}`;
-    if (thing.isNull) return 'null';
+    if (kind === 'block') return thing.state === null ? said('free') : said('{0}, of {1}', stateName(thing.state), bornAs(thing.born));
+    if (thing.isNull) return said('null');
     const { address, base, top } = thing.meaning;
-    if (kind === 'granule' && !thing.tag) return `no tag, bytes ${thing.word.match(/.{1,8}/g).join(' ')}`;
-    return `${thing.tag ? 'tagged' : 'no tag'}, ${hex(address)} in ${hex(base)} to ${hex(top)}`;
+    if (kind === 'granule' && !thing.tag) return said('no tag, bytes {0}', thing.word.match(/.{1,8}/g).join(' '));
+    const where = [address, base, top].map(hex);
+    return thing.tag ? said('tagged, {0} in {1} to {2}', ...where) : said('no tag, {0} in {1} to {2}', ...where);
   }
 
-  const differenceRow = ({ kind, name, was, now }) => element('tr', {}, element('th', { scope: 'row' }, kind === 'block' ? `block ${name}` : name),
+  const differenceRow = ({ kind, name, was, now }) => element('tr', {}, element('th', { scope: 'row' }, kind === 'block' ? said('block {0}', name) : name),
     [was, now].map(thing => element('td', {}, inWords(kind, thing))));
 
   // In words why there is nothing to compare with, or else the differences, the earlier step first.
   function comparison() {
     const { line } = run.steps[view.step];
-    if (viewer.comparedWith === null) return ['Type a line to see what differs between it and this one.'];
-    if (viewer.isHidden(viewer.comparedWith)) return ['What comes later is hidden while you are asked first.'];
+    if (viewer.comparedWith === null) return [said('Type a line to see what differs between it and this one.')];
+    if (viewer.isHidden(viewer.comparedWith)) return [said('What comes later is hidden while you are asked first.')];
     const [from, to] = [viewer.comparedWith, view.step].sort((one, other) => one - other), rows = differencesOf(from, to);
-    if (!rows.length) return [`Nothing differs between line ${run.steps[viewer.comparedWith].line} and line ${line}.`];
-    const heads = ['', `After line ${run.steps[from].line}`, `After line ${run.steps[to].line}`], more = rows.length - viewer.TOLD_TAGS;
-    return [element('table', {}, element('caption', {}, more > 0 ? `and ${plural(more, 'difference')} more` : ''),
+    if (!rows.length) return [said('Nothing differs between line {0} and line {1}.', run.steps[viewer.comparedWith].line, line)];
+    const heads = ['', ...[from, to].map(index => said('After line {0}', run.steps[index].line))], more = rows.length - viewer.TOLD_TAGS;
+    return [element('table', {}, element('caption', {}, more > 0 ? saidCount('and {0} difference more | and {0} differences more', more) : ''),
       element('thead', {}, element('tr', {}, heads.map(text => element('th', { scope: 'col' }, text)))),
       element('tbody', {}, rows.slice(0, viewer.TOLD_TAGS).map(differenceRow)))];
   }

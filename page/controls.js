@@ -1,5 +1,6 @@
 // What the reader's hands do: the map, the buttons, and the size of the window.
 
+import { pageOf } from './cursor.js';
 import { clamp } from './dom.js';
 
 export function addControls(viewer) {
@@ -7,10 +8,10 @@ export function addControls(viewer) {
 
   function keyOnMap(event) {
     if (event.ctrlKey || event.metaKey || event.altKey) return;
-    const place = view.cursor ?? 0, n = viewer.map.shape.columns;
+    const L = viewer.map.shape, place = view.cursor ?? 0, n = L.columns;
     const to = { ArrowLeft: place - 1, ArrowRight: place + 1, ArrowUp: place - n, ArrowDown: place + n,
       Home: place - place % n, End: place - place % n + n - 1 }[event.key];
-    if (to !== undefined) view.cursor = clamp(to, 0, viewer.map.shape.shown - 1);
+    if (to !== undefined) view.cursor = overGap(L, clamp(to, 0, L.shown - 1), Math.sign(to - place));
     else if (event.key === 'Escape') view.cursor = null;
     else if (event.key !== 'Enter') return;
     event.preventDefault();
@@ -19,17 +20,22 @@ export function addControls(viewer) {
       view.chosen = null;
       return viewer.draw(false);
     }
-    viewer.bringPlaceIntoView(viewer.map.shape, view.cursor);
+    viewer.bringPlaceIntoView(L, view.cursor);
     byId('detail').setAttribute('aria-live', 'polite'); // only the part in use speaks
     viewer.placeCursor();
   }
 
+  // From a page that is left out on to the next one that isn't.
+  function overGap(L, place, by) {
+    const gap = L.gapOf[pageOf(place)];
+    return gap ? place + by * (gap.end - gap.first) * 256 : place;
+  }
+
   function placeUnder(event) {
-    const L = viewer.map.shape, frame = byId('map').getBoundingClientRect();
+    const L = viewer.map.shape, frame = byId('map').getBoundingClientRect(), y = event.clientY - frame.top + byId('map').scrollTop - viewer.map.top;
     const column = Math.floor((event.clientX - frame.left + byId('map').scrollLeft - L.gutter) / L.width);
-    const row = Math.floor((event.clientY - frame.top + byId('map').scrollTop - viewer.map.top) / L.height);
-    const place = row * L.columns + column;
-    return column >= 0 && column < L.columns && row >= 0 && place < L.shown ? place : null;
+    const part = L.parts.find(({ top, bottom }) => top <= y && y < bottom);
+    return part && column >= 0 && column < L.columns ? part.first + Math.floor((y - part.top) / L.height) * L.columns + column : null;
   }
 
   // The size of a cell; 0 fits the row into the width.
@@ -40,7 +46,7 @@ export function addControls(viewer) {
   }
 
   function showAll() { // by the row at which the cells come out largest
-    const room = view.mapWidth - viewer.map.shape.gutter - viewer.edgeOfMap(1);
+    const room = view.mapWidth - viewer.map.shape.gutter - viewer.edgeOfMap(viewer.map.shape.letter);
     const sizes = [16, 32, 64, 128, 256].map(n => [Math.min(room / n, innerHeight * .55 * n / run.granules), n]);
     const [cell, columns] = sizes.reduce((best, size) => (size[0] > best[0] ? size : best));
     view.whole = true;
@@ -94,7 +100,7 @@ export function addControls(viewer) {
     listenToMap();
     viewer.listenToWindow();
     const others = [viewer.listenToFind, viewer.listenToBlocks, viewer.listenToComparison, viewer.listenToPaper, viewer.listenToHandout,
-      viewer.listenToSave, viewer.listenToEdit, viewer.listenToWhole];
+      viewer.listenToSave, viewer.listenToPictures, viewer.listenToEdit, viewer.listenToWhole];
     for (const listenTo of others) listenTo();
     for (const onKey of [viewer.keyOnPage, viewer.keyOfFind, viewer.keyOfHistory]) document.addEventListener('keydown', onKey, { signal });
     byId('map').addEventListener('scroll', viewer.keepPart, { signal });
@@ -111,13 +117,21 @@ export function addControls(viewer) {
     viewer.list.refill();
   }
 
+  // How broad a letter of the map is, beside its height, in the font that the browser has.
+  function broadOfLetter() {
+    const pen = document.createElement('canvas').getContext('2d');
+    pen.font = `bold 100px ${getComputedStyle(document.documentElement).getPropertyValue('--mono')}`;
+    return pen.measureText('held').width / 400;
+  }
+
   function measure() {
     const own = (name, pixels) => document.documentElement.style.setProperty(name, `${pixels}px`);
-    view.letter = view.embed ? 13 : Math.max(20, Math.floor(20 * Math.min(innerWidth / 1280, innerHeight / 720)));
+    view.letter = view.embed ? 13 : innerWidth <= 760 ? 15 : Math.max(20, Math.floor(20 * Math.min(innerWidth / 1280, innerHeight / 720)));
     own('--letter', view.letter);
     own('--head', viewer.root.querySelector('header').offsetHeight);
+    view.broad = broadOfLetter();
     view.mapWidth = byId('map').clientWidth;
-    view.mapHeight = byId('map').clientHeight;
+    view.mapHeight = Math.max(byId('map').clientHeight, parseFloat(getComputedStyle(byId('map')).maxHeight) || 0); // it may be lower than it might
     view.windowWidth = Math.max(byId('window').clientWidth, 320);
   }
 

@@ -1,7 +1,8 @@
 // The one state that moves along a run, forward and backward.
 
 import { decode, bitsOf, NULL_WORD } from './codec.js';
-import { hex, plural } from './dom.js';
+import { hex } from './dom.js';
+import { inBytes, said } from './say.js';
 
 /**
  * A block of the heap. Its bytes go from `base` up to `top`, its granules from `start` up to `end`; while it is there it has a state,
@@ -39,11 +40,11 @@ export const NULL_CELL = new Cell({ tag: false, word: NULL_WORD });
 export const STATES = ['live', 'waiting', 'painted'];
 
 export const pageOf = granule => Math.floor(granule / 256);
-export const rangeOf = block => `${hex(block.base)} to ${hex(block.top)}`;
+export const rangeOf = block => said('{0} to {1}', hex(block.base), hex(block.top));
 // A block by the malloc that it came from, as it was asked for.
-export const bornAs = ({ line, size }) => `line ${line} (${plural(size, 'byte')})`;
+export const bornAs = ({ line, size }) => said('line {0} ({1})', line, inBytes(size));
 export const nameOf = block => bornAs(block.born);
-export const stateName = name => (name === 'waiting' ? 'held' : name); // what waits in quarantine is held
+export const stateName = name => ({ live: said('live'), waiting: said('held'), painted: said('painted') })[name]; // what waits in quarantine is held
 
 // The block that is the reason why a tag was taken: the one that was due and has the word's base.
 export function reasonOf(taken, row) {
@@ -67,7 +68,11 @@ export class Cursor {
     this.registers = Array(32).fill(NULL_CELL);
     /** @type {Cell[]} */
     this.granules = Array(run.granules).fill(NULL_CELL);
-    /** @type {(Block | null)[]} of each granule the block that has it */
+    /** @type {Record<Kind, Set<number>>} the places whose words are tagged */
+    this.tagged = { register: new Set(), granule: new Set() };
+    /** @type {(Block | null)[]} of each page the block that has all of it; of each granule the block that has it and not its page */
+    this.pageOwners = Array(run.pages).fill(null);
+    /** @type {(Block | null)[]} */
     this.owners = Array(run.granules).fill(null);
     /** @type {Map<string, Block>} */
     this.blocks = new Map();
@@ -78,9 +83,12 @@ export class Cursor {
     this.between = null; // while the state is that within a malloc: what its pass took, and what its blocks were before
   }
 
+  /** @param {number} place */
+  ownerAt(place) { return this.pageOwners[pageOf(place)] ?? this.owners[place]; }
+
   /** @param {bigint} address */
   ownerOf(address) {
-    return this.run.isInHeap(address) ? this.owners[Math.floor(this.run.granulesTo(address))] : null;
+    return this.run.isInHeap(address) ? this.ownerAt(Math.floor(this.run.granulesTo(address))) : null;
   }
 
   /** @param {Kind} kind @param {number} place @returns {Row} */
@@ -90,9 +98,8 @@ export class Cursor {
 
   // The words that are tagged, registers first.
   taggedRows() {
-    const places = kind => [...this[kind + 's'].keys()].filter(place => this[kind + 's'][place].tag);
     const kinds = /** @type {Kind[]} */ (['register', 'granule']);
-    return kinds.flatMap(kind => places(kind).map(place => this.rowAt(kind, place)));
+    return kinds.flatMap(kind => [...this.tagged[kind]].sort((one, other) => one - other).map(place => this.rowAt(kind, place)));
   }
 
   // The pages at which the end of an epoch looks: those that are dirty then.
@@ -102,6 +109,7 @@ export class Cursor {
 
   setCell({ kind, place }, cell) {
     this[kind + 's'][place] = cell;
+    this.tagged[kind][cell.tag ? 'add' : 'delete'](place);
     this.touched[kind + 's'].add(place);
   }
 
@@ -110,8 +118,17 @@ export class Cursor {
     block.state = now;
     block.born = born;
     if (now === null) this.blocks.delete(block.key); else this.blocks.set(block.key, block);
-    this.owners.fill(now === null ? null : block, block.start, block.end);
+    this.own(now === null ? null : block, block);
     this.touched.blocks.add(block);
+  }
+
+  // By whole pages where it can, so that a long block costs no more than the pages that it has.
+  /** @param {Block | null} owner @param {Block} block */
+  own(owner, { start, end }) {
+    const first = Math.ceil(start / 256), last = Math.max(Math.floor(end / 256), first);
+    this.owners.fill(owner, start, Math.min(first * 256, end));
+    this.pageOwners.fill(owner, first, last);
+    this.owners.fill(owner, Math.max(last * 256, start), end);
   }
 
   // Of a malloc that swept, the state between: the pass has taken its tags and set its blocks free, and no more has changed.

@@ -38,7 +38,7 @@ export function addDenseMap(viewer) {
     const areas = { live: '', waiting: '', painted: '' }, marks = { tag: '', lost: '', data: '' };
     const end = Math.min(strip * STRIP + STRIP, L.shown), inset = L.width < viewer.SMALL ? .5 : 1.5;
     for (let place = strip * STRIP; place < end; place++) {
-      const block = state.owners[place], cell = state.granules[place];
+      const block = state.ownerAt(place), cell = state.granules[place];
       if (block && block.start === place) areas[block.state] += viewer.areaOf(L, block.start, block.end, inset);
       const isLost = !cell.tag && viewer.map.lost.has(place);
       if (!cell.isNull || isLost) marks[cell.tag ? 'tag' : isLost ? 'lost' : 'data'] += outlineOfMark(L, place, cell.tag, isLost);

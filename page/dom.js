@@ -19,5 +19,3 @@ export const code = text => element('code', {}, String(text));
 export const clamp = (number, least, greatest) => Math.min(Math.max(number, least), greatest);
 export const hex = number => (number < 0n ? '−0x' + (-number).toString(16) : '0x' + number.toString(16));
 export const digits = (number, count) => number.toString(16).padStart(count, '0');
-export const plural = (count, word) => grouped(count) + ' ' + word + (Number(count) === 1 ? '' : 's');
-export const grouped = number => String(number).replace(/\B(?=(\d{3})+$)/g, ',');

@@ -1,7 +1,7 @@
 // To a line; and the steps that the list has: by what came of them, and by a register, an address or a text.
 
-import { plural } from './dom.js';
 import { WHOLE } from './pieces.js';
+import { said, saidCount } from './say.js';
 
 export function addFind(viewer) {
   const { run, view, byId, isTyped } = viewer;
@@ -43,7 +43,7 @@ export function addFind(viewer) {
     const isOfKind = KINDS[byId('kind').value], isAsked = isAbout(byId('asked').value);
     const found = [...run.steps.keys()].filter(index => isOfKind(toldOf(index)) && isAsked(toldOf(index)));
     const isWhole = found.length === run.steps.length;
-    byId('listed').textContent = isWhole ? '' : found.length ? plural(found.length, 'step') : 'no such step';
+    byId('listed').textContent = isWhole ? '' : found.length ? saidCount('{0} step | {0} steps', found.length) : said('no such step');
     for (const name of ['listed-back', 'listed-next']) byId(name).disabled = isWhole || !found.length;
     viewer.currentRow = null;
     viewer.list.show(found);

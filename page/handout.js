@@ -1,6 +1,7 @@
 // A handout: steps that are asked for, each with its notes, its sentence, its map and the registers, to be printed.
 
 import { element } from './dom.js';
+import { said } from './say.js';
 
 export function addHandout(viewer) {
   const { run, view, byId } = viewer;
@@ -24,7 +25,7 @@ export function addHandout(viewer) {
     viewer.go(index);
     const step = run.steps[index], registers = copyOf(byId('rows').parentNode);
     registers.tBodies[0].className = 'rows';
-    return element('article', {}, element('h2', {}, `Line ${step.line}`), ...viewer.notesOf(step.notes), ...[...byId('what').children].map(copyOf),
+    return element('article', {}, element('h2', {}, said('Line {0}', step.line)), ...viewer.notesOf(step.notes), ...[...byId('what').children].map(copyOf),
       element('div', { class: 'map' }, ...viewer.map.sheets.map(copyOf)), ...(step.taken ? [copyOf(byId('taken'))] : []), registers);
   }
 

@@ -1,7 +1,8 @@
 // Of the register or the granule that is chosen, and of the block that has the granule or the register's base: which step wrote it,
 // and the steps that changed it before and after.
 
-import { code, element, grouped } from './dom.js';
+import { code, element } from './dom.js';
+import { grouped, said, say } from './say.js';
 
 export function addHistory(viewer) {
   const { run, view, byId, isTyped, cursor: state } = viewer;
@@ -16,11 +17,11 @@ export function addHistory(viewer) {
     const { kind, place } = view.chosen, { base } = viewer.chosenWord().meaning;
     const granule = kind === 'granule' ? place : run.isInHeap(base) && !viewer.chosenWord().isNull ? Math.floor(run.granulesTo(base)) : null;
     return [{ kind, place, name: viewer.chosenCell().name },
-      ...(granule === null ? [] : [{ kind: 'block', place: granule, name: kind === 'granule' ? 'its block' : 'the block of its base' }])];
+      ...(granule === null ? [] : [{ kind: 'block', place: granule, name: kind === 'granule' ? said('its block') : said('the block of its base') }])];
   }
 
   // For keys: those of the block are the same with Shift.
-  const HISTORY = { wrote: ['w', 'last change'], earlier: ['[', 'change before'], later: [']', 'next change'] };
+  const HISTORY = { wrote: ['w', said('last change')], earlier: ['[', said('change before')], later: [']', said('next change')] };
   const SHIFTED = { w: 'W', '[': '{', ']': '}' };
 
   const placesInTime = subject => ({ wrote: changeFrom(subject, view.step, -1), earlier: changeFrom(subject, view.step - 1, -1),
@@ -28,10 +29,11 @@ export function addHistory(viewer) {
 
   // Of a granule's block, the tagged words that have their base in it.
   function pointersInto(place) {
-    const block = state.owners[place];
+    const block = state.ownerAt(place);
     if (!block) return '';
     const names = state.taggedRows().filter(row => state.ownerOf(row.cell.meaning.base) === block).map(row => row.name), more = names.length - 20;
-    return ` Tagged words with their base in it: ${names.slice(0, 20).join(', ') || 'none'}${more > 0 ? ` and ${grouped(more)} more` : ''}.`;
+    const told = names.slice(0, 20).join(', ') || said('none');
+    return ' ' + (more > 0 ? said('Tagged words with their base in it: {0} and {1} more.', told, grouped(more)) : said('Tagged words with their base in it: {0}.', told));
   }
 
   // There, and what is chosen stays so.
@@ -51,11 +53,12 @@ export function addHistory(viewer) {
   function historyOf(subject) {
     const to = placesInTime(subject), step = to.wrote === null ? null : run.steps[to.wrote];
     const button = ([name, [key, text]]) => element('button', { 'data-history': `${subject.kind} ${name}`,
-      'aria-disabled': to[name] === null ? 'true' : null, 'aria-label': `${text} of ${subject.name}`,
-      title: `Key ${subject.kind === 'block' ? SHIFTED[key] : key}`, onclick: () => goInHistory(to[name]) }, text);
-    const told = step ? [': changed last by line ', String(step.line), ', ', code(step.text), '.'] : [': no step up to here changed it.'];
+      'aria-disabled': to[name] === null ? 'true' : null, 'aria-label': said('{0} of {1}', text, subject.name),
+      title: said('Key {0}', subject.kind === 'block' ? SHIFTED[key] : key), onclick: () => goInHistory(to[name]) }, text);
+    const name = element('b', {}, subject.name);
+    const told = step ? say('{0}: changed last by line {1}, {2}.', name, step.line, code(step.text)) : say('{0}: no step up to here changed it.', name);
     return element('div', { class: 'bar', 'data-about': subject.kind === 'block' ? 'block' : 'own' },
-      element('span', {}, element('b', {}, subject.name), ...told, subject.kind === 'block' ? pointersInto(subject.place) : ''),
+      element('span', {}, told, subject.kind === 'block' ? pointersInto(subject.place) : ''),
       ...Object.entries(HISTORY).map(button));
   }
 

@@ -1,8 +1,9 @@
 // A capability word from its 16 bytes to its bounds.
 
-import { code, digits, element, grouped, hex, plural } from './dom.js';
+import { code, digits, element, hex } from './dom.js';
 import { Cell, NULL_CELL, learn } from './cursor.js';
 import { NULL_METADATA, PERMISSIONS, bitsOf, decode, power, readLine } from './codec.js';
+import { grouped, said, saidCount, say } from './say.js';
 
 export function addInspector(viewer) {
   const { run, view, byId, cursor: state } = viewer;
@@ -14,8 +15,8 @@ export function addInspector(viewer) {
     if (!view.chosen) return null;
     const { kind, place } = view.chosen;
     if (kind === 'register') return { name: 'c' + place, cell: state.registers[place] };
-    if (kind === 'granule') return { name: 'the granule at ' + hex(run.addressOf(place)), cell: state.granules[place] };
-    return { name: 'the word typed', cell: new Cell({ tag: false, word: place }) };
+    if (kind === 'granule') return { name: said('the granule at {0}', hex(run.addressOf(place))), cell: state.granules[place] };
+    return { name: said('the word typed'), cell: new Cell({ tag: false, word: place }) };
   }
 
   const chosenWord = () => (chosenCell() || { cell: NULL_CELL }).cell;
@@ -23,8 +24,8 @@ export function addInspector(viewer) {
   // What is pasted may have blanks, and 0x before each part of it.
   function takeTyped() {
     const word = byId('typed').value.toLowerCase().replace(/(^|\s)0x/g, '$1').replace(/\s/g, ''), strange = word.match(/[^0-9a-f]/u);
-    const wrong = word === '' ? '' : strange ? `“${strange[0]}” is no hexadecimal digit.`
-      : word.length !== 32 ? `${plural(word.length, 'digit')}: a word has just 32, two for each byte.` : '';
+    const wrong = word === '' ? '' : strange ? said('“{0}” is no hexadecimal digit.', strange[0])
+      : word.length !== 32 ? saidCount('{0} digit: a word has just 32, two for each byte. | {0} digits: a word has just 32, two for each byte.', word.length) : '';
     byId('typed').setAttribute('aria-invalid', String(wrong !== ''));
     byId('wrong').textContent = wrong;
     if (word === '' || wrong) return;
@@ -42,20 +43,21 @@ export function addInspector(viewer) {
     if (line === null || viewer.signal.aborted) return;
     const told = readLine(line), mine = decode(bitsOf(word));
     const wrong = Object.keys(told).find(name => told[name] !== mine[name]);
-    if (wrong) viewer.tellFault(`The program and this page decode ${word} differently: ${wrong} is ${told[wrong]} and ${mine[wrong]}.`);
+    if (wrong) viewer.tellFault(said('The program and this page decode {0} differently: {1} is {2} and {3}.', word, wrong, String(told[wrong]), String(mine[wrong])));
     learn(word, { ...mine, ...told });
     showTyped(word);
   }
 
   function drawInspector() {
-    const { name, cell } = chosenCell() || { name: 'null, as nothing is chosen', cell: NULL_CELL };
+    const { name, cell } = chosenCell() || { name: said('null, as nothing is chosen'), cell: NULL_CELL };
     const typed = view.chosen && view.chosen.kind === 'word';
     byId('follow').checked = view.follow;
-    byId('shown').replaceChildren('Shown is ', element('b', {}, name), typed ? '.' : cell.tag ? ', tagged.' : ', without a tag.');
+    const called = element('b', {}, name);
+    byId('shown').replaceChildren(...(typed ? say('Shown is {0}.', called) : cell.tag ? say('Shown is {0}, tagged.', called) : say('Shown is {0}, without a tag.', called)));
     const isData = !typed && !cell.tag && !cell.isNull, drawn = cell.word + isData;
     if (drawnWord !== drawn) {
       drawnWord = drawn;
-      const word = cell.meaning, heading = isData ? element('h3', {}, 'If these bytes were a capability') : null;
+      const word = cell.meaning, heading = isData ? element('h3', {}, said('If these bytes were a capability')) : null;
       byId('word').replaceChildren(...bytesOf(cell.word, word, isData), ...[heading].filter(Boolean), fieldTable(word),
         element('div', { class: 'two' }, derivation(word), meaningTable(word)));
     }
@@ -66,46 +68,45 @@ export function addInspector(viewer) {
   const textOfBytes = word => word.match(/../g).map(byte => String.fromCharCode(parseInt(byte, 16))).join('').replace(/[^ -~]/g, '·');
 
   function bytesOf(text, word, isData) {
-    const bytes = text.match(/../g), note = content => element('span', { class: 'muted' }, content);
+    const bytes = text.match(/../g), note = content => element('span', { class: 'muted' }, `(${content})`);
     return [
-      ...(isData ? [element('p', { class: 'as-text' }, 'As text: ', element('b', {}, textOfBytes(text)))] : []),
-      element('p', {}, 'Bytes in memory: ', code(bytes.slice(0, 8).join(' ')), note(' (the address, its lowest byte first) '),
-        code(bytes.slice(8).join(' ')), note(' (the metadata)')),
-      element('p', {}, 'Metadata: ', code(digits(word.stored, 16)), ' ⊕ ', code(digits(NULL_METADATA, 16)), ' = ',
-        code(digits(word.metadata, 16)),
-        note(' (so the null capability is all zeros in memory)'))];
+      ...(isData ? [element('p', { class: 'as-text' }, say('As text: {0}', element('b', {}, textOfBytes(text))))] : []),
+      element('p', {}, say('Bytes in memory: {0} {1} {2} {3}', code(bytes.slice(0, 8).join(' ')), note(said('the address, its lowest byte first')),
+        code(bytes.slice(8).join(' ')), note(said('the metadata')))),
+      element('p', {}, say('Metadata: {0} {1}', [code(digits(word.stored, 16)), ' ⊕ ', code(digits(NULL_METADATA, 16)), ' = ',
+        code(digits(word.metadata, 16))], note(said('so the null capability is all zeros in memory'))))];
   }
 
   function fieldTable(word) {
     const field = (name, value, note) => element('div', {}, element('b', {}, name), code(value), element('span', {}, note));
-    return element('div', { class: 'fields', role: 'group', 'aria-label': 'Fields of the metadata' },
-      field('permissions', hex(word.permissions), 'bits 63 to 48'), field('reserved', String(word.reserved), '47, 46'),
-      field('flag', String(word.flag), '45'), field('type', hex(word.type), '44 to 27' + (word.type === 0x3ffffn ? ', not sealed' : '')),
-      field('I', String(word.internal), '26'), field('top field', hex(word.topField), '25 to 14'),
-      field('base field', hex(word.baseField), '13 to 0'));
+    return element('div', { class: 'fields', role: 'group', 'aria-label': said('Fields of the metadata') },
+      field(said('permissions'), hex(word.permissions), said('bits {0} to {1}', 63, 48)), field(said('reserved'), String(word.reserved), '47, 46'),
+      field(said('flag'), String(word.flag), '45'), field(said('type'), hex(word.type), word.type === 0x3ffffn ? said('{0} to {1}, not sealed', 44, 27) : said('{0} to {1}', 44, 27)),
+      field('I', String(word.internal), '26'), field(said('top field'), hex(word.topField), said('{0} to {1}', 25, 14)),
+      field(said('base field'), hex(word.baseField), said('{0} to {1}', 13, 0)));
   }
 
   function derivation(word) {
     const { exponent } = word, scaled = name => (exponent ? `${name} × 2^${exponent}` : name);
-    const line = (...content) => element('li', {}, ...content);
-    return element('div', {}, element('h3', {}, 'From fields to bounds'), element('ol', { class: 'steps' },
-      word.internal === 1n ? line('The internal exponent bit I is 1, so the low 3 bits of both fields hold the exponent: ',
-        code(`E = 8 × ${word.topField % 8n} + ${word.baseField % 8n} = ${exponent}`), exponent === 52 ? ', at most 52.' : '.')
-        : line('The internal exponent bit I is 0, so ', code('E = 0'), ' and both fields are whole.'),
-      line('Base mantissa: ', code('B = ' + hex(word.baseMantissa)), '.'),
-      line('Top mantissa: ', code('T = ' + hex(word.topMantissa)), '. Its upper two bits come from those of B, a carry and I: ',
-        code(`(${word.baseMantissa / power(12)} + ${word.carry} + ${word.internal}) mod 4`), '.'),
-      line('The window has ', code(`2^${exponent + 14}`), ' addresses. Counted from multiples of that, base and top are at ',
-        code(scaled('B')), ' and ', code(scaled('T')), ' in it.')));
+    const line = content => element('li', {}, content), inner = `E = 8 × ${word.topField % 8n} + ${word.baseField % 8n} = ${exponent}`;
+    return element('div', {}, element('h3', {}, said('From fields to bounds')), element('ol', { class: 'steps' },
+      line(word.internal !== 1n ? say('The internal exponent bit I is 0, so {0} and both fields are whole.', code('E = 0'))
+        : exponent === 52 ? say('The internal exponent bit I is 1, so the low 3 bits of both fields hold the exponent: {0}, at most 52.', code(inner))
+          : say('The internal exponent bit I is 1, so the low 3 bits of both fields hold the exponent: {0}.', code(inner))),
+      line(say('Base mantissa: {0}.', code('B = ' + hex(word.baseMantissa)))),
+      line(say('Top mantissa: {0}. Its upper two bits come from those of B, a carry and I: {1}.', code('T = ' + hex(word.topMantissa)),
+        code(`(${word.baseMantissa / power(12)} + ${word.carry} + ${word.internal}) mod 4`))),
+      line(say('The window has {0} addresses. Counted from multiples of that, base and top are at {1} and {2} in it.', code(`2^${exponent + 14}`),
+        code(scaled('B')), code(scaled('T'))))));
   }
 
   function meaningTable(word) {
-    const names = [...Array(16).keys()].filter(bit => word.permissions >> BigInt(bit) & 1n).map(bit => PERMISSIONS[bit] || 'bit ' + bit);
-    const entries = [['address', hex(word.address)], ['base', hex(word.base)], ['top', hex(word.top)],
-      ['length', word.top >= word.base ? grouped(word.top - word.base) : 'none: the top is below the base'],
-      ['exponent', String(word.exponent)],
-      ['permissions', names.join(', ') || 'none']];
-    return element('div', {}, element('h3', {}, 'What they mean'), element('table', { class: 'meaning' }, element('tbody', {},
+    const names = [...Array(16).keys()].filter(bit => word.permissions >> BigInt(bit) & 1n).map(bit => PERMISSIONS[bit] || said('bit {0}', bit));
+    const entries = [[said('address'), hex(word.address)], [said('base'), hex(word.base)], [said('top'), hex(word.top)],
+      [said('length'), word.top >= word.base ? grouped(word.top - word.base) : said('none: the top is below the base')],
+      [said('exponent'), String(word.exponent)],
+      [said('permissions'), names.join(', ') || said('none')]];
+    return element('div', {}, element('h3', {}, said('What they mean')), element('table', { class: 'meaning' }, element('tbody', {},
       entries.map(([name, value]) => element('tr', {}, element('th', { scope: 'row' }, name), element('td', {}, code(value)))))));
   }
 

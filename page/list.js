@@ -1,8 +1,9 @@
 // The trace with its notes and replies: all of its steps, or those that are asked for (find.js). Only the rows that are current
 // change from step to step.
 
-import { code, element, grouped, plural } from './dom.js';
+import { code, element } from './dom.js';
 import { Pieces } from './pieces.js';
+import { grouped, inTags, said } from './say.js';
 
 export function addList(viewer) {
   const { run, view, byId } = viewer;
@@ -27,8 +28,8 @@ export function addList(viewer) {
     const { live, held, free, tags } = run.end, holder = element('div');
     byId('lines').classList.toggle('long', run.steps[run.steps.length - 1].line > 999);
     byId('lines').append(holder, element('div', { class: 'end' }, ...notesOf(own.after),
-      `At the end: ${plural(live, 'byte')} live, ${grouped(held)} held, ${grouped(free)} free, ${plural(tags, 'tag')}.`));
-    viewer.list = new Pieces(byId('lines'), holder, first => element('ol', { 'aria-label': `Steps from ${first} on` }), rowOf, viewer.longLists);
+      said('At the end: {0} bytes live, {1} held, {2} free, {3}.', grouped(live), grouped(held), grouped(free), inTags(tags))));
+    viewer.list = new Pieces(byId('lines'), holder, first => element('ol', { 'aria-label': said('Steps from {0} on', first) }), rowOf, viewer.longLists);
     viewer.list.show([...run.steps.keys()]);
     byId('lines').addEventListener('click', event => {
       const button = event.target.closest('[data-step]');
@@ -68,13 +69,13 @@ export function addList(viewer) {
 
   function drawPosition() {
     const last = run.steps.length - 1, step = run.steps[view.step];
-    drawCurrentRow();
     byId('slider').value = view.step;
-    byId('slider').setAttribute('aria-valuetext', `line ${step.line}: ${step.text}, ${step.reply || 'the heap'}`);
-    byId('count').textContent = `step ${grouped(view.step)} of ${grouped(last)}`;
+    byId('slider').setAttribute('aria-valuetext', said('line {0}: {1}, {2}', step.line, step.text, step.reply || said('the heap')));
+    byId('count').textContent = said('step {0} of {1}', grouped(view.step), grouped(last));
     for (const name of ['first', 'back']) byId(name).disabled = view.step === 0;
     for (const name of ['next', 'last']) byId(name).disabled = view.step === last;
     if (view.step === last) viewer.stopPlaying();
+    drawCurrentRow();
   }
 
   // With its notes above it, and where there is room the line after it.

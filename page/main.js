@@ -1,6 +1,6 @@
 // A viewer put together over a run, in an element of a document, and taken down again.
 
-import { hex, plural } from './dom.js';
+import { hex } from './dom.js';
 import { addAddress } from './address.js';
 import { addAsking } from './ask.js';
 import { addBand } from './band.js';
@@ -17,9 +17,11 @@ import { addKeys } from './keys.js';
 import { addList } from './list.js';
 import { addMap } from './map.js';
 import { addMapShape } from './map_shape.js';
+import { addPictures } from './pictures.js';
 import { addPresenting } from './present.js';
 import { addRegisters } from './registers.js';
 import { addSaving } from './save.js';
+import { said, saidCount } from './say.js';
 import { addSteps } from './steps.js';
 import { addWindow } from './window.js';
 import { addWords } from './words.js';
@@ -27,11 +29,11 @@ import { addWords } from './words.js';
 // Each adds to the viewer what it has for others, and finds there what those have. One that stands before another needs nothing of
 // it until the viewer begins.
 const PARTS = [addWords, addList, addFind, addHistory, addBlocks, addComparison, addMapShape, addDenseMap, addMap, addRegisters, addInspector,
-  addWindow, addAsking, addPresenting, addAddress, addKeys, addBand, addSaving, addEditing, addHandout, addSteps, addControls];
+  addWindow, addAsking, addPresenting, addAddress, addKeys, addBand, addSaving, addPictures, addEditing, addHandout, addSteps, addControls];
 
 // What the reader looks at.
 const viewOf = run => ({ step: 0, side: 'after', chosen: null, follow: true, probe: null, cursor: null, columns: run.columns, cell: 0,
-  whole: false, present: false, embed: false, ask: false, pointers: false, letter: 20, mapWidth: 600, mapHeight: 600, windowWidth: 600,
+  whole: false, present: false, embed: false, ask: false, pointers: false, letter: 20, broad: .61, mapWidth: 600, mapHeight: 600, windowWidth: 600,
   timer: null });
 
 // Says above all else what is wrong; what is shown below stays as it is.
@@ -43,9 +45,9 @@ export function tellFault(message) {
 }
 
 /**
- * What a page around the viewer has for it: the trace's text, what stands first in an address, who tells the line of a word, and who is
- * told the step.
- * @typedef {{ text?: string, origin?: () => string[], lineOfWord?: ((word: string) => Promise<string | null>) | null, onStep?: (step: import('./run.js').Step) => void }} Host
+ * What a page around the viewer has for it: where others find it, the trace's text, a step in C, what stands first in an address, who tells the line of a word, and who is
+ * told the step; and whether the run is one without quarantine, of which nothing is proved.
+ * @typedef {{ isAtOnce?: boolean, place?: () => string, inC?: (step: import('./run.js').Step) => string | null, text?: string, origin?: () => string[], lineOfWord?: ((word: string) => Promise<string | null>) | null, onStep?: (step: import('./run.js').Step, view: { ask: boolean }) => void }} Host
  */
 
 // Draws the run of a cursor into an element, and answers the viewer: what its parts have, and `close`, which takes it down. A
@@ -71,9 +73,11 @@ export function mount(root, cursor, host = {}) {
 
 function begin(viewer) {
   const { run, byId } = viewer, { end, sums } = run, last = run.steps.length - 1;
-  if (['live', 'held', 'tags'].some(name => end[name] !== sums[name][last])) tellFault('The data ends with other sums than its steps have.');
+  if (['live', 'held', 'tags'].some(name => end[name] !== sums[name][last])) tellFault(said('The data ends with other sums than its steps have.'));
   document.title = byId('title').textContent = run.own.title;
-  byId('subtitle').textContent = `A heap of ${plural(run.pages, 'page')}, ${hex(run.base)} to ${hex(run.heapEnd())}`;
+  const part = run.own.after.find(note => note.startsWith('Part: ')); // the last comment where heap_record has left something out
+  byId('subtitle').textContent = saidCount('A heap of {0} page, {1} to {2} | A heap of {0} pages, {1} to {2}', run.pages, hex(run.base), hex(run.heapEnd())) + (part ? `. ${part}` : '');
+  byId('unproved').hidden = !viewer.host.isAtOnce;
   byId('slider').max = last;
   viewer.drawList(run.own);
   viewer.drawLegend();
@@ -96,8 +100,10 @@ function compareCells({ run, byId, signal }) {
     const until = performance.now() + 8;
     while (next < cells.length && performance.now() < until) compareCell(cells[next++], differing);
     if (next < cells.length) return setTimeout(some, 30);
-    const count = plural(differing.length, 'value');
-    if (differing.length) tellFault(`The data and this page decode ${count} differently, first ${differing[0]}.`);
+    if (differing.length) {
+      tellFault(saidCount('The data and this page decode {0} value differently, first {1}. | The data and this page decode {0} values differently, first {1}.',
+        differing.length, differing[0]));
+    }
     byId('main').dataset.compared = cells.length;
   };
   some();
@@ -107,6 +113,6 @@ function compareCell({ told, word, meaning }, differing) {
   const mine = { address: hex(meaning.address), base: hex(meaning.base), top: hex(meaning.top), perms: Number(meaning.permissions),
     type: Number(meaning.type), exponent: meaning.exponent };
   for (const [name, value] of Object.entries(mine)) {
-    if (told[name] !== value) differing.push(`${word}: ${name} is ${told[name]} in the data and ${value} here`);
+    if (told[name] !== value) differing.push(said('{0}: {1} is {2} in the data and {3} here', word, name, String(told[name]), String(value)));
   }
 }

@@ -2,23 +2,26 @@
 
 import { build, clamp, code, element, hex, shape } from './dom.js';
 import { nameOf, rangeOf, reasonOf, stateName } from './cursor.js';
+import { passage, said, say } from './say.js';
 
 export function addMap(viewer) {
   const { run, view, byId, cursor: state } = viewer;
 
-  const map = { shape: null, sheets: [], layers: {}, blocks: new Map(), marks: new Map(), edges: [], fresh: [], lost: new Set(),
-    strips: [], stale: new Set(),
+  const map = { shape: null, sheets: [], layers: {}, blocks: new Map(), marks: new Map(), names: new Map(), covered: [], edges: new Map(),
+    fresh: [], lost: new Set(), strips: [], stale: new Set(),
     part: { left: 0, top: 0, width: 0, height: 0 } };
 
   const DRAWN_REASONS = 64, TOLD_TAGS = 200; // of the tags that a pass took: on the map, and in the table below it
   const SMALL = 14; // cells narrower than this have finer lines
-  const LAYERS = ['grid', 'released', 'blocks', 'pages', 'looked', 'marks', 'changes', 'reasons', 'chosen', 'cursors'];
+  const LAYERS = ['grid', 'released', 'blocks', 'pages', 'looked', 'marks', 'changes', 'reasons', 'chosen', 'names', 'cursors'];
   const LOWER = ['grid', 'blocks', 'pages', 'marks']; // of a dense map
 
   function remakeMap() {
     const L = map.shape = viewer.shapeOfMap();
     map.blocks.clear();
     map.marks.clear();
+    map.names.clear();
+    map.covered = [];
     map.fresh = [];
     map.lost = new Set();
     map.chips = shape('g');
@@ -47,40 +50,55 @@ export function addMap(viewer) {
 
   function drawGrid(L) {
     const { grid } = map.layers, n = L.columns;
-    let lines = `M${L.gutter} 0H${L.right}V${L.bottom}H${L.gutter}Z`;
-    if (L.height >= 7) for (let row = 0; row <= L.rowCount; row++) lines += `M${L.gutter} ${row * L.height}H${L.right}`;
-    if (L.width >= 7) for (let column = 0; column <= n; column++) lines += `M${L.gutter + column * L.width} 0V${L.bottom}`;
-    grid.append(shape('path', { d: lines }));
-    for (let row = 0; row < L.rowCount; row += Math.ceil(13 * L.scale / L.height)) {
-      const y = row * L.height + Math.min(L.height / 2 + 4 * L.scale, 12 * L.scale);
-      grid.append(shape('text', { x: L.gutter - 6, y, class: 'row' }, hex(run.addressOf(row * n))));
-    }
+    for (const part of L.parts) drawPart(L, part);
     const every = L.width >= 12 * L.scale ? 4 : 16;
     for (let column = every; column < n; column += every) {
-      grid.append(shape('text', { x: L.gutter + column * L.width, y: -17 * L.scale }, '+' + (column * 16).toString(16)));
+      grid.append(shape('text', { x: L.gutter + column * L.width, y: -6 * L.scale }, '+' + (column * 16).toString(16)));
     }
-    const rest = shape('text', { x: L.right, y: L.bottom + 16 * L.scale, class: 'row' }, `… free up to ${hex(run.heapEnd())}`);
+    const rest = shape('text', { x: L.right, y: L.bottom + 16 * L.scale, class: 'row' }, said('… free up to {0}', hex(run.heapEnd())));
     if (L.shown < run.granules) grid.append(rest);
+  }
+
+  // Its cells, and the addresses of its rows where there is room.
+  function drawPart(L, { first, top, bottom }) {
+    let lines = `M${L.gutter} ${top}H${L.right}V${bottom}H${L.gutter}Z`;
+    if (L.height >= 7) for (let y = top; y <= bottom; y += L.height) lines += `M${L.gutter} ${y}H${L.right}`;
+    if (L.width >= 7) for (let column = 0; column <= L.columns; column++) lines += `M${L.gutter + column * L.width} ${top}V${bottom}`;
+    map.layers.grid.append(shape('path', { d: lines }));
+    for (let y = top; y < bottom; y += Math.ceil(13 * L.scale / L.height) * L.height) {
+      const place = first + (y - top) / L.height * L.columns, low = y + Math.min(L.height / 2 + 4 * L.scale, 12 * L.scale);
+      map.layers.grid.append(shape('text', { x: L.gutter - 6, y: low, class: 'row' }, hex(run.addressOf(place))));
+    }
+  }
+
+  // What stands for pages that are left out, in as many words as there is room for.
+  function gapShape(L, { first, end, top, bottom }) {
+    const named = said('pages {0} to {1}', first, end - 1), room = L.right - L.gutter - 8, middle = (top + bottom) / 2;
+    const told = [said('{0}: nothing begins, ends or is written here', named), said('{0} left out', named), named, '…'].find(text => text.length * L.letter <= room);
+    return shape('g', { class: 'gap', 'data-gap': `${first} ${end}` },
+      shape('path', { d: `M${L.gutter} ${top + 3}H${L.right}M${L.gutter} ${bottom - 3}H${L.right}` }),
+      shape('text', { x: (L.gutter + L.right) / 2, y: middle + 4 * L.scale }, told));
   }
 
   // Each page at the edge of its rows: its name, where there is room, and a band that is hatched while it is dirty.
   function drawPages(L) {
     const every = Math.ceil(13 * L.scale * L.columns / (256 * L.height));
     let lines = '';
-    map.edges = [];
+    map.edges = new Map();
     for (let page = 0; page * 256 < L.shown; page++) {
+      if (L.gapOf[page]) continue;
       const y = viewer.spotOf(L, page * 256)[1], height = Math.min(256 / L.columns * L.height, L.bottom - y), x = L.right + 3;
-      const name = page % every === 0 ? shape('text', { x: x + 14, y: y + Math.min(height / 2 + 4, 12 * L.scale) }, `page ${page}`) : null;
+      const name = page % every === 0 ? shape('text', { x: x + 14, y: y + Math.min(height / 2 + 4, 12 * L.scale) }, said('page {0}', page)) : null;
       const box = { x, y: y + .5, width: 10, height: Math.max(height - 1, 1) };
-      map.edges.push(shape('g', { 'data-page': page }, shape('rect', { class: 'band', ...box }), shape('rect', { class: 'hatch', ...box }), name));
+      map.edges.set(page, shape('g', { 'data-page': page }, shape('rect', { class: 'band', ...box }), shape('rect', { class: 'hatch', ...box }), name));
       if (page && L.height * 256 / L.columns > 12) lines += `M${L.gutter} ${y}H${L.right}`;
     }
-    map.layers.pages.append(shape('path', { d: lines }), ...map.edges);
+    map.layers.pages.append(shape('path', { d: lines }), ...map.edges.values(), ...L.gaps.map(gap => gapShape(L, gap)));
   }
 
   // What is dirty is hatched, and the pages at which this step looks are shaded.
   function drawDirty(L) {
-    map.edges.forEach((edge, page) => edge.classList.toggle('dirty', state.dirty.has(page)));
+    for (const [page, edge] of map.edges) edge.classList.toggle('dirty', state.dirty.has(page));
     const seen = state.lookedAt(run.steps[view.step]).filter(page => page * 256 < L.shown);
     map.layers.looked.replaceChildren(...seen.map(page => {
       const end = Math.min((page + 1) * 256, L.shown);
@@ -88,13 +106,24 @@ export function addMap(viewer) {
     }));
   }
 
-  function labelOf(L, block, name) {
-    const n = L.columns, second = Math.ceil(block.start / n) * n;
-    const longer = second < block.end && Math.min(block.end, second + n) - second > second - block.start;
-    const place = longer ? second : block.start, room = Math.min(block.end - place, n - place % n) * L.width;
-    if (L.height < 11 * L.scale + 9 || room <= name.length * 6.7 * L.scale + 5) return null;
-    const [x, y] = viewer.spotOf(L, place);
-    return shape('text', { x: x + 4, y: y + L.height - 5 }, name);
+  // The name of a block in its first row or in its second one, above all that a step draws; none where it isn't whole there.
+  function nameIn(L, { start, end, key }, name, kind) {
+    const n = L.columns, second = Math.ceil(start / n) * n;
+    const longer = second < end && viewer.isShown(L, second) && Math.min(end, second + n) - second > second - start;
+    const place = longer ? second : start, room = Math.min(end - place, n - place % n) * L.width, length = name.length * L.letter;
+    if (!L.hasNames || !viewer.isShown(L, place) || room < length + 8) return null;
+    const [left, top] = viewer.spotOf(L, place), text = shape('text', { x: left + 4, y: top + L.height - 4, class: kind, 'data-named': key }, name);
+    map.layers.names.append(text);
+    return { text, top, left: left + 4, right: left + 4 + length, isHigh: false };
+  }
+
+  // Of a block that ended, in the part of it that nobody has yet.
+  function nameEnded(L, block) {
+    let { start } = block;
+    while (start < block.end && state.ownerAt(start)) start = state.ownerAt(start).end;
+    let end = start;
+    while (end < Math.min(block.end, start + 2 * L.columns) && !state.ownerAt(end)) end++; // no name goes further
+    return start < end ? nameIn(L, { start, end, key: block.key }, said('was held'), 'released') : null;
   }
 
   // The pattern over the colour; a block just set free has a faint one, since it is the reason for the tags that went.
@@ -107,25 +136,27 @@ export function addMap(viewer) {
   function blockShape(L, blocks, name) {
     const d = blocks.map(block => viewer.areaOf(L, block.start, block.end, L.width < SMALL ? .5 : 1.5)).join(''), [block] = blocks;
     return shape('g', { class: 'block ' + name, 'data-block': blocks.length === 1 ? block.key : null, 'data-state': name },
-      shape('path', { class: 'fill', d }), overOf(name, d),
-      blocks.length === 1 ? labelOf(L, block, name === 'released' ? 'was held' : stateName(name)) : null);
+      shape('path', { class: 'fill', d }), overOf(name, d));
   }
 
   function drawBlock(block) {
     if (run.isDense) return map.stale.add(Math.floor(block.start / viewer.STRIP));
-    const old = map.blocks.get(block);
-    if (old) old.remove();
+    for (const old of [map.blocks.get(block), map.names.get(block)?.text]) old?.remove();
     map.blocks.delete(block);
+    map.names.delete(block);
     if (block.state === null || block.start >= map.shape.shown) return;
     const drawn = blockShape(map.shape, [block], block.state);
     map.blocks.set(block, drawn);
     map.layers.blocks.append(drawn);
+    const name = nameIn(map.shape, block, stateName(block.state), block.state);
+    if (name) map.names.set(block, name);
   }
 
-  // The middle of a mark, and how far it reaches.
+  // The middle of a mark, and how far it reaches: above a name, where rows have room for these.
   function spotOfMark(L, place) {
-    const [left, top] = viewer.spotOf(L, place);
-    return [left + L.width / 2, top + (L.height >= 20 ? L.height * .33 : L.height / 2), clamp(Math.min(L.width, L.height) * .26, 2, 6.5 * L.scale)];
+    const [left, top] = viewer.spotOf(L, place), room = L.height - 4 - 8.3 * L.scale, most = Math.min(L.width, L.height) * .26;
+    const size = clamp(L.hasNames ? Math.min(most, (room - 1) / 2) : most, 2, 6.5 * L.scale);
+    return [left + L.width / 2, top + (L.hasNames ? Math.min(L.height * .33, room - size) : L.height / 2), size];
   }
 
   // A granule's mark: a tag, one just taken, or bytes that are not all zero.
@@ -143,29 +174,30 @@ export function addMap(viewer) {
     map.layers.marks.append(mark);
   }
 
-  function drawMap(scroll) {
+  function drawMap() {
     const L = map.shape;
     for (const place of map.lost) state.touched.granules.add(place);
     map.lost.clear();
     for (const block of state.touched.blocks) drawBlock(block);
     for (const place of state.touched.granules) drawMark(place);
     drawOverlays(L);
-    if (scroll) scrollMap(L);
   }
 
   // What stands out at this step, and goes at the next.
   function drawOverlays(L) {
     const step = run.steps[view.step], now = view.side === 'after', passed = step.taken && view.side !== 'before';
     for (const drawn of map.fresh) drawn.classList.remove('new');
-    const { released, changes, reasons, chosen } = map.layers;
+    const { released, changes, reasons, chosen, names } = map.layers;
     for (const layer of [released, changes, reasons, chosen, map.chips]) layer.replaceChildren();
-    map.fresh = now ? step.blocks.map(change => map.blocks.get(change.block)).filter(Boolean) : [];
+    for (const name of names.querySelectorAll('.released')) name.remove();
+    map.fresh = now ? step.blocks.flatMap(({ block }) => [map.blocks.get(block), map.names.get(block)?.text]).filter(Boolean) : [];
     for (const drawn of map.fresh) drawn.classList.add('new');
     map.lost = new Set(passed ? step.taken.rows.filter(row => row.kind === 'granule').map(row => row.place) : []);
     map.lost.forEach(drawMark);
     viewer.drawStrips();
     const ended = now ? step.blocks.filter(change => change.now === null).map(change => change.block) : passed ? step.taken.due : [];
     released.append(...viewer.together(ended).map(blocks => blockShape(L, blocks, 'released')));
+    const endedNames = run.isDense ? [] : ended.map(block => nameEnded(L, block)).filter(Boolean);
     if (now && run.isDense) viewer.drawFresh(step.blocks.map(change => change.block));
     if (view.side !== 'before') changes.append(...viewer.together(step.granules).map(those => ringsOf(L, those.map(change => change.place))));
     drawDirty(L);
@@ -177,12 +209,15 @@ export function addMap(viewer) {
     const bands = Math.max(Math.ceil(chips / L.chipsInRow), kept);
     placeBody(L, (bands ? viewer.CHIP.height * L.scale * bands + 8 : 0) + L.head);
     const shown = viewer.chosenCell();
-    if (shown && !(view.follow && step.taken)) drawChosen(L, shown.cell);
+    for (const name of map.covered) name.text.removeAttribute('visibility');
+    map.covered = [];
+    if (shown && !(view.follow && step.taken)) drawChosen(L, shown.cell, [...map.names.values(), ...endedNames]);
+    fitLegend();
     placeCursor();
   }
 
   function placeBody(L, top) {
-    const height = top + L.bottom + Math.round(24 * L.scale), viewBox = `0 0 ${L.full} ${height}`;
+    const height = top + L.bottom + L.foot, viewBox = `0 0 ${L.full} ${height}`;
     map.top = top;
     if (map.sheets[0].getAttribute('viewBox') === viewBox) return; // else the browser would lay all of it out again
     for (const sheet of map.sheets) {
@@ -199,7 +234,7 @@ export function addMap(viewer) {
 
   // The tagged words whose base lies in a block: in that of the granule that the reader has chosen, or else in any.
   function pointersShown() {
-    const block = !view.follow && view.chosen && view.chosen.kind === 'granule' ? state.owners[view.chosen.place] : null;
+    const block = !view.follow && view.chosen && view.chosen.kind === 'granule' ? state.ownerAt(view.chosen.place) : null;
     const ownerOfRow = row => state.ownerOf(row.cell.meaning.base);
     return state.taggedRows().filter(row => (block ? ownerOfRow(row) === block : ownerOfRow(row) !== null));
   }
@@ -247,29 +282,71 @@ export function addMap(viewer) {
 
   // The bounds of the word that is chosen, with its base and its address: broken lines where it has no tag. Null has no bounds
   // to speak of: all addresses.
-  function drawChosen(L, { tag, meaning, isNull }) {
+  function drawChosen(L, { tag, meaning, isNull }, names) {
     if (isNull) return;
-    const layer = map.layers.chosen, end = run.addressOf(L.shown), inside = viewer.clippedTo(end, meaning.base, meaning.top);
+    const layer = map.layers.chosen, inside = viewer.shownPart(L, meaning.base, meaning.top);
     if (inside) {
       const told = `${hex(meaning.base)} ${hex(meaning.top)}`, d = viewer.areaOf(L, ...inside, 0);
       layer.append(shape('path', { class: 'casing', d }), shape('path', { class: tag ? 'pick' : 'pick off', d, 'data-bounds': told }));
     }
-    const note = (text, x, y) => {
-      const late = x > L.right - 100 * L.scale;
-      layer.append(shape('text', { class: 'pinned', x: late ? x - 8 : x + 8, y, 'text-anchor': late ? 'end' : 'start' }, text));
+    const isBoth = meaning.base === meaning.address, named = [[isBoth ? said('base, address') : said('base'), meaning.base, true], [said('address'), meaning.address, false]];
+    const isThere = ([, address]) => run.isInHeap(address) && viewer.isShown(L, run.granulesTo(address));
+    const pins = named.slice(0, isBoth ? 1 : 2).filter(isThere).map(([name, address, isHigh]) => drawPin(L, name, run.granulesTo(address), isHigh));
+    const others = [...names, ...pins];
+    for (const pin of pins) others.push(drawNote(L, pin, others));
+    for (const name of names.filter(each => others.some(other => other !== each && isCovered(each, other)))) {
+      name.text.setAttribute('visibility', 'hidden');
+      map.covered.push(name);
+    }
+  }
+
+  // A row has room for notes above and below, or for one line of them.
+  const hasBoth = L => L.height >= 23 * L.scale;
+
+  // In the upper or the lower corner of its cell.
+  function drawPin(L, name, place, isHigh) {
+    const [left, top] = viewer.spotOf(L, place), corner = clamp(Math.min(L.width, L.height) * .45, 2, 12), y = isHigh ? top : top + L.height;
+    map.layers.chosen.append(shape('path', { class: 'pin', d: `M${left} ${y}h${corner}l${-corner} ${isHigh ? corner : -corner}Z` }));
+    return { name, top, left, right: left + corner, isHigh: isHigh && hasBoth(L) };
+  }
+
+  const isCovered = (one, other) => one.top === other.top && one.isHigh === other.isHigh && one.left < other.right + 3 && other.left < one.right + 3;
+
+  // What a pin is called stands in its row, whatever the row has above and below.
+  function drawNote(L, pin, others) {
+    const length = pin.name.length * L.letter, low = L.hasNames ? L.height - 4 : L.height / 2 + 4 * L.scale;
+    const at = (left, isHigh) => ({ top: pin.top, left, right: left + length, isHigh, y: pin.top + (isHigh ? 10 * L.scale : low) });
+    const isLate = pin.right + 3 + length > L.right, beside = at(isLate ? Math.max(pin.left - 3 - length, L.gutter) : pin.right + 3, pin.isHigh);
+    const across = hasBoth(L) ? [at(Math.min(pin.left + 2, L.right - length), !pin.isHigh)] : [];
+    const note = roomForNote(L, [beside, ...across], (place, left) => at(left, place.isHigh), others);
+    map.layers.chosen.append(shape('text', { class: 'pinned', x: note.left, y: note.y }, pin.name));
+    return note;
+  }
+
+  // Of the places beside a pin the first that covers nothing; or else the nearest behind names and marks, but not behind another pin, which
+  // would seem to have it; or else one that covers names, which go then, or marks; and where it would cover a pin, behind all.
+  function roomForNote(L, places, moved, others) {
+    const [, middle, reach] = spotOfMark(L, 0), isByMarks = ({ isHigh }) => !L.hasNames || isHigh && middle - reach < 12 * L.scale;
+    const endOfMarks = note => (isByMarks(note) ? endOfMark(L, note) : undefined), names = others.filter(each => each.text);
+    const isInRow = note => note.right <= L.right, isFree = note => isInRow(note) && !others.some(each => !each.text && isCovered(each, note));
+    const behind = (note, texts, mayStand) => {
+      const endCovered = () => texts.find(each => isCovered(each, note))?.right ?? endOfMarks(note);
+      for (let end = endCovered(); end !== undefined && mayStand(note); end = endCovered()) note = moved(note, end + 6);
+      return note;
     };
-    const within = address => run.base <= address && address < end, corner = clamp(Math.min(L.width, L.height) * .45, 2, 12);
-    const isBoth = meaning.base === meaning.address;
-    if (within(meaning.base)) {
-      const [x, y] = viewer.spotOf(L, run.granulesTo(meaning.base));
-      layer.append(shape('path', { class: 'pin', d: `M${x} ${y}h${corner}l${-corner} ${corner}Z` }));
-      note(isBoth ? 'base, address' : 'base', x, y - 2);
+    const free = places.filter(isFree), found = free.map(note => behind(note, names, isFree)).filter(isFree);
+    return found.find(note => free.includes(note)) ?? found.sort((one, other) => one.left - other.left)[0] ??
+      free.find(note => endOfMarks(note) === undefined) ?? free[0] ?? [behind(places[0], others, isInRow)].find(isInRow) ?? places[0];
+  }
+
+  // Where the cell of the first mark ends that a note in its row would cover.
+  function endOfMark(L, { top, left, right }) {
+    const part = L.parts.find(each => each.top <= top && top < each.bottom), row = part.first + (top - part.top) / L.height * L.columns;
+    const [first, last] = [left, right].map(x => clamp(Math.floor((x - L.gutter) / L.width), 0, L.columns - 1));
+    for (let column = first; column <= last; column++) {
+      if (!state.granules[row + column].isNull || map.lost.has(row + column)) return L.gutter + (column + 1) * L.width;
     }
-    if (!isBoth && within(meaning.address)) {
-      const [x, y] = viewer.spotOf(L, run.granulesTo(meaning.address)), low = y + L.height;
-      layer.append(shape('path', { class: 'pin', d: `M${x} ${low}h${corner}l${-corner} ${-corner}Z` }));
-      note('address', x, low + 11 * L.scale);
-    }
+    return undefined;
   }
 
   // To what the step changed, where it is out of sight.
@@ -295,57 +372,72 @@ export function addMap(viewer) {
   }
 
   function placeCursor() {
-    const [x, y] = viewer.spotOf(map.shape, view.cursor ?? 0);
-    build(map.cursor, { x: x + .5, y: y + .5, visibility: view.cursor === null ? 'hidden' : 'visible' }, []);
+    const isShown = view.cursor !== null && viewer.isShown(map.shape, view.cursor), [x, y] = viewer.spotOf(map.shape, isShown ? view.cursor : 0);
+    build(map.cursor, { x: x + .5, y: y + .5, visibility: isShown ? 'visible' : 'hidden' }, []);
     drawDetail();
   }
 
+  const IN_BLOCK = { live: (name, range) => said('in the live block of {0}, {1}', name, range),
+    waiting: (name, range) => said('in the held block of {0}, {1}', name, range), painted: (name, range) => said('in the painted block of {0}, {1}', name, range) };
+
   function placeOfBase(base) {
     const block = state.ownerOf(base);
-    if (block) return `in the ${stateName(block.state)} block of ${nameOf(block)}, ${rangeOf(block)}`;
-    return run.isInHeap(base) ? 'in free bytes' : 'outside of the heap';
+    if (block) return IN_BLOCK[block.state](nameOf(block), rangeOf(block));
+    return run.isInHeap(base) ? said('in free bytes') : said('outside of the heap');
   }
 
   function aboutChosen() {
     const shown = viewer.chosenCell();
     if (!shown || shown.cell.isNull) return [];
     const { base } = shown.cell.meaning, name = element('b', {}, shown.name);
-    return shown.cell.tag ? [name, `: the base ${hex(base)} lies ${placeOfBase(base)}. `] : [name, ' has no tag: 16 bytes of data. '];
+    return [...(shown.cell.tag ? say('{0}: the base {1} lies {2}.', name, hex(base), placeOfBase(base)) : say('{0} has no tag: 16 bytes of data.', name)), ' '];
   }
 
   function drawDetail() {
     const box = byId('detail'), place = view.cursor;
     box.classList.toggle('touched', place !== null);
     if (place === null) {
-      const hint = 'Point at a granule, or go there by the arrow keys, to see what it holds.';
+      const hint = said('Point at a granule, or go there by the arrow keys, to see what it holds.');
       box.replaceChildren(...aboutChosen(), element('span', { class: 'muted' }, hint));
       return;
     }
-    const cell = state.granules[place], block = state.owners[place], { meaning } = cell;
-    box.replaceChildren(element('b', {}, `Granule ${place} at ${hex(run.addressOf(place))}`), ', ',
-      block ? placeOfBase(run.addressOf(place)) : 'free', cell.tag ? '. Tagged. ' : '. No tag. ',
-      'Bytes ', code(cell.word.match(/.{1,8}/g).join(' ')),
-      ...(cell.tag || cell.isNull ? ['. '] : [', as text ', code(viewer.textOfBytes(cell.word)), '. ']),
-      ...(cell.tag ? ['A capability of ', code(hex(meaning.base)), ' to ', code(hex(meaning.top)), ', address ', code(hex(meaning.address)),
-        '; its base lies ', placeOfBase(meaning.base), '.'] : []));
+    const cell = state.granules[place], block = state.ownerAt(place), { meaning } = cell;
+    const granule = [element('b', {}, said('Granule {0} at {1}', place, hex(run.addressOf(place)))), block ? placeOfBase(run.addressOf(place)) : said('free')];
+    const bytes = code(cell.word.match(/.{1,8}/g).join(' '));
+    const told = passage(cell.tag ? say('{0}, {1}. Tagged.', ...granule) : say('{0}, {1}. No tag.', ...granule),
+      cell.tag || cell.isNull ? say('Bytes {0}.', bytes) : say('Bytes {0}, as text {1}.', bytes, code(viewer.textOfBytes(cell.word))),
+      cell.tag && say('A capability of {0} to {1}, address {2}; its base lies {3}.', code(hex(meaning.base)), code(hex(meaning.top)),
+        code(hex(meaning.address)), placeOfBase(meaning.base)));
+    box.replaceChildren(...told);
   }
 
+  // Each mark with its name, what more there is to say of it where there is room, and where the map has it.
   function drawLegend() {
-    const sample = (text, ...marks) => element('li', {}, shape('svg', { width: 26, height: 18, 'aria-hidden': 'true' }, ...marks), text);
+    const sample = (name, more, where, ...marks) => element('li', { 'data-where': where },
+      shape('svg', { width: 26, height: 18, 'aria-hidden': 'true' }, ...marks), element('span', {}, name, element('span', { class: 'more' }, ...more)));
     const box = name => shape('g', { class: 'block ' + name }, shape('path', { class: 'fill', d: 'M1 1H25V17H1Z' }),
       overOf(name, 'M1 1H25V17H1Z'));
     const used = new Set(run.steps.flatMap(step => step.blocks.map(change => change.now)));
-    byId('legend').replaceChildren(sample('live', box('live')), sample('held: waits in quarantine', box('waiting')),
-      ...(used.has('painted') ? [sample('painted: held, and this epoch is about it', box('painted'))] : []),
-      sample('was held, and is free now', box('released')), sample('tagged', viewer.tagMark(13, 9, 6, true)),
-      sample('tag just taken', viewer.tagMark(13, 9, 6, false)),
-      sample('data, no tag', shape('rect', { class: 'data', x: 9, y: 5, width: 8, height: 8 })),
-      sample('changed by this step', shape('path', { class: 'changed', d: viewer.cornersOf(4, 2, 18, 14) })),
-      sample('bounds of what is chosen', shape('rect', { class: 'pick', x: 3, y: 3, width: 20, height: 12 })),
-      sample('page that is dirty: a tagged word was stored there', shape('g', { class: 'dirty' },
+    byId('legend').replaceChildren(sample(said('live'), [], '.blocks .live .fill', box('live')), sample(said('held'), [': ', said('waits in quarantine')], '.blocks .waiting .fill', box('waiting')),
+      ...(used.has('painted') ? [sample(said('painted'), [': ', said('held, and this epoch is about it')], '.blocks .painted .fill', box('painted'))] : []),
+      sample(said('was held'), [', ', said('and is free now')], '.released .fill', box('released')), sample(said('tagged'), [], '.tag', viewer.tagMark(13, 9, 6, true)),
+      sample(said('tag taken'), [' ', said('just now')], '.lost', viewer.tagMark(13, 9, 6, false)),
+      sample(said('data'), [', ', said('no tag')], '.data', shape('rect', { class: 'data', x: 9, y: 5, width: 8, height: 8 })),
+      sample(said('changed'), [' ', said('by this step')], '.changed', shape('path', { class: 'changed', d: viewer.cornersOf(4, 2, 18, 14) })),
+      sample(said('bounds'), [' ', said('of what is chosen')], '.pick', shape('rect', { class: 'pick', x: 3, y: 3, width: 20, height: 12 })),
+      sample(said('dirty page'), [': ', said('a tagged word was stored there')], '.dirty', shape('g', { class: 'dirty' },
         ...['band', 'hatch'].map(kind => shape('rect', { class: kind, x: 8, y: 1, width: 10, height: 16 })))),
       ...(run.steps.some(step => step.words[0] === 'end')
-        ? [sample('page at which an end looks', shape('path', { class: 'looked', d: 'M1 1H25V17H1Z' }))] : []));
+        ? [sample(said('page at which an end looks'), [], '.looked path', shape('path', { class: 'looked', d: 'M1 1H25V17H1Z' }))] : []));
+  }
+
+  // On the screen for a class the legend is of what the map has, each name whole, as far as the line goes.
+  function fitLegend() {
+    const box = byId('legend'), isThere = where => map.sheets.some(sheet => sheet.querySelector(`${where}:not([d=""])`));
+    for (const item of box.children) item.hidden = view.present && !isThere(item.dataset.where);
+    if (!view.present) return;
+    const low = box.getBoundingClientRect().bottom + 1;
+    for (const item of [...box.children].reverse()) if (item.getBoundingClientRect().bottom > low) item.hidden = true;
   }
 
   Object.assign(viewer, {

@@ -26,7 +26,7 @@ export function addPresenting(viewer) {
       const reply = place < 2 && step.reply && !side ? element('span', { class: 'reply' }, ' → ', code(step.reply)) : null;
       return element('li', { 'aria-current': place === 1 ? 'step' : null, class: step.reply.startsWith('trap') && reply ? 'trap' : null,
         onclick: () => viewer.go(index) }, element('span', { class: 'number' }, String(step.line)), ' ',
-        element('code', { class: step.words[0] === 'write' ? 'data' : null }, step.text), reply, side ? ` (${side[1]})` : null);
+        element('code', { class: step.words[0] === 'write' ? 'data' : null }, step.text), reply, side ? ` (${side[1]})` : null, viewer.otherwise(step));
     };
     byId('three').replaceChildren(...(view.present ? [-1, 0, 1].map((by, place) => line(view.step + by, place)) : []));
   }
@@ -41,7 +41,7 @@ export function addPresenting(viewer) {
 
   // The page itself, at what is shown.
   function listenToWhole() {
-    byId('whole').onclick = () => { byId('whole').href = viewer.addressShown().replace('#embed&', '#'); };
+    byId('whole').onclick = () => { byId('whole').href = viewer.addressShown().replace(/([#&])embed(&|$)/, (all, before, after) => (after ? before : '')); };
   }
 
   Object.assign(viewer, { togglePresent, drawThree, embed, listenToWhole });

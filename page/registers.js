@@ -1,6 +1,8 @@
 // The registers. A row is made anew only where what it tells differs.
 
 import { code, element, hex, shape } from './dom.js';
+import { lettersOf, namesOfPermissions } from './codec.js';
+import { passage, said, say } from './say.js';
 
 export function addRegisters(viewer) {
   const { run, view, byId, cursor: state } = viewer;
@@ -41,15 +43,17 @@ export function addRegisters(viewer) {
   function makeRegisterRows() {
     for (const register of [...run.written].sort((one, other) => one - other)) {
       const row = element('tr', { 'data-register': register }, element('td'), element('td'));
-      const button = element('button', { 'data-choose': register, title: 'Show its bounds on the map and in the inspector' }, 'c' + register);
+      const button = element('button', { 'data-choose': register, title: said('Show its bounds on the map and in the inspector') }, 'c' + register);
       button.addEventListener('click', () => viewer.choose('register', register));
       registerRows.set(register, { row, button, drawn: null });
       byId('rows').append(row);
     }
-    const others = run.written.size < 31 ? ' The other registers stay null.' : '';
-    const part = run.used < run.granules ? ', the part of the heap that is used' : '';
-    byId('idle').textContent = `c0 is always null.${others} The bars go from ${hex(run.base)} to ${hex(run.addressOf(run.used))}${part}: ` +
-      'shaded is what is held, thick the bounds, and the thin line is the address.';
+    const ends = [hex(run.base), hex(run.addressOf(run.used))];
+    const told = passage(say('{0} is always null.', 'c0'), run.written.size < 31 && say('The other registers stay null.'),
+      run.used < run.granules
+        ? say('The bars go from {0} to {1}, the part of the heap that is used: shaded is what is held, thick the bounds, and the thin line is the address.', ...ends)
+        : say('The bars go from {0} to {1}: shaded is what is held, thick the bounds, and the thin line is the address.', ...ends));
+    byId('idle').replaceChildren(...told);
   }
 
   function drawRegisters() {
@@ -59,7 +63,7 @@ export function addRegisters(viewer) {
     const changed = new Set(view.side === 'after' ? step.registers.map(change => change.place) : view.side === 'between' ? taken : []);
     for (const [register, kept] of registerRows) {
       const cell = state.registers[register], chosen = view.chosen && view.chosen.kind === 'register' && view.chosen.place === register;
-      const { base, top } = cell.meaning, told = cell.isNull ? 'null' : `bounds ${hex(base)} to ${hex(top)}, base ${viewer.placeOfBase(base)}`;
+      const { base, top } = cell.meaning, told = cell.isNull ? said('null') : said('bounds {0} to {1}, base {2}', hex(base), hex(top), viewer.placeOfBase(base));
       const drawn = [cell.tag, cell.word, changed.has(register), taken.has(register), used.has(register), bands, told].join('\n');
       kept.button.setAttribute('aria-pressed', String(Boolean(chosen)));
       if (kept.drawn === drawn) continue;
@@ -71,14 +75,15 @@ export function addRegisters(viewer) {
   }
 
   function fillRow({ row, button }, cell, { changed, taken, used, bands, told }) {
-    const { address, base, top } = cell.meaning, hadFocus = document.activeElement === button;
+    const { address, base, top, permissions } = cell.meaning, hadFocus = document.activeElement === button;
     row.className = [changed ? 'new' : null, used ? 'used' : null].filter(Boolean).join(' ');
     row.dataset.tag = cell.tag ? 1 : 0;
     row.dataset.word = cell.word;
-    const what = [used ? 'used' : null, taken && !cell.tag ? 'tag taken' : changed ? 'changed' : null].filter(Boolean).join(', ');
+    const what = [used ? said('used') : null, taken && !cell.tag ? said('tag taken') : changed ? said('changed') : null].filter(Boolean).join(', ');
     row.cells[0].replaceChildren(button, ' ', viewer.tagSign(cell.tag, taken && !cell.tag), what ? element('div', { class: 'newmark' }, what) : '');
-    row.cells[1].replaceChildren(...(cell.isNull ? [element('span', { class: 'muted' }, 'null')]
-      : [code(hex(address)), element('div', { class: 'bounds' }, hex(base), ' to ', hex(top)), smallBar(cell, bands, told)]));
+    row.cells[1].replaceChildren(...(cell.isNull ? [element('span', { class: 'muted' }, said('null'))]
+      : [code(hex(address)), ' ', element('span', { class: 'perms', title: namesOfPermissions(permissions) }, lettersOf(permissions)),
+        element('div', { class: 'bounds' }, said('{0} to {1}', hex(base), hex(top))), smallBar(cell, bands, told)]));
     if (hadFocus) button.focus({ preventScroll: true });
   }
 

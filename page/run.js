@@ -2,6 +2,7 @@
 
 import { Cell, Cursor, STATES, pageOf } from './cursor.js';
 import { hex } from './dom.js';
+import { said } from './say.js';
 import { readTrace, wordsOf } from './trace.js';
 
 /**
@@ -13,10 +14,14 @@ import { readTrace, wordsOf } from './trace.js';
  * @typedef {{ due: Block[], born: Map<Block, Birth>, rows: import('./cursor.js').Row[] }} Taken
  * A command with what it changed. `dirtied` is the page that it made dirty, and `cleaned` are those that it made clean.
  * @typedef {{ line: number, text: string, notes: string[], words: string[], reply: string, registers: CellChange[], granules: CellChange[],
- *   blocks: BlockChange[], taken: Taken | null, open: boolean, dirtied: number | null, cleaned: number[] }} Step
+ *   blocks: BlockChange[], taken: Taken | null, open: boolean, dirtied: number | null, cleaned: number[], harm: Harm | null }} Step
+ * What came of it that bytes were handed out at once (playground/at_once.js): the places whose words are of a freed block, the line of
+ * that free, and of the malloc that has the bytes now.
+ * @typedef {{ kind: string, names: string[], freed: number, owner?: number | null }} Harm
  */
 
 const CROWD = 2000; // of more blocks and written granules a map is a dense one (dense.js)
+const FOLD = 8; // from so many pages in a row on a map leaves out those in which nothing ever begins, ends or is written
 
 function need(holds, message) {
   if (!holds) throw new Error(message);
@@ -26,8 +31,8 @@ function need(holds, message) {
 export class Run {
   /** @param {{ base: string, pages: number }} heap @param {ReturnType<typeof readTrace>} own */
   constructor(heap, own) {
-    need(Number.isInteger(heap.pages) && heap.pages > 0 && heap.pages <= 1024, 'the heap needs its pages');
-    need(own.counted.length > 0, 'the trace has no heap line');
+    need(Number.isInteger(heap.pages) && heap.pages > 0 && heap.pages <= 1024, said('the heap needs its pages'));
+    need(own.counted.length > 0, said('the trace has no heap line'));
     const [first] = own.counted;
     this.own = own;
     this.base = BigInt(heap.base);
@@ -40,7 +45,7 @@ export class Run {
     this.namesOfPlaces = { register: place => 'c' + place, granule: place => hex(this.addressOf(place)) };
     /** @type {Step[]} */
     this.steps = [{ ...first, words: ['heap'], reply: '', registers: [], granules: [], blocks: [], taken: null, open: false, dirtied: null,
-      cleaned: [] }];
+      cleaned: [], harm: null }];
   }
 
   addressOf(granule) { return this.base + 16n * BigInt(granule); }
@@ -52,28 +57,28 @@ export class Run {
   granulesTo(address) { return Number(address - this.base) / 16; } // only for addresses near the heap
 
   changesOf(entries, name, least, end) {
-    need(Array.isArray(entries), 'a list is missing');
+    need(Array.isArray(entries), said('a list is missing'));
     return entries.map(entry => {
-      need(Number.isInteger(entry[name]) && entry[name] >= least && entry[name] < end, 'a register or a granule that there is not');
-      need(typeof entry.tag === 'boolean' && /^[0-9a-f]{32}$/.test(entry.word), 'a cell needs its tag and its word');
+      need(Number.isInteger(entry[name]) && entry[name] >= least && entry[name] < end, said('a register or a granule that there is not'));
+      need(typeof entry.tag === 'boolean' && /^[0-9a-f]{32}$/.test(entry.word), said('a cell needs its tag and its word'));
       return { place: entry[name], now: new Cell(entry), was: null };
     });
   }
 
   blockChangesOf(entries, born) {
-    need(Array.isArray(entries), 'a list is missing');
+    need(Array.isArray(entries), said('a list is missing'));
     return entries.map(entry => {
       const key = `${entry.base} ${entry.top}`, now = entry.state === 'free' ? null : entry.state;
-      need(now === null || STATES.includes(now), 'a block has an unknown state');
+      need(now === null || STATES.includes(now), said('a block has an unknown state'));
       if (!this.known.has(key)) this.known.set(key, this.newBlock(key, BigInt(entry.base), BigInt(entry.top)));
       const block = this.known.get(key);
-      need(block.born !== null || now === 'live' && born !== null, 'a block has no malloc');
+      need(block.born !== null || now === 'live' && born !== null, said('a block has no malloc'));
       return { block, now, was: block.state, born: { now: now === 'live' ? born : block.born, was: block.born } };
     });
   }
 
   newBlock(key, base, top) {
-    need(this.isInHeap(base) && base < top && top <= this.heapEnd(), 'a block lies outside of the heap');
+    need(this.isInHeap(base) && base < top && top <= this.heapEnd(), said('a block lies outside of the heap'));
     return { key, base, top, start: this.granulesTo(base), end: this.granulesTo(top), state: null, born: null };
   }
 }
@@ -81,11 +86,11 @@ export class Run {
 // A step from its line of the data and of the trace, in the state before it, in which the cursor is.
 function addStep(run, cursor, value, own) {
   const words = String(value.text).split(' ');
-  need(own && own.line === value.line && wordsOf(own.text)[0] === words[0], 'this is not the command of the trace');
+  need(own && own.line === value.line && wordsOf(own.text)[0] === words[0], said('this is not the command of the trace'));
   const step = { line: own.line, text: own.text, notes: own.notes, words, reply: String(value.reply), taken: null,
     registers: run.changesOf(value.registers, 'r', 1, 32), granules: run.changesOf(value.granules, 'i', 0, run.granules),
     blocks: run.blockChangesOf(value.blocks, words[0] === 'malloc' ? { line: own.line, size: BigInt(wordsOf(own.text)[2]) } : null),
-    open: cursor.open, dirtied: null, cleaned: [] };
+    open: cursor.open, dirtied: null, cleaned: [], harm: value.harm ?? null };
   if (!step.reply.startsWith('trap')) markPages(run, cursor, step);
   for (const change of step.registers) change.was = cursor.registers[change.place];
   for (const change of step.granules) change.was = cursor.granules[change.place];
@@ -108,7 +113,7 @@ function markPages(run, cursor, step) {
 // The tags that a pass took, each with its cell before; and the blocks that were due, in quarantine before, by rising start.
 function takenOf(cursor, taken, step) {
   const rows = (kind, places) => places.map(place => {
-    need(cursor[kind + 's'][place] !== undefined, 'a tag was taken from a place that there is not');
+    need(cursor[kind + 's'][place] !== undefined, said('a tag was taken from a place that there is not'));
     return cursor.rowAt(kind, place);
   });
   const due = step.blocks.filter(change => change.was !== null && change.was !== 'live').map(change => change.block);
@@ -136,16 +141,41 @@ function sumsOf(run) {
   return sums;
 }
 
+// Runs of pages up to the last one, each as long as FOLD or longer, that are used in no place: from the first up to the end.
+function unusedRuns(isUsed, last) {
+  const runs = [];
+  let first = 0;
+  for (let page = 0; page <= last; page++) {
+    if (!isUsed[page]) continue;
+    if (page - first >= FOLD) runs.push({ first, end: page });
+    first = page + 1;
+  }
+  return runs;
+}
+
+// The pages that a map leaves out: no block begins or ends there at any step, and no word that the run makes has an end of its bounds or
+// its address there. So no granule there is written, which takes such a word.
+function foldsOf(run, reach) {
+  const last = pageOf(reach - 1), isUsed = new Uint8Array(run.pages), note = place => { isUsed[pageOf(place)] = 1; };
+  const noteAddress = address => { if (run.isInHeap(address)) note(run.granulesTo(address)); };
+  for (const { start, end } of run.known.values()) [start, end - 1].forEach(note);
+  if (!unusedRuns(isUsed, last).length) return []; // so that most runs need no word
+  const words = new Map(run.steps.flatMap(step => [...step.registers, ...step.granules]).map(({ now }) => [now.word, now.told]));
+  for (const { address, base, top } of words.values()) [BigInt(address), BigInt(base), BigInt(top) - 1n].forEach(noteAddress);
+  return unusedRuns(isUsed, last);
+}
+
 // What does not change from step to step.
 function summaryOf(run) {
   const { steps } = run;
   const most = (list, measureOf) => list.reduce((greatest, each) => Math.max(greatest, measureOf(each)), 0);
   const reach = most([...run.known.values()], block => block.end) || 4;
   const places = new Set(steps.flatMap(step => step.granules.map(change => change.place)));
+  const folds = foldsOf(run, reach), kept = reach - 256 * folds.reduce((sum, fold) => sum + fold.end - fold.first, 0);
   return { sums: sumsOf(run), written: new Set(steps.flatMap(step => step.registers.map(change => change.place))),
-    most: most(steps, step => (step.taken ? step.taken.rows.filter(row => row.kind === 'register').length : 0)), reach,
+    folds, most: most(steps, step => (step.taken ? step.taken.rows.filter(row => row.kind === 'register').length : 0)), reach,
     used: Math.min(run.granules, Math.max(16, 2 ** Math.ceil(Math.log2(reach)))), // what the small bars show
-    columns: reach > 1024 ? 64 : reach > 64 ? 32 : 16, isDense: run.known.size + places.size > CROWD };
+    columns: kept > 1024 ? 64 : kept > 64 ? 32 : 16, isDense: run.known.size + places.size > CROWD };
 }
 
 // The run of a trace, from its text and from the data of ./heap_states: lines of JSON, of which the first tells the heap, which is
@@ -160,20 +190,20 @@ export function* readRun(text, data) {
   for (const [number, line] of data.split('\n').filter(each => each !== '').entries()) {
     try {
       const value = JSON.parse(line);
-      need((number === 0) === (value.heap !== undefined), 'the heap is the first line, and no other');
-      need(run === null || run.end === null, 'nothing comes after the end');
+      need((number === 0) === (value.heap !== undefined), said('the heap is the first line, and no other'));
+      need(run === null || run.end === null, said('nothing comes after the end'));
       if (value.heap) {
         run = new Run(value.heap, own);
         cursor = new Cursor(run);
       } else if (value.end) run.end = value.end;
       else addStep(run, cursor, value, own.counted[run.steps.length]);
     } catch (problem) {
-      throw new Error(`Line ${number + 1} of the data can't be read: ${problem.message}.`);
+      throw new Error(said("Line {0} of the data can't be read: {1}.", number + 1, problem.message));
     }
     yield;
   }
-  need(run !== null && run.end !== null, 'The data is not whole.');
-  need(run.steps.length === own.counted.length, 'The data has not as many commands as the trace.');
+  need(run !== null && run.end !== null, said('The data is not whole.'));
+  need(run.steps.length === own.counted.length, said('The data has not as many commands as the trace.'));
   cursor.moveTo(0);
   return Object.assign(run, summaryOf(run));
 }

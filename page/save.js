@@ -1,6 +1,7 @@
 // The map as SVG with its styles inside, and the state that is shown as JSON, as files.
 
 import { SHAPES, element, hex, shape } from './dom.js';
+import { said } from './say.js';
 
 export function addSaving(viewer) {
   const { run, view, byId, cursor: state } = viewer;
@@ -25,13 +26,17 @@ export function addSaving(viewer) {
   }
 
   // The map as one picture.
-  function styledMap() {
+  function mapCopy() {
     const [copy, ...upper] = viewer.map.sheets.map(styledCopy);
     for (const sheet of upper) copy.append(...sheet.children);
     copy.querySelectorAll('.cursor').forEach(node => node.remove());
-    const paper = getComputedStyle(byId('stage')).backgroundColor;
     copy.setAttribute('xmlns', SHAPES);
-    copy.prepend(shape('title', {}, `${document.title}, step ${view.step}: ${run.steps[view.step].text}`),
+    return copy;
+  }
+
+  function styledMap() {
+    const copy = mapCopy(), paper = getComputedStyle(byId('stage')).backgroundColor;
+    copy.prepend(shape('title', {}, said('{0}, step {1}: {2}', document.title, view.step, run.steps[view.step].text)),
       shape('rect', { width: '100%', height: '100%', fill: paper }));
     return new XMLSerializer().serializeToString(copy);
   }
@@ -51,5 +56,5 @@ export function addSaving(viewer) {
     byId('save-state').onclick = () => save(`state_${view.step}.json`, 'application/json', JSON.stringify(shownState(), null, 1) + '\n');
   }
 
-  Object.assign(viewer, { listenToSave });
+  Object.assign(viewer, { save, mapCopy, listenToSave });
 }

@@ -1,7 +1,8 @@
 // From step to step and from side to side, and what a step is about.
 
-import { clamp, code, element, hex, plural } from './dom.js';
+import { clamp, code, element, hex } from './dom.js';
 import { bornAs, rangeOf, reasonOf } from './cursor.js';
+import { said, saidCount } from './say.js';
 
 export function addSteps(viewer) {
   const { run, view, byId, cursor: state } = viewer;
@@ -17,8 +18,8 @@ export function addSteps(viewer) {
   // The sides from which a pass can be looked at, each with its name. A malloc that sweeps has one more, between the two.
   function sidesOf(step) {
     if (!step.taken) return [];
-    return step.words[0] === 'malloc' ? [['before', 'before'], ['between', 'after the sweep'], ['after', 'after the malloc']]
-      : [['before', 'before'], ['after', 'after']];
+    return step.words[0] === 'malloc' ? [['before', said('before')], ['between', said('after the sweep')], ['after', said('after the malloc')]]
+      : [['before', said('before')], ['after', said('after')]];
   }
 
   // The side on which the pass is done, and no more than that.
@@ -64,22 +65,25 @@ export function addSteps(viewer) {
     drawStep();
     viewer.drawRegisters();
     viewer.drawBlocks();
-    viewer.drawMap(scroll);
+    viewer.drawMap();
     viewer.drawInspector();
     viewer.drawHistory();
     viewer.drawComparison();
     viewer.drawSums();
-    viewer.drawPosition();
     viewer.drawThree();
     viewer.drawAsk();
     viewer.keepAddress();
-    viewer.host.onStep?.(run.steps[view.step]);
+    viewer.host.onStep?.(run.steps[view.step], view);
+    // What asks where things lie comes last, so that the page is laid out once.
+    viewer.drawPosition();
+    if (scroll) viewer.scrollMap(viewer.map.shape);
     for (const set of Object.values(state.touched)) set.clear();
   }
 
   function drawStep() {
     const step = run.steps[view.step];
-    byId('what').replaceChildren(element('p', { class: 'command' }, code(step.text), step.reply ? [' → ', code(step.reply)] : null),
+    const command = element('span', { class: 'command' }, code(step.text), step.reply ? [' → ', code(step.reply)] : null);
+    byId('what').replaceChildren(element('p', { class: 'line' }, command, viewer.otherwise(step)),
       element('p', {}, ...viewer.explain(step)));
     byId('epoch').hidden = !state.open;
     const button = ([side, name]) => element('button', { 'aria-pressed': String(view.side === side), 'data-side': side, onclick() {
@@ -87,18 +91,19 @@ export function addSteps(viewer) {
       byId('sides').querySelector(`[data-side=${side}]`).focus();
     } }, name);
     byId('sides').replaceChildren(...sidesOf(step).map(button));
-    byId('taken').replaceChildren(...(step.taken && step.taken.rows.length ? [takenTable(step.taken)] : []));
+    byId('taken').replaceChildren(...(step.taken && step.taken.rows.length ? [takenTable(step)] : []));
   }
 
-  function takenTable(taken) {
-    const heads = ['Tag taken from', 'Its address', 'Its base', 'lies in the held block of'].map(text => element('th', { scope: 'col' }, text));
+  function takenTable({ taken, words }) {
+    const of = words[0] === 'begin' || words[0] === 'end' ? said('lies in the painted block of') : said('lies in the held block of');
+    const heads = [said('Tag taken from'), said('Its address'), said('Its base'), of].map(text => element('th', { scope: 'col' }, text));
     const lines = taken.rows.slice(0, viewer.TOLD_TAGS).map(row => {
       const block = reasonOf(taken, row);
-      const { address, base } = row.cell.meaning, reason = block ? [bornAs(taken.born.get(block)), ', ', code(rangeOf(block))] : ['none'];
+      const { address, base } = row.cell.meaning, reason = block ? [bornAs(taken.born.get(block)), ', ', code(rangeOf(block))] : [said('none')];
       return element('tr', {}, [[code(row.name)], [code(hex(address))], [code(hex(base))], reason].map(content => element('td', {}, content)));
     });
-    const more = taken.rows.length > viewer.TOLD_TAGS ? `and ${plural(taken.rows.length - viewer.TOLD_TAGS, 'tag')} more` : null;
-    const first = taken.rows.length > viewer.DRAWN_REASONS ? `The map has lines for the first ${viewer.DRAWN_REASONS}.` : null;
+    const more = taken.rows.length > viewer.TOLD_TAGS ? saidCount('and {0} tag more | and {0} tags more', taken.rows.length - viewer.TOLD_TAGS) : null;
+    const first = taken.rows.length > viewer.DRAWN_REASONS ? said('The map has lines for the first {0}.', viewer.DRAWN_REASONS) : null;
     return element('table', {}, element('caption', {}, [more, first].filter(Boolean).join('. ')),
       element('thead', {}, element('tr', {}, heads)), element('tbody', {}, lines));
   }
@@ -106,7 +111,7 @@ export function addSteps(viewer) {
   function stopPlaying() {
     clearInterval(view.timer);
     view.timer = null;
-    byId('play').textContent = 'Play';
+    byId('play').textContent = said('Play');
     byId('play').setAttribute('aria-pressed', 'false');
   }
 
@@ -114,7 +119,7 @@ export function addSteps(viewer) {
     if (view.timer !== null) return stopPlaying();
     if (view.step === run.steps.length - 1) go(0);
     view.timer = setInterval(() => go(view.step + 1), 1800);
-    byId('play').textContent = 'Pause';
+    byId('play').textContent = said('Pause');
     byId('play').setAttribute('aria-pressed', 'true');
   }
 

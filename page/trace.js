@@ -1,6 +1,7 @@
 // The trace's own text: its lines as they were written, and its comments beside the commands that follow them.
 
 import { decodeBase64 } from './link.js';
+import { said } from './say.js';
 
 // Of base64. Bytes that are no UTF-8 become U+FFFD.
 export function textOf(encoded) {
@@ -44,5 +45,5 @@ export function readTrace(text) {
 function titleOf(own) {
   const notes = [...own.counted.flatMap(counted => counted.notes), ...own.after].filter(note => note !== '');
   if (notes.length) return notes[0].replace(/\.(\s.*)?$/s, '') || notes[0];
-  return own.counted.length ? own.counted[0].text : 'The life of a heap';
+  return own.counted.length ? own.counted[0].text : said('The life of a heap');
 }

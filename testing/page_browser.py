@@ -14,6 +14,9 @@ KEYS = {"ArrowLeft": 37, "ArrowUp": 38, "ArrowRight": 39, "ArrowDown": 40, "Home
 OPTIONS = ["--headless", "--no-sandbox", "--disable-gpu", "--remote-debugging-pipe", "--no-first-run", "--disable-background-networking",
            "--disable-component-update", "--disable-dev-shm-usage", "--force-color-profile=srgb", "--hide-scrollbars"]
 SECONDS = 60
+# A loop, and the milliseconds that it takes on a box with nothing else to do.
+LOOP = "(() => { const begun = performance.now(); let sum = 0; for (let at = 0; at < 2e6; at++) sum = (sum * 31 + at) | 0; return performance.now() - begun + 0 * sum; })()"
+LOOP_TAKES = 15
 READY = "document.readyState === 'complete' && (!document.querySelector('#fault').hidden || document.querySelector('#main')?.dataset.compared !== undefined)"
 # What the parts of a viewer have for each other is had by its name.
 EXPOSE = """for (const name of Object.keys(heapViewer ?? {})) {
@@ -72,6 +75,10 @@ class Browser:
                 return got["result"]
             if "method" in got:
                 self.events.append(got)
+
+    def slowness(self):
+        """How many times as long as there things take now, by a loop: 1 at least."""
+        return max(sorted(self.run(LOOP) for _ in range(9))[4] / LOOP_TAKES, 1)
 
     def run(self, code):
         """The value of an expression in the page; its faults are this program's."""

@@ -8,6 +8,7 @@ import subprocess
 import tempfile
 import time
 
+import page_look
 import page_model
 
 SECONDS = 60
@@ -126,6 +127,7 @@ def lessons(tests, firefox):
                 if index not in (steps[0],) or len(steps) == 1:
                     firefox.key(key)
                 tests.check(f"{folder.name} in Firefox by {key}, step {index}", firefox.run(SEEN), seen_at(run, index))
+                tests.check(f"{folder.name} in Firefox by {key}, step {index}: names are whole", json.loads(firefox.run("return " + page_look.CUT))[1], [])
         for letter, name in (("p", "present"), ("a", "ask")):
             firefox.key(letter)
             tests.check(f"{folder.name} in Firefox: the key {letter}", firefox.run(f"return document.querySelector('#{name}').getAttribute('aria-pressed')"), "true")

@@ -10,8 +10,10 @@ import page_look
 import page_model
 from page_model import NAMES, NULL_WORD, Word, block_key, grouped, hexadecimal
 
-# What a page takes at most on a box with nothing else to do, in milliseconds, and how much more is let pass on a busy one.
-OPENS, JUMPS, STEPS, BUSY = 1500, 150, 50, 3
+# What a page takes at most on a box with nothing else to do, in milliseconds, and how much more is let pass on a busy one, beside what a
+# loop takes there.
+OPENS, JUMPS, STEPS, BUSY = 1500, 150, 50, 5
+WIDE_OPENS, WIDE_STEPS, WIDE_BUSY = 500, 16, 8  # of a heap of 1,024 pages with few commands
 NODES = 60000
 THUMB, BAND = 12, 34
 
@@ -35,11 +37,28 @@ class LongTests:
             nodes = self.browser.run(page_look.NODES)
             print(f"tried: a page of {grouped(last)} commands, {path.stat().st_size / 1e6:.1f} MB: opens in {opened:.0f} ms, jumps in {jumps:.0f} ms at most, "
                   f"steps in {steps[-1]:.0f} ms at most and {steps[len(steps) // 2]:.0f} ms in the middle, has {grouped(nodes)} nodes")
+            slowness = self.browser.slowness()
             for what, took, most in (("opens", opened, OPENS), ("jumps", jumps, JUMPS), ("steps", steps[-1], STEPS)):
-                self.check(f"{name}: {what} in {most} ms", took <= BUSY * most, True)
+                self.check(f"{name}: {what} in {most} ms", took <= BUSY * most * slowness, True)
             self.check(f"{name}: nodes", nodes <= NODES, True)
             self.check(f"{name}: the map is a dense one", self.browser.run("run.isDense"), True)
             self.no_noise(name)
+
+        self.quick_in_a_wide_heap(root)
+
+    def quick_in_a_wide_heap(self, root):
+        path, took = self.page(root, "\n".join(page_model.TRACES["wide"]).encode(), "wide"), []
+        opened = min(self.opening(path) for _ in range(3))
+        self.browser.run(page_look.PAINTED)
+        for _ in range(4):
+            self.browser.run("go(9)")
+            took.append([self.painted(lambda key=key: self.browser.key(key)) for key in ["ArrowLeft"] * 6 + ["ArrowRight"] * 6])
+        steps = sorted(map(min, zip(*took)))
+        print(f"tried: a page of 1,024 pages of memory and {len(page_model.TRACES['wide']) - 1} commands: opens in {opened:.0f} ms, steps in {steps[-1]:.0f} ms at most "
+              f"and {steps[len(steps) // 2]:.0f} ms in the middle, has {grouped(self.browser.run(page_look.NODES))} nodes")
+        slowness = self.browser.slowness()
+        self.check("1,024 pages: opens in time", opened <= WIDE_BUSY * WIDE_OPENS * slowness, True)
+        self.check("1,024 pages: steps in time", steps[len(steps) // 2] <= WIDE_BUSY * WIDE_STEPS * slowness, True)
 
     def opening(self, path):
         self.open(path)
@@ -363,8 +382,9 @@ class LongTests:
             check(f"the handout, step {index}", article, [f"Line {lines[index]}", seen["notes"], seen["command"], seen["sentence"],
                   [row[:2] for row in seen["blocks"]], [row[0] for row in seen["registers"]], len(seen["taken"])])
         self.browser.media("print")
-        check("on paper it is alone", json.loads(run("JSON.stringify([getComputedStyle(byId('main')).visibility, byId('main').offsetHeight, byId('handout').offsetHeight > 900])")),
-              ["hidden", 0, True])
+        # What is hidden by its visibility paints no patterns, and those of the page are the handout's too.
+        seen = "const main = byId('main'), { opacity, visibility } = getComputedStyle(main); JSON.stringify([opacity, visibility, main.offsetHeight, byId('handout').offsetHeight > 900])"
+        check("on paper it is alone, and its maps have patterns", json.loads(run(f"(() => {{ {seen.replace('JSON.stringify', 'return JSON.stringify')} }})()")), ["0", "visible", 0, True])
         self.browser.media("")
         check("and nothing of it is seen on the screen", run("byId('handout').offsetHeight"), 0)
         run("dispatchEvent(new Event('afterprint'))")

@@ -19,10 +19,11 @@ LOOK = r"""(() => {
     sentence: text(document.querySelector('#what p:last-child')), count: text(document.querySelector('#count')),
     slider: document.querySelector('#slider').value,
     blocks: all('#map [data-block]').map(node => [node.dataset.block, node.dataset.state, paint(node.querySelector('.fill'), 'fill'),
-      paint(node.querySelector('.over'), 'fill'), text(node.querySelector('text')), node.classList.contains('new')]),
+      paint(node.querySelector('.over'), 'fill'), text(document.querySelector(`#map [data-named="${node.dataset.block}"]${node.dataset.state === 'released' ? '.released' : ':not(.released)'}`)), node.classList.contains('new')]),
     table: all('#blocks tbody tr').map(line => [...line.cells].map(text)),
     marks: all('#map [data-granule]').map(node => [Number(node.dataset.granule), node.dataset.tag, node.getAttribute('class'), middle(node)]),
     dirty: all('#map [data-page].dirty').map(node => [Number(node.dataset.page), paint(node.querySelector('.hatch'), 'fill')]),
+    gaps: all('#map [data-gap]').map(node => [node.dataset.gap, text(node), ...box(node.querySelector('path'))]),
     pages: all('#map [data-page]').map(node => [Number(node.dataset.page), text(node.querySelector('text')), ...box(node.querySelector('.band')).slice(1)]),
     looked: all('#map [data-looked]').map(node => [Number(node.dataset.looked), box(node)]),
     rings: all('#map [data-changed]').map(node => [Number(node.dataset.changed), box(node)]),
@@ -35,7 +36,7 @@ LOOK = r"""(() => {
     taken: all('#taken tbody tr').map(line => [...line.cells].map(text)), shape: { ...map.shape, top: map.top },
     bounds: document.querySelector('#map [data-bounds]')?.dataset.bounds ?? null,
     broken: document.querySelector('#map [data-bounds]')?.classList.contains('off') ?? null,
-    pins: all('#map .pinned').map((node, index) => [text(node), middle(all('#map .pin')[index])]),
+    pins: all('#map .pinned').map((node, index) => [text(node), middle(all('#map .pin')[index]), middle(node)]),
     shown: text(document.querySelector('#shown')), heading: text(document.querySelector('#word > h3')), asText: text(document.querySelector('#word .as-text')), meaning: all('.meaning tr').map(line => [...line.cells].map(text)),
     steps: all('.steps li').map(text).join(' '), fields: all('.fields code').map(text), bytes: all('#word p code').map(text),
     window: document.querySelector('#window svg').getAttribute('aria-label'), edges: all('#window text').map(text),
@@ -44,14 +45,39 @@ LOOK = r"""(() => {
     fault: text(document.querySelector('#fault')) });
 })()"""
 
+# Of the names of blocks and of the notes of pins, those of which a part isn't seen: a corner of a name outside of its block, or what is
+# painted later above it, or another text that it touches. It needs the document alone.
+CUT = r"""(() => {
+  const drawn = [...document.querySelectorAll('#map svg :is(path, rect, text)')].filter(node => getComputedStyle(node).visibility !== 'hidden' && !node.closest('defs, .cursors'));
+  const names = drawn.filter(node => node.matches('.names text')), notes = drawn.filter(node => node.matches('.pinned')), cut = [];
+  // Of a text from the top of its letters to the line on which they stand.
+  const boxOf = node => {
+    const { x, y, width, height } = node.getBBox(), { e, f } = node.getCTM(), isText = node.matches('text');
+    return { left: x + e, right: x + e + width, top: y + f + (isText ? height * .16 : 0), bottom: y + f + height * (isText ? .79 : 1) };
+  };
+  const meet = (one, other) => one.left < other.right && other.left < one.right && one.top < other.bottom && other.top < one.bottom;
+  const isAt = (x, y, fill) => fill.isPointInFill(Object.assign(fill.ownerSVGElement.createSVGPoint(), { x, y }));
+  const endsOf = box => [box.x + .5, box.x + box.width - .5].map(x => [x, box.y + box.height / 2]), inside = (box, fill) => endsOf(box).every(([x, y]) => isAt(x, y, fill));
+  for (const name of [...names, ...notes]) {
+    const place = boxOf(name), at = drawn.indexOf(name);
+    const fill = document.querySelector(`#map [data-block="${name.dataset.named}"]${name.matches('.released') ? '.released' : ':not(.released)'} .fill`);
+    if (names.includes(name) && !(fill && inside(name.getBBox(), fill))) cut.push(name.textContent + ' past its block');
+    if (drawn.slice(at + 1).some(node => meet(boxOf(node), place))) cut.push(name.textContent + ' under another');
+    const isLive = fill => endsOf(name.getBBox()).some(([x, y]) => isAt(x, y, fill));
+    if (name.matches('.released') && [...document.querySelectorAll('#map [data-block]:not(.released) .fill')].some(isLive)) cut.push(name.textContent + ' where bytes are live');
+  }
+  return JSON.stringify([names.map(name => name.textContent), cut]);
+})()"""
+
 # For each granule that the map shows, the blocks in whose drawn area its middle lies, and whether it is in the bounds chosen.
 AREAS = r"""(() => {
   const areas = [...document.querySelectorAll('#map [data-block]:not(.released)')].map(node => [node.dataset.block, node.querySelector('.fill')]);
   const pick = document.querySelector('#map [data-bounds]'), point = map.sheets[0].createSVGPoint(), L = map.shape, n = L.columns, found = [];
   for (let place = 0; place < L.shown; place++) {
+    if (L.gapOf[Math.floor(place / 256)]) continue;
     point.x = L.gutter + (place % n + .5) * L.width;
-    point.y = (Math.floor(place / n) + .5) * L.height;
-    found.push([areas.filter(area => area[1].isPointInFill(point)).map(area => area[0]), Boolean(pick && pick.isPointInFill(point))]);
+    point.y = L.tops[Math.floor(place / 256)] + (Math.floor(place % 256 / n) + .5) * L.height;
+    found.push([place, areas.filter(area => area[1].isPointInFill(point)).map(area => area[0]), Boolean(pick && pick.isPointInFill(point))]);
   }
   return JSON.stringify([pick ? pick.dataset.bounds : null, found]);
 })()"""
@@ -113,7 +139,7 @@ EMBEDDED = r"""(() => {
   const box = name => document.querySelector(name).getBoundingClientRect(), root = document.documentElement;
   const isSeen = name => { const { width, height } = box(name); return width > 0 && height > 0; };
   const names = ['.name', '.controls', '.track', '#trace', '#three', '#told', '#map', '#registers', '#inspector', '#glossary', '#legend', '#compare', '#ask'];
-  return JSON.stringify({ past: ['#map', '#registers', '#told', '.controls'].filter(name => box(name).bottom > innerHeight + 1 || box(name).right > innerWidth + 1)
+  return JSON.stringify({ past: ['#map', '#registers', '#told', '.controls', '#legend'].filter(name => box(name).bottom > innerHeight + 1 || box(name).right > innerWidth + 1)
     .concat(root.scrollWidth > innerWidth || root.scrollHeight > innerHeight ? ['page'] : []),
     parts: names.filter(isSeen).map(name => name.slice(1)).sort(), letter: view.letter });
 })()"""
@@ -136,7 +162,7 @@ PLACE_IN_SIGHT = r"""(() => {
 COMPARED = "JSON.stringify([byId('differences').textContent, ...[...document.querySelectorAll('#differences tbody tr')].map(row => [...row.cells].map(cell => cell.textContent))])"
 REASONS = "JSON.stringify([...document.querySelectorAll('#map [data-reason]')].map(path => path.dataset.reason))"
 HANDOUT = r"""JSON.stringify([...document.querySelectorAll('#handout article')].map(article => {
-  const all = selector => [...article.querySelectorAll(selector)], text = node => node.textContent, [command, sentence] = all('p:not(.note)');
+  const all = selector => [...article.querySelectorAll(selector)], text = node => node.textContent, [sentence] = all('p:not(.note, .line)'), [command] = all('.command');
   return [text(article.querySelector('h2')), all('.note').map(text), text(command), text(sentence), all('.map [data-block]').map(node => [node.dataset.block, node.dataset.state]),
     all('.rows tr').map(row => row.dataset.register), all('td:nth-child(4)').length];
 }))"""
@@ -168,10 +194,10 @@ DENSE = r"""(() => {
   const rings = all('#map [data-changed]').flatMap(node => node.dataset.changed.split(' ').map(Number));
   return JSON.stringify([rings, ...%s.map(place => {
     point.x = L.gutter + (place %% n + .5) * L.width;
-    const y = Math.floor(place / n) * L.height;
+    const y = L.tops[Math.floor(place / 256)] + Math.floor(place %% 256 / n) * L.height;
     point.y = y + L.height / 2;
     const areas = named(fills), isNew = fresh.some(path => path.isPointInFill(point));
-    if (L.height >= 20) point.y = y + L.height * .33;
+    if (L.hasNames) point.y = y + 6;
     return [areas, named(marks), isNew];
   })]);
 })()"""
@@ -185,7 +211,7 @@ DECODED = r"""JSON.stringify(%s.map(([text, address]) => {
 # Of the screen for a class: each text that is in sight with the size of its letters and the part that has it, what reaches
 # past the screen or its part, the three lines, and how far the map goes.
 PRESENT = r"""(() => {
-  const walk = document.createTreeWalker(document.body, NodeFilter.SHOW_TEXT), texts = [], past = [], parts = ['three', 'told', 'map', 'registers'];
+  const walk = document.createTreeWalker(document.body, NodeFilter.SHOW_TEXT), texts = [], past = [], parts = ['three', 'told', 'map', 'legend', 'registers'];
   for (let node = walk.nextNode(); node; node = walk.nextNode()) {
     const parent = node.parentElement, part = parent.closest('#' + parts.join(', #'));
     if (node.data.trim() === '' || parent.matches('script, style, noscript') || !parent.checkVisibility({ visibilityProperty: true })) continue;
@@ -200,6 +226,7 @@ PRESENT = r"""(() => {
   for (const part of parts.map(byId)) if (part.scrollHeight > part.clientHeight + 1 || part.scrollWidth > part.clientWidth + 1) past.push(part.id);
   if (document.documentElement.scrollHeight > innerHeight) past.push('page');
   return JSON.stringify({ least: Math.min(...texts.map(text => text[1])), parts: [...new Set(texts.map(text => text[0]))].sort(), past, reach: run.reach,
+    legend: [...byId('legend').children].filter(item => item.checkVisibility()).map(item => item.innerText.trim()),
     three: [...byId('three').children].map(line => line.textContent.trim()), current: [...byId('three').children].findIndex(line => line.ariaCurrent),
     lines: [...byId('three').children].map(line => line.clientHeight), cut: [...byId('three').querySelectorAll('.trap .reply, .data + .reply')]
       .filter(reply => reply.scrollWidth > reply.clientWidth + 1 || reply.getBoundingClientRect().right > byId('three').getBoundingClientRect().right).length, room: [view.mapWidth, view.mapHeight], shape: { ...map.shape, top: map.top } });
@@ -213,7 +240,7 @@ IN_SIGHT = r"""JSON.stringify(['.reply', '.note'].map(kind => [...document.query
 
 NOTES = "JSON.stringify([...document.querySelectorAll('#lines .note')].map(note => note.textContent))"
 HARM = """JSON.stringify([window.evil ?? null, document.images.length, document.scripts.length,
-  document.querySelectorAll('#title *, #lines :not(ol, li, p, div, button, span, code), #what :not(p, code, b), a:not(#whole), iframe, plaintext').length])"""
+  document.querySelectorAll('#title *, #lines :not(ol, li, p, div, button, span, code), #what :not(p, code, b, span), a:not(#whole), iframe, plaintext').length])"""
 NO_HARM = "[null,0,3,0]"
 
 PICTURES = [
@@ -273,7 +300,7 @@ class Expected:
             authority = words[name_of == "loadcap"]
             block = state.block_of(Word(state.register(int(authority[1:]))[1]).base)
             told = f"The block of {state.name(block)} is held: {authority} is stale"
-            self.check(f"{name}: a stale capability is told", [told in sentence, "is stale" in sentence], [state.blocks[block] != "live"] * 2)
+            self.check(f"{name}: a stale capability is told", [told in sentence, "is stale, and still works" in sentence], [state.blocks[block] != "live"] * 2)
         if not is_trap and name_of != "show":
             self.check(f"{name}: the sentence has the numbers of the reply", [number for number in numbers if number not in sentence], [])
 
@@ -303,16 +330,25 @@ class Expected:
     def compare_pages(self, name, index, state, seen):
         """Pages at the edge of their rows, those that are dirty, and those at which an end looks."""
         shape = seen["shape"]
-        count = -(-shape["shown"] // 256)
-        tall = 256 / shape["columns"] * shape["height"]
-        tops = [(page * tall, min((page + 1) * tall, shape["bottom"])) for page in range(count)]
-        self.check(f"{name}: pages stand at their rows", [[page, abs(y - tops[page][0]) < 2, abs(y + height - tops[page][1]) < 2] for page, _, y, _, height in seen["pages"]],
-                   [[page, True, True] for page in range(count)])
+        folds, room = self.run.folds, round(20 * shape["scale"])
+        shown = [page for page in range(-(-shape["shown"] // 256)) if not any(first <= page < end for first, end in folds)]
+        tall, count = 256 / shape["columns"] * shape["height"], -(-shape["shown"] // 256)
+        bottom = lambda page: self.row(shape, min((page + 1) * 256, shape["shown"]) - 1) + shape["height"]
+        tops = {page: (self.row(shape, page * 256), bottom(page)) for page in shown}
+        self.check(f"{name}: pages stand at their rows", [[page, abs(y - tops[page][0]) < 2, abs(y + height - tops[page][1]) < 2] for page, _, y, _, height in seen["pages"] if page in tops],
+                   [[page, True, True] for page in shown])
+        self.check(f"{name}: pages that are left out have gaps", [[gap, f"pages {gap.split()[0]} to {int(gap.split()[1]) - 1}" in text, y, height < room] for gap, text, _, y, _, height in seen["gaps"]],
+                   [[f"{first} {end}", True, self.row(shape, first * 256 - 1) + shape["height"] + 3, True] for first, end in folds])
         self.check(f"{name}: pages are named", [called for page, called, *_ in seen["pages"] if called or tall >= 13], [f"page {page}" for page, called, *_ in seen["pages"] if called or tall >= 13])
         self.check(f"{name}: dirty pages are hatched", seen["dirty"], [[page, 'url("#dirty-pattern")'] for page in sorted(state.dirty) if page < count])
         self.check(f"{name}: pages at which an end looks", [page for page, _ in seen["looked"]], [page for page in self.run.looked(index) if page < count])
         self.check(f"{name}: they are shaded over their rows", [page for page, (x, y, width, height) in seen["looked"]
                    if abs(x - shape["gutter"]) > 1 or abs(width - shape["columns"] * shape["width"]) > 1 or abs(y - tops[page][0]) > 1 or abs(y + height - tops[page][1]) > 1], [])
+
+    def row(self, shape, place):
+        """Where the row of a granule begins, from the top on: gaps stand for the pages before it that are left out."""
+        before = [end - first for first, end in self.run.folds if end * 256 <= place]
+        return (place - 256 * sum(before)) // shape["columns"] * shape["height"] + round(20 * shape["scale"]) * len(before)
 
     def compare_registers(self, name, index, state, rows, side):
         lost = {row[1] for row in self.run.taken(index) or [] if row[0] == "register"} if side != "before" else set()
@@ -362,7 +398,7 @@ class Expected:
         for row, (_, (start, end)) in zip(rows, seen["reasons"]):
             base = (row[4].base - self.run.base) / 16
             shape = seen["shape"]
-            x, y = shape["gutter"] + base % shape["columns"] * shape["width"], base // shape["columns"] * shape["height"]
+            x, y = shape["gutter"] + base % shape["columns"] * shape["width"], self.row(shape, base)
             self.check(f"{name}: the line of {row[2]} ends at the base", [abs(end[0] - x) < 3, -1 < end[1] - y < shape["height"] / 2], [True, True])
             if row[0] == "granule":
                 self.check(f"{name}: the line of {row[2]} begins at the word", self.is_in_cell(seen, row[1], [*start, 0, 0]), True)
@@ -405,25 +441,26 @@ class Expected:
                    ["If these bytes were a capability", "As text: " + page_model.text_of(text)] if is_data else [None, None])
         both = [("base, address", word.base)] if word.base == word.address else [("base", word.base), ("address", word.address)]
         pins = [] if hidden else [(pin, address) for pin, address in both if self.run.base <= address < end]
-        self.check(f"{name}: base and address on the map", [pin for pin, _ in seen["pins"]], [pin for pin, _ in pins])
-        for (pin, address), (_, at) in zip(pins, seen["pins"]):
+        self.check(f"{name}: base and address on the map", [pin for pin, *_ in seen["pins"]], [pin for pin, _ in pins])
+        for (pin, address), (_, at, note) in zip(pins, seen["pins"]):
             shape, place = seen["shape"], (address - self.run.base) / 16
-            x, y = shape["gutter"] + place % shape["columns"] * shape["width"], place // shape["columns"] * shape["height"]
+            x, y = shape["gutter"] + place % shape["columns"] * shape["width"], self.row(shape, place)
             self.check(f"{name}: the {pin} stands in its cell", [0 <= at[0] - x < shape["width"], 0 < at[1] - y < shape["height"]], [True, True])
+            self.check(f"{name}: the word {pin} stands in its row", 0 < note[1] - y < shape["height"], True)
 
     def areas(self, name, index, found):
         """Each granule lies in the area of its own block and in no other, and in the bounds chosen where they have it."""
         state, (bounds, granules) = self.run.states[index], found
-        wanted = [[block_key(block) for block in state.blocks if block[0] <= self.run.base + 16 * place < block[1]] for place in range(len(granules))]
-        self.check(f"{name}: areas", [(place, got, want) for place, ((got, _), want) in enumerate(zip(granules, wanted)) if got != want], [])
+        wanted = [[block_key(block) for block in state.blocks if block[0] <= self.run.base + 16 * place < block[1]] for place, *_ in granules]
+        self.check(f"{name}: areas", [(place, got, want) for (place, got, _), want in zip(granules, wanted) if got != want], [])
         if bounds:
             base, top = (int(bound, 16) for bound in bounds.split())
-            whole = [place for place in range(len(granules)) if not any(0 < edge - self.run.base - 16 * place < 16 for edge in (base, top))]
-            self.check(f"{name}: the area of the bounds", [place for place in whole if granules[place][1] != (base <= self.run.base + 16 * place < top)], [])
+            whole = [(place, is_in) for place, _, is_in in granules if not any(0 < edge - self.run.base - 16 * place < 16 for edge in (base, top))]
+            self.check(f"{name}: the area of the bounds", [place for place, is_in in whole if is_in != (base <= self.run.base + 16 * place < top)], [])
 
     def is_in_cell(self, seen, place, box):
         shape, (x, y, width, height) = seen["shape"], box
-        left, top = shape["gutter"] + place % shape["columns"] * shape["width"], place // shape["columns"] * shape["height"]
+        left, top = shape["gutter"] + place % shape["columns"] * shape["width"], self.row(shape, place)
         return left <= x and x + width <= left + shape["width"] and top <= y and y + height <= top + shape["height"]
 
 

@@ -29,6 +29,9 @@ TRACES = {
     "past": ["heap 0x40000000 1", "malloc c1 16", "setaddr c2 c1 0x50000000", "setaddr c3 c2 0x60000000", "setaddr c4 c3 0x60000001", "setaddr c3 c3 0x40000004",
              "setaddr c0 c1 5", "show c0", "storecap c1 c2", "loadcap c0 c1", "loadcap c5 c1", "begin", "end", "sweep", "free c1", "begin", "malloc c6 4096",
              "end", "malloc c7 4096", "malloc c8 16", "free c7", "malloc c0 16"],
+    "wide": ["heap 0x40000000 1024", "malloc c1 4096", "malloc c2 4080000", "malloc c3 4096", "malloc c4 64", "storecap c4 c3", "storecap c1 c2", "free c2",
+             "malloc c5 64", "sweep", "malloc c6 32", "malloc c7 200000", "setaddr c8 c7 0x40010000", "narrow c8 c8 64", "storecap c8 c1", "setaddr c9 c7 0x40031e00", "narrow c9 c9 16", "copy c9 c7", "setaddr c9 c9 0x40020008",
+             "free c7", "begin", "storecap c6 c6", "malloc c0 600000", "end", "malloc c1 4194304", "show c8"],
     "traps": ["heap 0x40000000 1", "show c9", "free c9", "malloc c1 48", "narrow c2 c1 0", "narrow c2 c1 49", "setaddr c2 c1 0x40000001",
               "loadcap c3 c2", "write c2 " + "0f" * 16, "free c2", "andperm c4 c1 0", "loadcap c5 c4", "storecap c4 c1", "free c4", "free c1", "copy c0 c1", "loadcap c0 c1"],
 }
@@ -222,6 +225,19 @@ class Run:
         self.written = sorted({entry["r"] for value in self.values for entry in value["registers"]})
         reach = max([(block[1] - self.base) // 16 for state in self.states for block in state.blocks], default=4)
         self.used = min(256 * self.pages, max(16, 1 << (reach - 1).bit_length()))
+
+        self.folds = self.pages_left_out(reach)
+
+    def pages_left_out(self, reach):
+        """From the first up to the end of each 8 pages or more in a row, before the last one that is used, that have no end of a block, no granule
+        that is written, and neither an end of the bounds nor the address of a word."""
+        last, cells = reach - 1 >> 8, [entry for value in self.values for entry in (*value["registers"], *value["granules"])]
+        blocks = {(int(entry["base"], 16), int(entry["top"], 16)) for value in self.values for entry in value["blocks"]}
+        words = [Word(text) for text in {entry["word"] for entry in cells}]
+        addresses = {address for low, high in (*blocks, *map(Word.bounds, words)) for address in (low, high - 1)} | {word.address for word in words}
+        pages = {(address - self.base) // 4096 for address in addresses} | {entry["i"] // 256 for entry in cells if "i" in entry}
+        edges = sorted({-1, last, *(page for page in pages if 0 <= page < last)})
+        return [(one + 1, other) for one, other in zip(edges, edges[1:]) if other - one > 8]
 
     def before(self, index):
         return self.states[max(index - 1, 0)]

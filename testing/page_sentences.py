@@ -1,7 +1,7 @@
 """What the sentence of a step must say, and what it must not, by the command, its answer and the states around it. Nothing here
 is shared with the page: the rules say which facts are true of a step, and in which words the page tells each."""
 
-from page_model import Word
+from page_model import NULL_WORD, Word
 
 NEEDED = {"loadcap": [(2, "LOAD")], "write": [(3, "STORE")], "storecap": [(3, "STORE"), (5, "STORE_CAPABILITY")]}
 TRAPS = {"empty": "a length of 0 has no bounds", "inexact": "no word can hold just these bounds", "freed": "was freed before, and is held",
@@ -73,9 +73,47 @@ def of_malloc(step):
     why = None if has_place or swept else "An epoch is open, so no sweep may come first." if step.before.open else "No block is held, so no sweep would help."
     must, must_not = choose(("An epoch is open", "An epoch is open, so no sweep may come first.", "No block is held, so no sweep would help."), why)
     must_not = [it for it in must_not if not (why or "").startswith(it)]
-    must += ["becomes live", "gets its capability, tagged"] if has_place else ["No place is long enough", "becomes null"]
+    must += ["becomes live", "gets its capability, tagged"] if has_place else ["No place is long enough", "becomes null", *rounding(int(step.words[1], 0))]
     (must if swept else must_not).append("a sweep came first and took")
     return must, must_not
+
+
+def rounding(size):
+    """What is said of a block that is longer than asked, or begins at multiples of more than a granule."""
+    unit, length = 16, max(size, 1)
+    while True:
+        length = -(-length // unit) * unit
+        exponent = 0
+        while length >= 8192 << exponent:
+            exponent += 1
+        if 8 << exponent <= unit or length < 4096:
+            break
+        unit = 8 << exponent
+    return [f"whose block has {length:,} and begins at a multiple of {unit}"] if length != size or unit > 16 else []
+
+
+def of_copy(step):
+    tag, word = step.register(step.before, step.words[1])
+    if tag:
+        return [f"gets the bits and the tag of {step.words[1]}."], ["becomes null", "which has no tag"]
+    if word.text == NULL_WORD:
+        return [f"becomes null, as {step.words[1]} is."], ["gets the bits", "which has no tag"]
+    return [f"gets the bits of {step.words[1]}, which has no tag."], ["becomes null", "and the tag of"]
+
+
+def of_narrow(step):
+    _, old = step.register(step.before, step.words[1])
+    _, new = step.register(step.after, step.words[0])
+    must, must_not = choose(("with the same bounds", "with narrower bounds"), "with the same bounds" if old.bounds() == new.bounds() else "with narrower bounds")
+    return [*must, "from its address on"], must_not
+
+
+def of_andperm(step):
+    """Of the five permissions those that are left, of those that there were, by their letters."""
+    _, old = step.register(step.before, step.words[1])
+    _, new = step.register(step.after, step.words[0])
+    letters = ["".join(letter for bit, letter in ((2, "r"), (3, "w"), (4, "R"), (5, "W"), (0, "g")) if word.permissions >> bit & 1) or "none" for word in (new, old)]
+    return [f"with those permissions that {step.words[2]} has too: {letters[0]} of {letters[1]}."], []
 
 
 def of_setaddr(step):
@@ -98,6 +136,10 @@ def of_loadcap(step):
 def of_storecap(step):
     tag, _ = step.register(step.before, step.words[1])
     must, must_not = choose((" and its tag.", ", which has no tag."), " and its tag." if tag else ", which has no tag.")
+    _, source = step.register(step.before, step.words[1])
+    block = step.before.block_of(source.base) if tag else None
+    is_stale = block is not None and step.before.blocks[block] != "live" and step.words[0] != step.words[1]
+    (must if is_stale else must_not).append(f"What is stored is stale: the block of {step.before.name(block)} is held." if is_stale else "What is stored is stale")
     _, through = step.register(step.before, step.words[0])
     is_told = tag and step.before.open
     (must if is_told else must_not).append(f"page {(through.address - step.run.base) // 4096} is dirty now" if is_told else "is dirty now")
@@ -126,7 +168,7 @@ def of_end(step):
     must, must_not = choose((late,), late if step.waits(step.after) else None)
     pages = step.run.looked(step.index)
     named = ", ".join(f"page {page}" for page in pages[:8]) + (", .." if len(pages) > 8 else "")
-    return ["The epoch ends: ", f"in dirty pages ({named or 'there is none'})", *must], [*must_not, *([] if must else ["wait on"])]
+    return ["The epoch ends: ", f"and in dirty pages ({named})" if named else "in registers (no page is dirty)", *must], [*must_not, *([] if must else ["wait on"])]
 
 
 def of_free(step):
@@ -139,9 +181,7 @@ def of_free(step):
 RULES = {
     "malloc": of_malloc, "free": of_free, "setaddr": of_setaddr, "loadcap": of_loadcap, "storecap": of_storecap, "show": of_show,
     "sweep": of_sweep, "begin": of_begin, "end": of_end,
-    "copy": lambda step: ([f"{step.words[0]} gets the bits and the tag of {step.words[1]}."], []),
-    "narrow": lambda step: (["with narrower bounds", "from its address on"], []),
-    "andperm": lambda step: (["with those permissions that"], []),
+    "copy": of_copy, "narrow": of_narrow, "andperm": of_andperm,
     "write": lambda step: (["16 bytes of data, and no tag"], []),
     "heap": lambda step: (["A new heap"], []),
 }

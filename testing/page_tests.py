@@ -9,12 +9,16 @@ import subprocess
 import time
 
 import page_browser
+import page_languages
 import page_long
 import page_look
 import page_model
-from page_model import Word, hexadecimal
+import page_texts
+from page_model import NULL_WORD, Word, hexadecimal
 
 PICTURED = "lesson_use_after_free"
+# What a command is in CHERI-RISC-V.
+INSTRUCTIONS = {"copy": "CMove", "setaddr": "CSetAddr", "narrow": "CSetBoundsExact", "andperm": "CAndPerm", "storecap": "CSC", "loadcap": "CLC"}
 HEAP_LINE = "the first line is 'heap BASE PAGES': BASE a multiple of 4096, PAGES 1 to 1024, the end at most 2^64"
 FAULTS = {
     b"heap 0 1\n\ncopy c1 c99\n": "line 3 of the trace, 'copy c1 c99': bad-register: a register is c0 to c31",
@@ -123,6 +127,45 @@ class Tests(page_long.LongTests):
             other = min(other, len(expected.run.values) - 1)
             expected.compare(f"{name} from within step {index} to {other}", other, self.look())
 
+    def named(self, root):
+        """The names of blocks and the notes of pins are whole or aren't there, on each kind of screen."""
+        traces = {name: (self.root / f"examples/lesson_{name}/stdin").read_bytes() for name in ("use_after_free", "a_derived_pointer_goes_by_its_base", "contents_stay")}
+        traces |= {name: "\n".join(page_model.TRACES[name]).encode() for name in ("past", "again")}
+        seen = 0
+        for name, raw in traces.items():
+            path, last = self.page(root, raw, name), len(page_model.Trace(raw).counted) - 1
+            for width, height, act in ((1440, 900, ""), (1024, 768, "byId('columns').value = 32; byId('columns').dispatchEvent(new Event('change'))"), (390, 844, ""),
+                                       (1280, 720, "togglePresent()"), (1024, 768, "togglePresent()"), (900, 520, "embed()")):
+                self.open(path, width=width, height=height)
+                self.browser.run(act)
+                for index in range(last + 1):
+                    for side in ("after", "before")[: 1 + self.browser.run(f"Number(run.steps[{index}].taken !== null)")]:
+                        named, cut = json.loads(self.browser.run(f"go({index}); show('{side}'); {page_look.CUT}"))
+                        seen += len(named)
+                        self.check(f"{name}, {width} wide, {act or 'as it opens'}, step {index} {side}: names are whole", cut, [])
+            self.no_noise(name)
+        self.check("there are names", seen > 100, True)
+
+    def gaps(self, root):
+        """Over pages that are left out the cursor goes at once, the pointer finds nothing in them, and All shows them."""
+        run, key, check = self.browser.run, self.browser.key, self.check
+        self.open(self.page(root, "\n".join(page_model.TRACES["wide"]).encode(), "wide"))
+        run("go(5); byId('map').scrollIntoView({ block: 'center' }); byId('map').focus(); view.cursor = 2 * 256 - 64 + 5")
+        for name, place in (("ArrowDown", 16 * 256 + 5), ("ArrowUp", 2 * 256 - 64 + 5), ("End", 2 * 256 - 1), ("ArrowRight", 16 * 256), ("ArrowLeft", 2 * 256 - 1)):
+            key(name)
+            check(f"the cursor at a gap, {name}", run("view.cursor"), place)
+        for name, part, place in (("above", "parts[0].bottom - 1", 2 * 256 - 64), ("in it", "gaps[0].top + 9", None), ("below", "gaps[0].bottom + 1", 16 * 256)):
+            run("view.cursor = null")
+            x, y = json.loads(run(f"(() => {{ const b = byId('map').getBoundingClientRect(); return JSON.stringify([b.x + map.shape.gutter + 3, b.y + map.top + map.shape.{part}]); }})()"))
+            self.browser.mouse("mouseMoved", x, y)
+            check(f"the pointer {name} of a gap", run("view.cursor"), place)
+        run("byId('all').click()")
+        check("all pages are there", [run("map.shape.shown"), run("document.querySelectorAll('#map [data-page]').length"), run("document.querySelectorAll('#map [data-gap]').length")], [262144, 1024, 0])
+        run("view.cursor = 100000; placeCursor(); byId('used').click()")
+        check("a cursor on a page that is left out isn't drawn", run("map.cursor.getAttribute('visibility')"), "hidden")
+        run("byId('typed').value = '00001040000000000480090400003d00'; byId('typed').dispatchEvent(new Event('input'))")
+        self.no_noise("gaps")
+
     # Words and addresses
 
     def words(self, root):
@@ -177,7 +220,7 @@ class Tests(page_long.LongTests):
         run, check = self.browser.run, self.check
         step = lambda: run("Number(document.querySelector('#lines [aria-current]').dataset.step)")
         self.names()
-        for key, wanted in (("PageDown", 0), ("End", 9), ("Home", 0), ("ArrowRight", 1), ("ArrowDown", 2), ("ArrowRight", 3)):
+        for key, wanted in (("PageDown", 0), ("End", 11), ("Home", 0), ("ArrowRight", 1), ("ArrowDown", 2), ("ArrowRight", 3)):
             self.browser.key(key)
             check(f"the key {key}", step(), wanted)
         check("tab reaches the map", self.tab_to("#map"), True)
@@ -194,7 +237,7 @@ class Tests(page_long.LongTests):
         self.browser.key("End")
         check("past the window the tag goes", "So setaddr takes the tag." in run("byId('verdict').textContent"), True)
         check("tab reaches the list", self.tab_to("#lines [aria-current]"), True)
-        for key, wanted in (("PageUp", 0), ("PageDown", 9)):
+        for key, wanted in (("PageUp", 0), ("PageDown", 10)):
             self.browser.key(key)
             check(f"{key} in the list", step(), wanted)
         run("go(3)")
@@ -249,7 +292,7 @@ class Tests(page_long.LongTests):
         x, y = json.loads(self.browser.run(middle % "'[data-step=\"2\"]'"))
         self.browser.click(x, y)
         self.check("a click in the list", step(), 2)
-        for name, wanted in (("next", 3), ("back", 2), ("last", 9), ("first", 0), ("next", 1), ("next", 2), ("next", 3)):
+        for name, wanted in (("next", 3), ("back", 2), ("last", 11), ("first", 0), ("next", 1), ("next", 2), ("next", 3)):
             x, y = json.loads(self.browser.run(middle % f"'#{name}'"))
             self.browser.click(x, y)
             self.check(f"the button {name}", step(), wanted)
@@ -283,16 +326,63 @@ class Tests(page_long.LongTests):
         seen = json.loads(self.browser.run(page_look.PRESENT))
         shape, room = seen["shape"], seen["room"]
         self.check(f"{name}: letters are large", seen["least"] >= letters, True)
-        self.check(f"{name}: nothing else is in sight", seen["parts"], ["map", "registers", "three", "told"])
+        self.check(f"{name}: nothing else is in sight", [part for part in seen["parts"] if part != "legend"], ["map", "registers", "three", "told"])
+        self.check_legend(name, model, index, seen["legend"])
         self.check(f"{name}: all of it is on the screen", seen["past"], [])
         rows = [model.trace.counted[at] if 0 <= at < len(model.values) else None for at in (index - 1, index, index + 1)]
         replies = [model.values[at]["reply"] if at >= 0 else "" for at in (index - 1, index)] + [""]
-        wanted = [f"{row[0]} {row[1]}" + (f" → {reply}" if reply else "") if row else "" for row, reply in zip(rows, replies)]
+        instructions = [INSTRUCTIONS.get(row[1].split()[0]) if row else None for row in rows]
+        wanted = [f"{row[0]} {row[1]}" + (f" → {reply}" if reply else "") + (f" {instruction}" if instruction else "") if row else ""
+                  for row, reply, instruction in zip(rows, replies, instructions)]
         self.check(f"{name}: three lines, the next one without its reply", [seen["three"], seen["current"]], [wanted, 1])
         self.check(f"{name}: each is a line, and no trap is cut", [max(seen["lines"]) < 2.2 * letters, seen["cut"]], [True, 0])
         self.check(f"{name}: the map has what is used, and no row more", 0 <= shape["shown"] - seen["reach"] < shape["columns"], True)
         wide, high = shape["full"] / room[0], (shape["top"] + shape["bottom"]) / room[1]
         self.check(f"{name}: it fills its room", [max(wide, high) > 0.75, wide <= 1, high <= 1], [True] * 3)
+
+    def check_legend(self, name, model, index, legend):
+        """It names what the map has and nothing else, as far as its line goes."""
+        state, before, taken = model.states[index], model.before(index), model.taken(index) or []
+        lost = {row[1] for row in taken if row[0] == "granule" and not state.granule(row[1])[0]}
+        has_chips = any(row[0] == "register" for row in taken) and not model.values[index]["text"].startswith("malloc ")
+        marks = {"live": "live" in state.blocks.values(), "held": "waiting" in state.blocks.values(), "painted": "painted" in state.blocks.values(),
+                 "was held": any(block not in state.blocks for block in before.blocks), "tagged": any(tag for tag, _ in state.granules.values()),
+                 "tag taken": bool(lost) or has_chips, "data": any(not tag and word != NULL_WORD and place not in lost for place, (tag, word) in state.granules.items()),
+                 "changed": bool(model.changes(index, "granules")), "bounds": "bounds" in legend, "dirty page": bool(state.dirty), "page at which an end looks": bool(model.looked(index))}
+        wanted = [mark for mark, is_there in marks.items() if is_there]
+        self.check(f"{name}: the legend has what the map has", [legend, len(legend) >= min(len(wanted), 5)], [wanted[:len(legend)], True])
+
+    def small_screens(self, root):
+        """On 1,024 by 768 all of the screen for a class is in sight but for registers that are scrolled, and on a phone what is told, the map and its legend."""
+        run, low = self.browser.run, "Math.max(...['three', 'told', 'map', 'legend'].map(name => byId(name).getBoundingClientRect().bottom))"
+        for folder in self.lessons():
+            name, raw = folder.name, (folder / "stdin").read_bytes()
+            path, model = self.page(root, raw, name), page_model.Run(raw, self.data(raw))
+            for width, height in ((1024, 768), (390, 844)):
+                self.open(path, width=width, height=height, at="#present&step=1")
+                for index in range(len(model.values)):
+                    seen = json.loads(run(f"go({index}); {page_look.PRESENT}"))
+                    told = f"{name} on {width} by {height}, step {index}"
+                    self.check(f"{told}: the map, what is told and the legend are in sight", [run(low) <= height, "map" in seen["past"], "told" in seen["past"], "legend" in seen["past"]], [True] + [False] * 3)
+                    self.check_legend(told, model, index, seen["legend"])
+            self.no_noise(name)
+
+    TABBED = "['header', '#desk', '#three', '#told', '#map', '#stage', '#registers', '#inspector', '#trace', '#glossary'].find(name => document.activeElement.closest(name)) ?? null"
+
+    def tabs(self, root):
+        """Tab goes from part to part as they stand: by rows, and in these from left to right."""
+        raw = (self.root / "examples" / PICTURED / "stdin").read_bytes()
+        for at, wanted in (("#step=5", ["header", "#trace", "#stage", "#map", "#stage", "#registers", "#inspector"]), ("#present&ask&step=4", ["#told", "#map", "#registers"])):
+            self.open(self.page(root, raw, "tabs"), at=at)
+            visited = []
+            for _ in range(90):
+                self.browser.key("Tab")
+                visited.append(self.browser.run(self.TABBED))
+            parts = [part for part, before in zip(visited, [None, *visited]) if part and part != before]
+            self.check(f"Tab on {at}", parts[:len(wanted)], wanted)
+            places = json.loads(self.browser.run(f"scrollTo(0, 0); JSON.stringify({json.dumps([part for part in wanted if part != '#stage'])}.map(name => {{"
+                                                 " const { left, top } = document.querySelector(name === '#map' && !view.present ? '#stage' : name).getBoundingClientRect(); return [Math.round(top), Math.round(left)]; }))"))
+            self.check(f"so they stand on {at}", places, sorted(places))
 
     def ask(self, root):
         """What comes is hidden, and ticks are asked for before each pass and judged at it, in each lesson."""
@@ -320,20 +410,26 @@ class Tests(page_long.LongTests):
         run, check, state = self.browser.run, self.check, model.states[index]
         boxes = json.loads(run("JSON.stringify([...document.querySelectorAll('[data-tick]')].map(box => box.dataset.tick))"))
         taken = model.taken(index + 1) if index + 1 < len(model.values) else None
+        is_malloc = index + 1 < len(model.values) and model.values[index + 1]["text"].startswith("malloc ")
+        may_pass = "waiting" in state.blocks.values() and not state.open if is_malloc else taken is not None
         tagged = [f"c{number}" for number in range(1, 32) if state.register(number)[0]]
         tagged += [hexadecimal(model.base + 16 * place) for place in sorted(state.granules) if state.granule(place)[0]]
-        check(f"{name}: what may be ticked", boxes, tagged if taken is not None else [])
-        if taken is None:
+        check(f"{name}: what may be ticked", boxes, tagged if may_pass else [])
+        if not may_pass:
             return
+        asked = run("byId('guess').textContent")
+        check(f"{name}: a malloc is asked about whether it sweeps or not", "a malloc, which sweeps first where it finds no place" in asked, is_malloc)
         run("document.querySelectorAll('[data-tick]').forEach((box, index) => { if (box.checked !== (index % 2 === 0)) box.click(); })")
-        took, ticked = [row[2] for row in taken], tagged[::2]
+        took, ticked = [row[2] for row in taken or []], tagged[::2]
         kinds = [("right", [each for each in ticked if each in took]), ("not taken", [each for each in ticked if each not in took]),
                  ("taken, and not ticked", [each for each in took if each not in ticked])]
         told = "; ".join(f"{kind} {', '.join(names)}" for kind, names in kinds if names) or "right, it took none"
+        if taken is None:
+            told = f"{'not taken' if ticked else 'right'}, it found a place, so it made no sweep"
         run(f"go({index + 1})")
         check(f"{name}: the ticks are judged", run("byId('judged').textContent"), f"{'Your ticks' if ticked else 'You ticked nothing'}: {told}.")
         run(f"go({index})")
-        check(f"{name}: the ticks are kept", run("document.querySelectorAll('[data-tick]:checked').length"), len(ticked))
+        check(f"{name}: the ticks are kept, once and for all", run("[document.querySelectorAll('[data-tick]:checked').length, document.querySelectorAll('[data-tick]:enabled').length]"), [len(ticked), 0])
 
     # The address, the keys, words that are typed
 
@@ -357,7 +453,7 @@ class Tests(page_long.LongTests):
             self.browser.key("ArrowRight")
             self.settle()
             check(f"{at}: a step on is told", run("location.hash"), at.replace("&side=before", "").replace(f"step={wanted[0]}", f"step={wanted[0] + 1}"))
-        for at, step in (("#step=99999&side=between&pick=c99&row=17", 11), ("#step=-1&pick=0x40000008", 0), ("#<b>=%3Cb%3E&step=1e1", 0), ("#pick=0x50000000&side=after", 0)):
+        for at, step in (("#step=99999&side=between&pick=c99&row=17", 12), ("#step=-1&pick=0x40000008", 0), ("#<b>=%3Cb%3E&step=1e1", 0), ("#pick=0x50000000&side=after", 0)):
             self.open(path, at=at)
             check(f"{at}: what is no place is passed over", [run("view.step"), run("view.side"), run("view.follow"), run("view.columns")], [step, "after", True, 16])
             self.no_noise(at)
@@ -509,16 +605,20 @@ class Tests(page_long.LongTests):
         for name, text, words in (("a fault", b"heap 0 1\ncopy c1 c99\n", ()), ("no heap", b"", ()), ("too long", b"#" * 4_194_305, ()),
                                   ("a word that is none", raw, ("--nothing",))):
             wanted, made = states(text, words), self.make(self.root, text, words)
-            check(f"{name}: the answer is that of ./heap_states", (made.returncode, made.stdout), (wanted.returncode, wanted.stdout))
+            answer = wanted.stdout.replace(b"heap_states [", b"heap_page [--language NAME] [--playground-at PLACE] [").replace(b"N]\n", b"N] or heap_page [--language NAME] --playground\n")
+            check(f"{name}: the answer is that of ./heap_states, by this name", (made.returncode, made.stdout), (wanted.returncode, answer))
             check(f"{name}: that is no page", made.returncode in (2, 3) and made.stdout != b"" and b"<" not in made.stdout, True)
         for text, told in FAULTS.items():
             made = self.make(self.root, text)
             check(f"{text[:60]}: the fault is told with its line and what is wanted there", (made.returncode, made.stderr.decode()), (3, f"heap_page: {told}\n"))
-        for name, text, commands, pages in (("20,001 commands", b"heap 0 1\n" + b"sweep\n" * 20001, 20001, 1), ("65 pages", b"heap 0 65\nsweep\n", 1, 65)):
+        log = (self.root / "examples/check_agrees/stdin").read_bytes()
+        for text, told in ((log, "the text is a log, with answers behind ->: ./heap_check judges it"),
+                           (b"\xef\xbb\xbf" + raw, "the text begins with a byte order mark, which is no part of a trace: save it without")):
             made = self.make(self.root, text)
-            told = f"heap_page: a trace for a page has at most 20000 commands and 64 pages, and this one has {commands} and {pages}\n"
-            check(f"{name}: told with the limit", (made.returncode, made.stdout, made.stderr.decode()), (5, b"", told))
-        check("20,000 commands and 64 pages have a page", self.make(self.root, b"heap 0 64\n" + b"sweep\n" * 20000).returncode, 0)
+            check(f"{told}: it is said after the faulty line", (made.returncode, made.stderr.decode().split("\n")[1:]), (3, [f"heap_page: {told}", ""]))
+        made, told = self.make(self.root, b"heap 0 1\n" + b"sweep\n" * 20001), "heap_page: a trace for a page has at most 20000 commands, and this one has 20001\n"
+        check("20,001 commands: told with the limit", (made.returncode, made.stdout, made.stderr.decode()), (5, b"", told))
+        check("20,000 commands and 1,024 pages have a page", self.make(self.root, b"heap 0 1024\n" + b"sweep\n" * 20000).returncode, 0)
         with open("/dev/full", "wb") as full:
             check("a page that can't be written", subprocess.run([self.root / "heap_page"], input=raw, stdout=full, stderr=subprocess.DEVNULL).returncode, 4)
         folder = os.open(self.scratch, os.O_RDONLY)
@@ -632,6 +732,36 @@ class Tests(page_long.LongTests):
             own = {name for name in called if re.search(rf"(?:const|let|function|[{{,\[(]) ?{name}\b(?!\()", body)}
             self.check(f"{part}: it uses what it imports, and imports what it calls", [sorted(set(named) - used), sorted(called - set(named) - own)], [[], []])
 
+    def texts(self, root):
+        """Each text that is said in the page's sources has its row in each language, and each row its text; what stands for values stands in both, and
+        so do both forms of a count."""
+        said, strange = page_texts.sources(root, self.root / "examples")
+        self.check("a plain literal stands behind each call that says one", strange, [])
+        everywhere = [text for texts in said.values() for text in texts]
+        self.check("there are texts of each kind of file", [name for name, count in (("words.js", 60), ("viewer.html", 120), ("playground/goal.js", 40), ("../heap_page", 6),
+                   ("../examples", len(self.lessons())), ("playground/tasks.txt", 16), ("playground/goals.txt", 30)) if len(said[name]) < count], [])
+        languages = sorted((root / "page/languages").glob("*.txt"))
+        self.check("German is there", "de" in [table.stem for table in languages], True)
+        for table in languages:
+            rows, strange = page_texts.rows_of(table, table.stem)
+            english = [text for text, _ in rows]
+            self.check(f"{table.name}: it has rows, comments and nothing else", strange, [])
+            self.check(f"{table.name}: no text of the page lacks its row", sorted(set(everywhere) - set(english)), [])
+            self.check(f"{table.name}: each row is of a text of the page", sorted(set(english) - set(everywhere)), [])
+            self.check(f"{table.name}: no text has two rows", sorted(text for text in set(english) if english.count(text) > 1), [])
+            self.check(f"{table.name}: each text is there, with no blanks around it", [text for text, own in rows if own.strip() != own or own == ""], [])
+            self.check(f"{table.name}: the same values, forms and signs in both", [(text, own) for text, own in rows if page_texts.signs(text) != page_texts.signs(own)], [])
+            self.check(f"{table.name}: no sign that markup would take for its own", [own for _, own in rows if re.search(r'[&"]|<(?!/?code>)', own)], [])
+
+    def translated(self, root):
+        """In a language of a file of its own, in a copy: nothing is said past the table."""
+        copy = root if root != self.root else self.copy("translated")
+        traces = [(name, "\n".join(page_model.TRACES[name]).encode()) for name in ("traps", "wide", "epochs")]
+        page_languages.travels(self, copy, self.lessons(), [*traces, ("random_zz", page_model.random_trace(60, 1, 3))])
+
+    def german(self, root):
+        page_languages.german(self, root)
+
     def second(self, root):
         """Another run in the place of the first: nothing is left of that, and all is as on a page of its own."""
         run, check, names = self.browser.run, self.check, ("lesson_an_epoch_with_a_store", "lesson_malloc_sweeps_when_full")
@@ -681,7 +811,9 @@ class Tests(page_long.LongTests):
             for index in range(last + 1):
                 run(f"go({index})")
                 seen = json.loads(run(page_look.EMBEDDED))
-                self.check(f"{name} in a frame, step {index}", seen, {"past": [], "parts": ["controls", "map", "registers", "three", "told", "track"], "letter": 13})
+                unnamed = run("[...document.querySelectorAll('#map .name')].filter(chip => chip.getClientRects().length === 0).length")
+                self.check(f"{name} in a frame, step {index}: each chip has its name", unnamed, 0)
+                self.check(f"{name} in a frame, step {index}", seen, {"past": [], "parts": ["controls", "legend", "map", "registers", "three", "told", "track"], "letter": 13})
             self.browser.key("p")
             self.browser.key("Escape")
             self.settle()
@@ -734,9 +866,9 @@ class Tests(page_long.LongTests):
             self.lesson(self.root, name, "\n".join(lines).encode())
         for seed in range(1, 7):
             self.lesson(self.root, f"random_{seed}", page_model.random_trace(60, 1, seed))
-        for test in (self.words, self.tries, self.controls, self.present, self.ask, self.addresses, self.letters, self.typed, self.colours, self.hostile,
+        for test in (self.words, self.tries, self.controls, self.named, self.gaps, self.tabs, self.present, self.small_screens, self.ask, self.addresses, self.letters, self.typed, self.colours, self.hostile,
                      self.quick, self.rows, self.print_all, self.dense, self.find, self.history, self.compared, self.pointers, self.band, self.files,
-                     self.handout, self.modules, self.second, self.kept_pages, self.embedded, self.phone, self.sideways, self.looks):
+                     self.handout, self.modules, self.texts, self.translated, self.german, self.second, self.kept_pages, self.embedded, self.phone, self.sideways, self.looks):
             test(self.root)
         self.answers()
         print(f"tried: the page in a browser, with {len(self.lessons())} lessons, {len(page_model.TRACES)} traces of edges and 6 random ones")

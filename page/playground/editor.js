@@ -1,6 +1,7 @@
 // The editor: CodeMirror with the words of the language.
 
 import { element } from '../dom.js';
+import { said } from '../say.js';
 
 // The commands, each with what follows its name, and what each fault wants: as ./heap_page tells them.
 const language = () => {
@@ -91,15 +92,16 @@ function toggleComments(editor) {
   }));
 }
 
-export function makeEditor(place, onChange, onLine) {
+/** @param {any} place @param {(isSet: boolean) => void} onChange @param {(line: number) => void} onLine @param {(line: number, text: string) => string | null} inC */
+export function makeEditor(place, onChange, onLine, inC) {
   const { forms, wanted } = language();
   defineLanguage(forms);
-  const marks = { now: null, fault: null, widget: null };
+  const marks = { now: null, fault: null, widget: null, asked: null };
   const editor = CodeMirror(place, { mode: 'trace', lineNumbers: true, lineWrapping: true, indentUnit: 0, smartIndent: false, undoDepth: 1000,
     extraKeys: { Tab: false, 'Shift-Tab': false, 'Ctrl-Space': 'autocomplete', 'Ctrl-Enter': () => onLine(editor.getCursor().line + 1),
       'Ctrl-/': () => toggleComments(editor) },
     hintOptions: { hint: () => hintsAt(editor, forms), completeSingle: false } });
-  editor.getInputField().setAttribute('aria-label', 'Trace');
+  editor.getInputField().setAttribute('aria-label', said('Trace'));
   shortenSelections(editor);
   editor.on('changes', (_, changes) => onChange(changes.every(change => change.origin === 'setValue')));
   // Commands alone are offered unasked: of registers, Enter behind c1 would take c10.
@@ -109,12 +111,30 @@ export function makeEditor(place, onChange, onLine) {
   });
   editor.on('gutterClick', (_, line) => onLine(line + 1));
 
+  // Within the editor: CodeMirror's own way would move the page too, off the map.
+  function bringIntoView(line) {
+    const { top, bottom } = editor.charCoords({ line, ch: 0 }, 'local'), seen = editor.getScrollInfo();
+    if (top < seen.top + 40 || bottom > seen.top + seen.clientHeight - 40) editor.scrollTo(null, top - seen.clientHeight / 2);
+  }
+
   // The line of the step that is shown.
   function showLine(line) {
     if (marks.now !== null) editor.removeLineClass(marks.now, 'wrap', 'now');
     marks.now = line && line <= editor.lineCount() ? editor.addLineClass(line - 1, 'wrap', 'now') : null;
-    if (marks.now && !editor.hasFocus()) editor.scrollIntoView({ line: line - 1, ch: 0 }, 40);
+    if (marks.now && !editor.hasFocus()) bringIntoView(line - 1);
   }
+
+  // While a class is asked first, comments behind the line of the step say too much.
+  function hideLater(line) {
+    if (marks.asked === line) return;
+    marks.asked = line;
+    editor.refresh();
+  }
+
+  editor.on('renderLine', (_, line, node) => {
+    node.dataset.c = inC(editor.getLineNumber(line) + 1, line.text) ?? '';
+    node.classList.toggle('later', marks.asked !== null && /^\s*#/.test(line.text) && editor.getLineNumber(line) >= marks.asked);
+  });
 
   function showFault(fault) {
     if (marks.fault !== null) editor.removeLineClass(marks.fault, 'wrap', 'wrong');
@@ -123,11 +143,12 @@ export function makeEditor(place, onChange, onLine) {
     if (!fault) return;
     const line = Math.min(fault.line, editor.lineCount()) - 1;
     const [name] = editor.getLine(line).trim().split(/[ \t\r]+/);
-    const told = fault.told ?? (fault.name === 'bad-count' ? `the form is “${name}${forms.get(name) ?? ''}”` : wanted.get(fault.name) ?? 'it can’t be read');
+    const isMarked = editor.getLine(line).startsWith('\ufeff') && said('the text begins with a byte order mark, which is no part of a trace');
+    const told = fault.told ?? (isMarked || (fault.name === 'bad-count' ? said('the form is “{0}”', name + (forms.get(name) ?? '')) : wanted.get(fault.name) ?? said('it can’t be read')));
     marks.fault = editor.addLineClass(line, 'wrap', 'wrong');
     marks.widget = editor.addLineWidget(line, element('p', { class: 'wanted', 'data-fault': fault.name, 'data-line': fault.line, 'data-of': editor.getLine(line), role: 'status' },
       element('b', {}, fault.name), `: ${told}.`));
   }
 
-  return { editor, showLine, showFault };
+  return { editor, showLine, hideLater, showFault };
 }

@@ -2,6 +2,7 @@
 
 import { element } from '../dom.js';
 import { LONGEST_LOG } from '../link.js';
+import { said } from '../say.js';
 
 // The trace of the data of its states: each command at its line.
 function traceOfStates(text) {
@@ -15,13 +16,14 @@ function traceOfStates(text) {
 }
 
 async function textOfFile(file) {
-  if (file.size > 16 * LONGEST_LOG) throw new Error(`${file.name} is too long`);
-  const text = await file.text(), isStates = /^\{"heap":/.test(text);
-  if (!isStates && file.size > LONGEST_LOG) throw new Error(`${file.name} is longer than any trace or log`);
+  if (file.size > 16 * LONGEST_LOG) throw new Error(said('{0} is too long', file.name));
+  // A byte order mark stays: it is no part of a trace, and told as a fault, as by the programs.
+  const text = new TextDecoder('utf-8', { ignoreBOM: true }).decode(await file.arrayBuffer()), isStates = /^\{"heap":/.test(text);
+  if (!isStates && file.size > LONGEST_LOG) throw new Error(said('{0} is longer than any trace or log', file.name));
   try {
     return isStates ? traceOfStates(text) : text;
   } catch {
-    throw new Error(`${file.name} begins as the output of ./heap_states, and can’t be read as that`);
+    throw new Error(said('{0} begins as the output of ./heap_states, and can’t be read as that', file.name));
   }
 }
 

@@ -3,7 +3,7 @@
 'use strict';
 
 const CODES = ['done', 'no memory', 'short', 'none'];
-const MAP = { commands: 20000, pages: 64 }; // more than ./heap_page has in a page is shown without a map
+const MOST_COMMANDS = 20000; // more than ./heap_page has in a page is shown without a map
 let compiled = null;
 
 // A program that has answered nothing yet. Its memory never grows: what it is given comes from below, what it writes lies above.
@@ -16,7 +16,8 @@ function newProgram() {
     told.setBigUint64(8, at, true);
     if (fits) next = at + size;
   };
-  const { exports } = new WebAssembly.Instance(compiled, { page: { page_room } });
+  // An instance answers once, so what it gives back isn't handed out again.
+  const { exports } = new WebAssembly.Instance(compiled, { page: { page_room, page_back: () => {} } });
   memory = exports.memory;
   next = BigInt(exports.__heap_base.value);
   end = BigInt(memory.buffer.byteLength);
@@ -27,9 +28,9 @@ function newProgram() {
   };
   // What an export answers to these numbers, with as much of the memory for its text.
   const ask = (name, numbers, part) => {
-    const count = take(8), room = BigInt(Math.floor(Number(end - next) * part));
+    const count = take(8), status = take(8), room = BigInt(Math.floor(Number(end - next) * part));
     end = (end - room) & -16n;
-    const code = CODES[exports[name](...numbers, end, room, count)];
+    const code = CODES[exports[name](...numbers, end, room, count, status)]; // a call that tells no status takes none
     const length = Number(new DataView(memory.buffer).getBigUint64(Number(count), true));
     return { code, bytes: code === 'done' ? new Uint8Array(memory.buffer).slice(Number(end), Number(end) + length) : null };
   };
@@ -41,10 +42,13 @@ function newProgram() {
   return { ask, put };
 }
 
-function ofText(name, text) {
+function ofText(name, text, ...more) {
   const program = newProgram();
-  return program.ask(name, program.put(text), .4);
+  return program.ask(name, [...program.put(text), ...more], .4);
 }
+
+// The report alone, without the image.
+const reportOf = text => ofText('page_report', text, 0);
 
 const lineOf = bytes => new TextDecoder().decode(bytes).trimEnd();
 
@@ -55,11 +59,10 @@ function before(text, line) {
   return text.subarray(0, at);
 }
 
-// How many lines of a text count, and the last word of the first of them.
-function sizeOf(text) {
+// How many lines of a text count behind the first of them.
+function commandsIn(text) {
   const lines = new TextDecoder().decode(text).split('\n').map(line => line.replace(/^[ \t\r]+|[ \t\r]+$/g, ''));
-  const counted = lines.filter(line => line !== '' && !line.startsWith('#'));
-  return { commands: counted.length - 1, pages: Number((counted[0] || '').split(/[ \t\r]+/)[2]) };
+  return lines.filter(line => line !== '' && !line.startsWith('#')).length - 1;
 }
 
 // The live and held bytes and the tags after each step, from the data.
@@ -82,9 +85,9 @@ function sumsOf(data) {
   return sums;
 }
 
-// A trace past the sizes of a map: its report, and the sums of its states where there is memory for these.
+// A trace with more commands than a map has: its report, and the sums of its states where there is memory for these.
 function answerLong(text) {
-  const report = ofText('page_report', text);
+  const report = reportOf(text);
   if (report.code !== 'done') return report;
   const states = ofText('page_states', text);
   return { code: 'long', report: report.bytes, sums: states.code === 'done' ? sumsOf(new TextDecoder().decode(states.bytes)) : null };
@@ -92,8 +95,7 @@ function answerLong(text) {
 
 // The states of a trace; of a text that is none its fault, with the states of the lines before it.
 function answerTrace(text) {
-  const { commands, pages } = sizeOf(text), isLong = commands > MAP.commands || pages > MAP.pages;
-  const answer = isLong ? answerLong(text) : { ...ofText('page_states', text), text };
+  const answer = commandsIn(text) > MOST_COMMANDS ? answerLong(text) : { ...ofText('page_states', text), text };
   if (answer.code !== 'none') return answer;
   const told = ofText('page_fault', text);
   if (told.code !== 'done') return told;
@@ -107,7 +109,7 @@ function answerWord([address, metadata]) {
   return { code, line: bytes && lineOf(bytes) };
 }
 
-const ANSWERS = { trace: answerTrace, report: text => ofText('page_report', text), log: text => ofText('page_log', text), word: answerWord };
+const ANSWERS = { trace: answerTrace, report: reportOf, log: text => ofText('page_log', text), word: answerWord };
 
 onmessage = async ({ data: { module, kind, given } }) => {
   try {

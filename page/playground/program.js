@@ -1,6 +1,7 @@
 // The proved program, asked in a worker, so that the page never waits for it.
 
 import { decodeBase64, inflate } from '../link.js';
+import { said } from '../say.js';
 
 // What the page brings with it: the text of the worker, and the program as gzip in base64.
 const textOfElement = id => document.querySelector('#' + id).textContent;
@@ -25,7 +26,7 @@ function newWorker() {
 function answerFrom(worker, question) {
   return new Promise(resolve => {
     worker.onmessage = ({ data }) => resolve(data);
-    worker.onerror = event => resolve({ code: 'broken', message: event.message || 'the worker can’t start' });
+    worker.onerror = event => resolve({ code: 'broken', message: event.message || said('the worker can’t start') });
     worker.postMessage(question);
   });
 }

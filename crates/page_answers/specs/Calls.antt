@@ -1,7 +1,8 @@
 -- What the exports write, and the codes that they answer.
-use Rattle.std.specs.Prelude.{◌≡◌, ◌<◌, ◌++◌, ◌+◌, ◌*◌, ◌^◌, ℕ, List, Ok, Err, drop, length}
+use Rattle.std.specs.Prelude.{◌≡◌, ◌<◌, ◌++◌, ◌+◌, ◌*◌, ◌^◌, ℕ, Bool, List, [], Ok, Err, drop, length, if◌then◌else◌}
 use Rattle.heap_reply.specs.WordLine.{word_line}
 use Rattle.log_answer.specs.Answer.{IsLogAnswer}
+use Rattle.trace_report.specs.Image.{image_of}
 use Rattle.trace_report.specs.Outcome.{HasOutcome}
 use Rattle.trace_report.specs.declared.outcome.Outcome.{Outcome}
 use Rattle.trace_text.specs.Fault.{line_of_fault}
@@ -50,11 +51,15 @@ pub record IsFaultOf (text line : List ℕ) : Type 0 where
   pub fault_is : trace_of text ≡ Err fault
   pub line_is : line ≡ line_of_fault fault
 
--- The bytes are the report of what a run of the text gives.
-pub record IsReportOf (text report : List ℕ) : Type 0 where
+-- The image, where it is asked for.
+abbrev pub image_shown : Bool → List ℕ → List ℕ
+image_shown asked image = if asked then image else []
+
+-- The bytes are the report of what a run of the text gives, and the image that it leaves where that is asked for.
+pub record IsRunOf (text : List ℕ) (asked : Bool) (bytes : List ℕ) : Type 0 where
   pub outcome : Outcome
   pub answers : HasOutcome text (Ok outcome)
-  pub report_is : report ≡ outcome.report.items
+  pub bytes_are : bytes ≡ outcome.report.items ++ image_shown asked (image_of outcome.memory.base outcome.memory.granules)
 
 -- The text is said of a log, with some status.
 abbrev pub IsSaidOf : List ℕ → List ℕ → Type 0

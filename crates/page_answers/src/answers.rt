@@ -1,8 +1,13 @@
 //! The calls.
 
-ghost use Rattle.std.specs.Prelude.{◌≡◌, ◌≢◌, ◌<◌, ◌++◌, IfErr, IfOk, OnErr, drop, length};
+ghost use Rattle.std.specs.Prelude.{◌≡◌, ◌≢◌, ◌<◌, ◌++◌, Err, IfErr, IfOk, IfSome, OnErr, drop, length};
+ghost use Rattle.log_answer.specs.Answer.{IsLogAnswer};
+ghost use Rattle.log_notes.specs.Notes.{AreNotes};
 ghost use Rattle.state_data.specs.States.{IsDataOf};
-ghost use Rattle.page_answers.specs.Calls.{IsFaultOf, IsFaulty, IsLineOf, IsReportOf, IsSaidOf, IsTooLong, IsTrace, IsWritten, done, no_memory, none, short};
+ghost use Rattle.trace_report.specs.Image.{image_of};
+ghost use Rattle.trace_text.specs.Reading.{trace_of};
+ghost use Rattle.trace_text.specs.declared.fault.TraceFault.{TraceFault as TheTraceFault};
+ghost use Rattle.page_answers.specs.Calls.{IsFaultOf, IsFaulty, IsLineOf, IsRunOf, IsSaidOf, IsTooLong, IsTrace, IsWritten, done, image_shown, no_memory, none, short};
 
 use crate::codes::{DONE, NO_MEMORY, NONE, SHORT};
 use cap_codec::Word;
@@ -11,9 +16,10 @@ use heap_reply::word_line;
 use heap_trace::run_alone;
 use host_memory::Global;
 use log_answer::{LogAnswer, log_answer};
+use log_notes::notes_of;
 use state_data::states_alone;
 use sweep_masks::Cutting;
-use trace_report::{Outcome, RunFault};
+use trace_report::{Outcome, RunFault, image_lines};
 use trace_text::{TraceFault, fault_line, parse};
 
 // As many pages as a task has at most.
@@ -67,18 +73,52 @@ pub extern "C" fn page_states(alloc: Global, trace: &[u8], out: &mut [u8], count
     }
 }
 
-/// Writes the report of the run of the trace that a text is.
+// The report, and the image after it if asked for; nothing for want of memory.
+fn shown(alloc: Global, outcome: Outcome, image: bool) -> Option<Vec<u8, Global>>
+    ensures { IfSome result (λ text. text.items ≡ outcome.report.items ++ image_shown image (image_of outcome.memory.base outcome.memory.granules)) }
+{
+    let mut text = outcome.report;
+    if image {
+        let Ok(lines) = image_lines(alloc, &outcome.memory) else {
+            return None;
+        };
+        let Ok(()) = text.extend_from_slice(&lines) else {
+            return None;
+        };
+    }
+    Some(text)
+}
+
+// What the run of a text shows.
+fn run_shown(alloc: Global, trace: &[u8], image: bool) -> Result<Vec<u8, Global>, RunFault>
+    ensures ok { IfOk result (λ text. IsRunOf trace.now image text.items) }
+    ensures fault { (fault : TheTraceFault) → result ≡ Err (RunFault.Trace fault) → trace_of trace.now ≡ Err fault }
+{
+    let outcome = run_alone(alloc, trace, alone())?;
+    match shown(alloc, outcome, image) {
+        Some(text) => Ok(text),
+        None => Err(RunFault::Memory),
+    }
+}
+
+/// Writes the report of the run of the trace that a text is, and the image that it leaves if asked for.
 #[unsafe(no_mangle)]
-pub extern "C" fn page_report(alloc: Global, trace: &[u8], out: &mut [u8], count: &mut usize) -> u32
-    ensures written { result ≡ done → IsWritten (IsReportOf trace.now) out.old out.new count.new }
-    ensures short { result ≡ short → IsTooLong (IsReportOf trace.now) (length out.old) count.new }
+pub extern "C" fn page_report(
+    alloc: Global,
+    trace: &[u8],
+    image: bool,
+    out: &mut [u8],
+    count: &mut usize,
+) -> u32
+    ensures written { result ≡ done → IsWritten (IsRunOf trace.now image) out.old out.new count.new }
+    ensures short { result ≡ short → IsTooLong (IsRunOf trace.now image) (length out.old) count.new }
     ensures fault { result ≡ none → IsFaulty trace.now }
     ensures still { result ≢ done → out.new ≡ out.old }
     ensures other { result ≢ done → result ≢ short → count.new ≡ count.old }
     ensures memory { result ≢ done → result ≢ short → result ≢ none → result ≡ no_memory }
 {
-    match run_alone(alloc, trace, alone()) {
-        Ok(Outcome { report, .. }) => match put_whole(&report, out) {
+    match run_shown(alloc, trace, image) {
+        Ok(text) => match put_whole(&text, out) {
             Ok(length) => {
                 *count = length;
                 DONE
@@ -123,18 +163,57 @@ pub extern "C" fn page_fault(alloc: Global, trace: &[u8], out: &mut [u8], count:
     }
 }
 
-/// Writes what is said of a log: that it agrees, how it differs, or its fault.
+/// Writes what is said of a log: that it agrees, how it differs, or its fault; and tells the status that goes with it.
 #[unsafe(no_mangle)]
-pub extern "C" fn page_log(alloc: Global, log: &[u8], out: &mut [u8], count: &mut usize) -> u32
-    ensures written { result ≡ done → IsWritten (IsSaidOf log.now) out.old out.new count.new }
+pub extern "C" fn page_log(
+    alloc: Global,
+    log: &[u8],
+    out: &mut [u8],
+    count: &mut usize,
+    status: &mut u32,
+) -> u32
+    ensures written { result ≡ done → IsWritten (IsLogAnswer log.now status.new) out.old out.new count.new }
     ensures short { result ≡ short → IsTooLong (IsSaidOf log.now) (length out.old) count.new }
+    ensures some { result ≢ none }
+    ensures still { result ≢ done → (out.new ≡ out.old) × (status.new ≡ status.old) }
+    ensures other { result ≢ done → result ≢ short → count.new ≡ count.old }
+    ensures memory { result ≢ done → result ≢ short → result ≢ none → result ≡ no_memory }
+{
+    match log_answer(&Alone, alloc, log, alone()) {
+        Ok(LogAnswer { status: told, text }) => match put_whole(&text, out) {
+            Ok(length) => {
+                *count = length;
+                *status = u32::from(told);
+                DONE
+            }
+            Err(length) => {
+                *count = length;
+                SHORT
+            }
+        },
+        Err(_) => NO_MEMORY,
+    }
+}
+
+/// Writes what is said beside a log that gets this status: what is wanted in its faulty line, and that it has a part of a run.
+/// There may be nothing to say.
+#[unsafe(no_mangle)]
+pub extern "C" fn page_notes(
+    alloc: Global,
+    log: &[u8],
+    status: u32,
+    out: &mut [u8],
+    count: &mut usize,
+) -> u32
+    ensures written { result ≡ done → IsWritten (AreNotes log.now status) out.old out.new count.new }
+    ensures short { result ≡ short → IsTooLong (AreNotes log.now status) (length out.old) count.new }
     ensures some { result ≢ none }
     ensures still { result ≢ done → out.new ≡ out.old }
     ensures other { result ≢ done → result ≢ short → count.new ≡ count.old }
     ensures memory { result ≢ done → result ≢ short → result ≢ none → result ≡ no_memory }
 {
-    match log_answer(&Alone, alloc, log, alone()) {
-        Ok(LogAnswer { text, .. }) => match put_whole(&text, out) {
+    match notes_of(alloc, log, status) {
+        Ok(text) => match put_whole(&text, out) {
             Ok(length) => {
                 *count = length;
                 DONE
