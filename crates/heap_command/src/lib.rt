@@ -1,7 +1,9 @@
-//! The program over any devices, with runs by threads.
+//! The program over any devices: words and bytes in, an exit status and bytes out.
 #![tactic(auto)]
 
 mod program;
+mod runs;
 
-pub use crate::program::tool;
-pub use tool_program::{Failed, FromRead, FromWrite, Options, Refusal, Sink, Source, refuse};
+pub use crate::program::{refuse, tool};
+pub use command_line::{Options, Refusal};
+pub use program_devices::{Answer, Failed, FromRead, FromWrite, Sink, Source};

@@ -2,9 +2,8 @@
 #![tactic(auto)]
 
 use command_line::arguments;
-use heap_machine::Workers;
+use heap_command::{FromRead, FromWrite, Refusal, refuse, tool};
 use std::process::ExitCode;
-use tool_program::{FromRead, FromWrite, Refusal, refuse, tool_by};
 
 fn main(rt: HostRuntime) -> ExitCode {
     let alloc = rt.alloc();
@@ -18,11 +17,5 @@ fn main(rt: HostRuntime) -> ExitCode {
         Ok(words) => words,
         Err(_) => return ExitCode::from(refuse(&mut writer, Refusal::Memory)),
     };
-    ExitCode::from(tool_by(
-        &Workers { rt: &rt },
-        alloc,
-        words.as_slice(),
-        &mut reader,
-        &mut writer,
-    ))
+    ExitCode::from(tool(&rt, alloc, words.as_slice(), &mut reader, &mut writer))
 }

@@ -2,28 +2,28 @@
 
 ghost use Rattle.std.specs.Prelude.{◌≡◌, ◌++◌, IfErr, IfOk};
 ghost use Rattle.command_line.specs.Asked.{AreWithinLimits};
-ghost use Rattle.tool_program.specs.Answer.{IsRunAnswer, image_shown};
+ghost use Rattle.heap_command.specs.Answer.{IsRunAnswer, image_shown};
 ghost use Rattle.trace_report.specs.Image.{image_of};
 
 use command_line::{Options, Refusal};
+use heap_trace::{Outcome, RunFault, image_text, run};
 use host_memory::Global;
 use program_devices::{Answer, fault_answer};
-use sweep_masks::Cutting;
-use trace_report::{Outcome, RunFault, Runner, image_lines};
+use std::thread::Threads;
+use sweep_pool::Cutting;
 
 /// The report of the trace that this text is, and the image if asked for, or the line of its fault.
-pub fn run_answer<Q: Runner>(
-    runner: &Q,
+pub fn run_answer<R: Threads + Sync>(
+    rt: &R,
     alloc: Global,
     text: &[u8],
     options: Options,
 ) -> Result<Answer, Refusal>
-    requires ready { Q.ready }
     requires limits { AreWithinLimits options }
     ensures ok { IfOk result (λ answer. IsRunAnswer text.now options answer.status answer.text.items) }
     ensures err { IfErr result (λ refusal. refusal ≡ Refusal.Memory) }
 {
-    match runner.run(alloc, text, cutting_of(options)) {
+    match run(rt, alloc, text, cutting_of(options)) {
         Ok(outcome) => outcome_answer(alloc, outcome, options),
         Err(RunFault::Memory) => Err(Refusal::Memory),
         Err(RunFault::Trace(fault)) => fault_answer(alloc, &fault),
@@ -38,7 +38,7 @@ fn outcome_answer(alloc: Global, outcome: Outcome, options: Options) -> Result<A
 {
     let mut text = outcome.report;
     if options.image {
-        let Ok(image) = image_lines(alloc, &outcome.memory) else {
+        let Ok(image) = image_text(alloc, &outcome.memory) else {
             return Err(Refusal::Memory);
         };
         let Ok(()) = text.extend_from_slice(&image) else {

@@ -10,7 +10,7 @@ use Rattle.trace_text.specs.Reading.{Script, trace_of}
 use Rattle.trace_report.specs.Report.{report_text}
 use Rattle.program_devices.specs.declared.answer.Answer.{Answer}
 use Rattle.trace_text.specs.Fault.{line_of_fault}
-use Rattle.tool_program.specs.Answer.{IsRunAnswer, image_shown, names_fault, reports}
+use Rattle.heap_command.specs.Answer.{IsRunAnswer, image_shown, names_fault, reports}
 
 -- The report of a run, and the image of its memory if asked for, are its answer.
 pub IsRunAnswer-report : (input : List ℕ) (options : Options) (script : Script) (o : Outcome) (r : Result Answer Refusal) → trace_of input ≡ Ok script → IsOutcome script o

@@ -1,8 +1,8 @@
 use Rattle.std.proofs.Common.{◌≡◌, Err, IfOk, subst}
 use Rattle.trace_report.specs.Outcome.{HasOutcome}
 use Rattle.trace_text.specs.Fault.{line_of_fault}
-use Rattle.tool_program.proofs.RunLaws.{IsRunAnswer-fault, IsRunAnswer-report}
-use Rattle.tool_program.proofs.runs.run_answer.Goals as goal
+use Rattle.heap_command.proofs.RunLaws.{IsRunAnswer-fault, IsRunAnswer-report}
+use Rattle.heap_command.proofs.runs.run_answer.Goals as goal
 
 pub returns-in-Ok-clause-ok : goal.returns-in-Ok-clause-ok
 returns-in-Ok-clause-ok g c =

@@ -3,11 +3,11 @@ use Rattle.command_line.specs.Asked.{NamesRun, NamesWord, texts}
 use Rattle.command_line.specs.Laws.{NamesRun-limits}
 use Rattle.program_devices.specs.Answer.{refusal_line, refusal_status, status_of, text_of}
 use Rattle.program_devices.specs.Laws.{BeginsAnswer-told, BeginsAnswer-unwritten, HasAnswered-told}
-use Rattle.tool_program.specs.Answer.{IsAnswer, lacks_memory}
-use Rattle.tool_program.specs.Text.{usage_line}
-use Rattle.tool_program.proofs.AnswerLaws.{IsAnswer-refusal, IsAnswer-run, IsAnswer-word, IsRunAnswer-status}
-use Rattle.tool_program.proofs.program.tool_by.Given.{Over}
-use Rattle.tool_program.proofs.program.tool_by.Goals as goal
+use Rattle.heap_command.specs.Answer.{IsAnswer, lacks_memory}
+use Rattle.heap_command.specs.Text.{usage_line}
+use Rattle.heap_command.proofs.AnswerLaws.{IsAnswer-refusal, IsAnswer-run, IsAnswer-word, IsRunAnswer-status}
+use Rattle.heap_command.proofs.program.tool.Given.{Over}
+use Rattle.heap_command.proofs.program.tool.Goals as goal
 
 -- ---- the line of a word
 
@@ -25,7 +25,7 @@ returns-in-Ok-Word-clause-part g c = λ e. BeginsAnswer-told _ _ _ _ _ (word_is 
 -- ---- the run of a trace
 
 pub run_answer-requires-clause-limits : goal.run_answer-requires-clause-limits
-run_answer-requires-clause-limits g c = NamesRun-limits (texts c.args.words.now) c.in-Ok-Run.options (search rules)
+run_answer-requires-clause-limits g c = λ lifetimes outlives. NamesRun-limits (texts c.args.words.now) c.in-Ok-Run.options (search rules)
 
 pub give-requires-in-Ok-clause-status : goal.give-requires-in-Ok-clause-status
 give-requires-in-Ok-clause-status g c = IsRunAnswer-status _ c.in-Ok-Run.options c.run_answer.result c.run_answer.ensures.ok

@@ -9,10 +9,10 @@ use Rattle.command_line.specs.Asked.{NamesNothing, NamesRun, NamesWord, Text}
 use Rattle.program_devices.specs.declared.answer.Answer.{Answer}
 use Rattle.program_devices.specs.Answer.{refusal_line, refusal_status, status_of, text_of}
 use Rattle.program_devices.specs.Device.{ReadsUpTo, most_read}
-use Rattle.tool_program.specs.Answer.{IsAnswer, IsRunAnswer, lacks_memory, names_fault, refuses, reports, shows_run, shows_word}
+use Rattle.heap_command.specs.Answer.{IsAnswer, IsRunAnswer, lacks_memory, names_fault, refuses, reports, shows_run, shows_word}
 use Rattle.heap_reply.specs.WordLine.{word_line}
-use Rattle.tool_program.specs.Text.{usage_line}
-use Rattle.tool_program.specs.Hex.{AskForNothing, IsTextOf}
+use Rattle.heap_command.specs.Text.{usage_line}
+use Rattle.heap_command.specs.Hex.{AskForNothing, IsTextOf}
 
 -- ---- words
 

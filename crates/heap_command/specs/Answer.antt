@@ -14,8 +14,8 @@ use Rattle.program_devices.specs.Answer.{memory_line}
 use Rattle.trace_text.specs.Fault.{line_of_fault}
 use Rattle.program_devices.specs.Device.{ReadsUpTo, most_read}
 use Rattle.heap_reply.specs.WordLine.{word_line}
-use Rattle.tool_program.specs.Text.{usage_line}
-use Rattle.tool_program.specs.Hex.{AskForNothing, AsksForLineOf}
+use Rattle.heap_command.specs.Text.{usage_line}
+use Rattle.heap_command.specs.Hex.{AskForNothing, AsksForLineOf}
 
 -- An image, where it is asked for.
 abbrev pub image_shown : Options → List ℕ → List ℕ
