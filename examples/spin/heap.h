@@ -1,6 +1,6 @@
 /*
- * The heap as SPIN's models call it: one page at HEAP_BASE, of whose state SPIN keeps, compares and gives back HEAP_KEPT bytes.
- * The steps are the proved library's; what a model asserts of them is written out below, by itself.
+ * The heap as SPIN's models call it: HEAP_PAGES pages from HEAP_BASE on, of whose state SPIN keeps, compares and gives back HEAP_KEPT
+ * bytes. The steps are the proved library's; what a model asserts of them is written out below, by itself.
  */
 #include <inttypes.h>
 #include <kernelstint.h>
@@ -9,9 +9,11 @@
 #include <string.h>
 
 #define HEAP_BASE 0x40000000
+/* One, or as many as -DHEAP_PAGES=2 says. */
+#ifndef HEAP_PAGES
 #define HEAP_PAGES 1
-/* kernelstint_state_length(HEAP_PAGES), which heap_first compares. */
-#define HEAP_BYTES 5934
+#endif
+#define HEAP_BYTES KERNELSTINT_STATE_LENGTH(HEAP_PAGES)
 /* Where a state tells whether an epoch is open. */
 #define HEAP_IS_OPEN_AT 12
 
@@ -36,23 +38,23 @@ extern int readtrail;
 static void heap_print(kernelstint_command it) {
     int i;
     switch (it.kind) {
-    case KERNELSTINT_MALLOC: printf("trace: malloc c%d %" PRIu64 "\n", it.first, it.number); break;
-    case KERNELSTINT_FREE: printf("trace: free c%d\n", it.first); break;
-    case KERNELSTINT_COPY: printf("trace: copy c%d c%d\n", it.first, it.second); break;
-    case KERNELSTINT_SETADDR: printf("trace: setaddr c%d c%d 0x%" PRIx64 "\n", it.first, it.second, it.number); break;
-    case KERNELSTINT_NARROW: printf("trace: narrow c%d c%d %" PRIu64 "\n", it.first, it.second, it.number); break;
-    case KERNELSTINT_ANDPERM: printf("trace: andperm c%d c%d 0x%" PRIx64 "\n", it.first, it.second, it.number); break;
-    case KERNELSTINT_STORECAP: printf("trace: storecap c%d c%d\n", it.first, it.second); break;
-    case KERNELSTINT_LOADCAP: printf("trace: loadcap c%d c%d\n", it.first, it.second); break;
-    case KERNELSTINT_WRITE:
+    case KERNELSTINT_COMMAND_MALLOC: printf("trace: malloc c%d %" PRIu64 "\n", it.first, it.number); break;
+    case KERNELSTINT_COMMAND_FREE: printf("trace: free c%d\n", it.first); break;
+    case KERNELSTINT_COMMAND_COPY: printf("trace: copy c%d c%d\n", it.first, it.second); break;
+    case KERNELSTINT_COMMAND_SETADDR: printf("trace: setaddr c%d c%d 0x%" PRIx64 "\n", it.first, it.second, it.number); break;
+    case KERNELSTINT_COMMAND_NARROW: printf("trace: narrow c%d c%d %" PRIu64 "\n", it.first, it.second, it.number); break;
+    case KERNELSTINT_COMMAND_ANDPERM: printf("trace: andperm c%d c%d 0x%" PRIx64 "\n", it.first, it.second, it.number); break;
+    case KERNELSTINT_COMMAND_STORECAP: printf("trace: storecap c%d c%d\n", it.first, it.second); break;
+    case KERNELSTINT_COMMAND_LOADCAP: printf("trace: loadcap c%d c%d\n", it.first, it.second); break;
+    case KERNELSTINT_COMMAND_WRITE:
         printf("trace: write c%d ", it.first);
         for (i = 0; i < 16; i++) printf("%02x", (unsigned)((i < 8 ? it.low : it.high) >> 8 * (i % 8) & 0xff));
         printf("\n");
         break;
-    case KERNELSTINT_SHOW: printf("trace: show c%d\n", it.first); break;
-    case KERNELSTINT_SWEEP: printf("trace: sweep\n"); break;
-    case KERNELSTINT_BEGIN: printf("trace: begin\n"); break;
-    case KERNELSTINT_END: printf("trace: end\n"); break;
+    case KERNELSTINT_COMMAND_SHOW: printf("trace: show c%d\n", it.first); break;
+    case KERNELSTINT_COMMAND_SWEEP: printf("trace: sweep\n"); break;
+    case KERNELSTINT_COMMAND_BEGIN: printf("trace: begin\n"); break;
+    case KERNELSTINT_COMMAND_END: printf("trace: end\n"); break;
     default:
         fflush(stdout);
         fprintf(stderr, "heap.h: a command of the kind %d has no line of a trace\n", it.kind);
@@ -109,8 +111,7 @@ static void heap_keep(const unsigned char *state, unsigned char *kept) {
 static int heap_first(unsigned char *kept) {
     unsigned char state[HEAP_BYTES];
     if (readtrail) printf("trace: heap 0x%x %d\n", HEAP_BASE, HEAP_PAGES);
-    if (kernelstint_state_length(HEAP_PAGES) != HEAP_BYTES) return 0;
-    if (kernelstint_first(HEAP_BASE, HEAP_PAGES, state, HEAP_BYTES) != KERNELSTINT_DONE) return 0;
+    if (kernelstint_first(HEAP_BASE, HEAP_PAGES, state, HEAP_BYTES) != KERNELSTINT_CODE_DONE) return 0;
     heap_keep(state, kept);
     return 1;
 }
@@ -120,7 +121,7 @@ static int heap_command(unsigned char *kept, kernelstint_command command) {
     unsigned char state[HEAP_BYTES], next[HEAP_BYTES];
     if (readtrail) heap_print(command);
     heap_state(kept, state);
-    if (kernelstint_step(state, HEAP_BYTES, command, next, sizeof next, &heap_reply) != KERNELSTINT_DONE) return 0;
+    if (kernelstint_step(state, HEAP_BYTES, command, next, sizeof next, &heap_reply) != KERNELSTINT_CODE_DONE) return 0;
 #ifdef HEAP_FORGETS_MARKS
     /* They are looked at in an open epoch alone, and what begins one takes them all away. */
     if (next[HEAP_IS_OPEN_AT] == 0) memset(next + KERNELSTINT_PAGE_AT(HEAP_PAGES, 0), 0, HEAP_PAGES);
@@ -146,7 +147,7 @@ static int heap_write(unsigned char *kept, int by, const void *bytes) {
     kernelstint_command command = {0};
     int i;
     if ((by & ~0xff) != 0) return 0;
-    command.kind = KERNELSTINT_WRITE;
+    command.kind = KERNELSTINT_COMMAND_WRITE;
     command.first = (uint8_t)by;
     for (i = 0; i < 8; i++) {
         command.low |= (uint64_t)from[i] << 8 * i;
@@ -165,11 +166,12 @@ static int heap_points_into(const unsigned char *word, uint64_t base, uint64_t t
     return base <= bounds.base && bounds.base < top;
 }
 
-/* Safe reuse: whether no tagged word of a register or of memory has its base in these addresses. */
-static int heap_is_unused(const unsigned char *state, uint64_t base, uint64_t top) {
+/* Safe reuse: whether no tagged word of a register or of memory has its base in these addresses. Register `but` is passed over; of
+ * -1 none is. */
+static int heap_is_unused(const unsigned char *state, uint64_t base, uint64_t top, int but) {
     int i;
     for (i = 0; i < 32; i++)
-        if (heap_points_into(state + KERNELSTINT_REGISTER_AT(HEAP_PAGES, i), base, top)) return 0;
+        if (i != but && heap_points_into(state + KERNELSTINT_REGISTER_AT(HEAP_PAGES, i), base, top)) return 0;
     for (i = 0; i < 256 * HEAP_PAGES; i++)
         if (heap_points_into(state + KERNELSTINT_GRANULE_AT(i), base, top)) return 0;
     return 1;
@@ -193,15 +195,22 @@ static int heap_is_live(const unsigned char *state, int r) {
 static int heap_read(unsigned char *kept, int to, int by) {
     unsigned char state[HEAP_BYTES];
     heap_state(kept, state);
-    return heap_step(kept, KERNELSTINT_LOADCAP, to, by, 0) && heap_is_live(state, by);
+    return heap_step(kept, KERNELSTINT_COMMAND_LOADCAP, to, by, 0) && heap_is_live(state, by);
 }
 
-/* Does one command, and says whether reuse is safe: what it hands out, no word pointed into before. A sweep of the malloc's own
- * comes first, so a model that lets memory run out has to ask this of the state after the sweep. */
+/* Does one command, and says whether reuse is safe: no word points into the block that it hands out. That is asked of the state
+ * before it, and where the malloc swept first, of the state after it, in which the register that got the block is the only one that may. */
 static int heap_do(unsigned char *kept, int kind, int first, int second, uint64_t number) {
-    unsigned char before[HEAP_BYTES];
-    heap_state(kept, before);
+    unsigned char state[HEAP_BYTES];
+    heap_state(kept, state);
     if (!heap_step(kept, kind, first, second, number)) return 0;
-    if (heap_reply.kind != KERNELSTINT_BLOCK) return 1;
-    return heap_is_unused(before, heap_reply.base, heap_reply.top);
+    if (heap_reply.kind == KERNELSTINT_REPLY_BLOCK) return heap_is_unused(state, heap_reply.base, heap_reply.top, -1);
+    if (heap_reply.kind != KERNELSTINT_REPLY_BLOCK_AFTER) return 1;
+    heap_state(kept, state);
+    return heap_is_unused(state, heap_reply.base, heap_reply.top, first);
+}
+
+/* Whether an epoch is open. */
+static int heap_is_open(const unsigned char *kept) {
+    return kept[HEAP_IS_OPEN_AT];
 }

@@ -22,26 +22,26 @@ bit ready;
 
 /* Puts a node, made in register 2, before the others. */
 #define PUSH() \
-    COMMAND(KERNELSTINT_MALLOC, 2, 0, 16); \
-    COMMAND(KERNELSTINT_LOADCAP, 3, 1, 0); \
-    COMMAND(KERNELSTINT_STORECAP, 2, 3, 0); \
-    COMMAND(KERNELSTINT_STORECAP, 1, 2, 0)
+    COMMAND(KERNELSTINT_COMMAND_MALLOC, 2, 0, 16); \
+    COMMAND(KERNELSTINT_COMMAND_LOADCAP, 3, 1, 0); \
+    COMMAND(KERNELSTINT_COMMAND_STORECAP, 2, 3, 0); \
+    COMMAND(KERNELSTINT_COMMAND_STORECAP, 1, 2, 0)
 
 /* Takes the first node: its capability goes to register `node`, that of the next to register `next`. */
 #define POP(node, next) \
-    COMMAND(KERNELSTINT_LOADCAP, node, 1, 0); \
+    COMMAND(KERNELSTINT_COMMAND_LOADCAP, node, 1, 0); \
     READ(next, node); \
-    COMMAND(KERNELSTINT_STORECAP, 1, next, 0); \
-    COMMAND(KERNELSTINT_FREE, node, 0, 0)
+    COMMAND(KERNELSTINT_COMMAND_STORECAP, 1, next, 0); \
+    COMMAND(KERNELSTINT_COMMAND_FREE, node, 0, 0)
 
 init {
     d_step { c_code { now.ok = heap_first(now.heap); }; assert(ok) };
-    COMMAND(KERNELSTINT_MALLOC, 1, 0, 16);
+    COMMAND(KERNELSTINT_COMMAND_MALLOC, 1, 0, 16);
     PUSH();
     PUSH();
     PUSH();
     /* The capability in register 2 is forgotten, so only the stack has the nodes. */
-    COMMAND(KERNELSTINT_COPY, 2, 0, 0);
+    COMMAND(KERNELSTINT_COMMAND_COPY, 2, 0, 0);
     ready = 1
 }
 

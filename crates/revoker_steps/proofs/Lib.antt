@@ -1,0 +1,12 @@
+pub mod BarredLaws
+pub mod ChangedLaws
+pub mod CornucopiaLaws
+pub mod DueLaws
+pub mod EndLaws
+pub mod EventLaws
+pub mod PassLaws
+pub mod ReloadedLaws
+pub mod RevokerLaws
+pub mod Rows
+pub mod ShapeLaws
+pub mod StepLaws
