@@ -20,7 +20,7 @@ pub use crate::faults::{FaultRecord, fault_record};
 pub use crate::following::follow;
 pub use crate::lines::{LONGEST_REPLY, command_in, step_line};
 pub use crate::looking::{CountRecord, WordRecord, counts, granule, register};
-pub use crate::machines::{copy_of, machine_in, put_state};
+pub use crate::machines::{machine_in, put_state};
 pub use crate::reasons::{WhyRecord, why_record};
 pub use crate::replies::{ReplyRecord, reply_of, reply_record};
 pub use crate::runs::{put_all, run_report, run_states};

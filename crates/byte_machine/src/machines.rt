@@ -1,7 +1,6 @@
 //! Machines from bytes and into them.
 
-ghost use Rattle.std.specs.Prelude.{◌≡◌, ◌≢◌, ◌↔◌, IfErr, IfOk, IfSome, false, length, true};
-ghost use Rattle.state_bytes.specs.State.{IsSameState};
+ghost use Rattle.std.specs.Prelude.{◌≡◌, ◌≢◌, ◌↔◌, IfErr, IfOk, false, length, true};
 ghost use Rattle.state_bytes.specs.Text.{text_of};
 ghost use Rattle.state_bytes.specs.Text as text;
 ghost use Rattle.byte_machine.specs.Calls.{IsTextOf, IsUnreadable};
@@ -9,10 +8,10 @@ ghost use Rattle.byte_machine.specs.Calls.{IsTextOf, IsUnreadable};
 use crate::fault::CallFault;
 use heap_machine::Machine;
 use host_memory::Global;
-use state_bytes::{BytesFault, decode, encode, encode_into, one_text_law, text_length};
+use state_bytes::{BytesFault, decode, encode_into, one_text_law, text_length};
 use sweep_pool::Cutting;
 
-// More pages than a task of one worker needs, so that a pass is one task.
+// The most pages that a task has: a pass over up to 256 pages is one task.
 const TASK: u32 = 256;
 
 // One worker, which is the caller.
@@ -34,19 +33,6 @@ pub fn machine_in(alloc: Global, state: &[u8]) -> Result<Machine, CallFault>
         Ok(machine) => Ok(machine),
         Err(BytesFault::Memory) => Err(CallFault::Memory),
         Err(why) => Err(CallFault::State(why)),
-    }
-}
-
-/// Another machine in the same state; `None` where memory runs out.
-pub fn copy_of(alloc: Global, machine: &Machine) -> Option<Machine>
-    ensures { IfSome result (λ copy. IsSameState copy machine.now) }
-{
-    let Ok(bytes) = encode(alloc, machine) else {
-        return None;
-    };
-    match decode(alloc, alone(), &bytes) {
-        Ok(copy) => Some(copy),
-        Err(_) => None,
     }
 }
 

@@ -2,7 +2,7 @@
 #![tactic(auto)]
 
 mod checking;
-mod hint;
+mod part;
 mod program;
 
 pub use crate::program::{check_tool, refuse};

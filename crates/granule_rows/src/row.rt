@@ -81,6 +81,16 @@ impl FreeRow {
         Ok(FreeRow { words, nodes })
     }
 
+    /// The same row once more.
+    pub fn copy(&self, alloc: Global) -> Result<FreeRow, AllocError>
+        ensures { IfOk result (λ copy. copy ≡ self.now) }
+    {
+        Ok(FreeRow {
+            words: Vec::from_slice(alloc, &self.words)?,
+            nodes: Vec::from_slice(alloc, &self.nodes)?,
+        })
+    }
+
     /// Makes `n` granules from `p` on free.
     pub fn vacate(&mut self, p: usize, n: usize)
         requires { p + n ≤ 64 * length self.old }

@@ -623,3 +623,30 @@ module _ (t : Inside) (stored : AreStored t) (s : Rows)
         (λ j. marks_all_false s.starts.items s.due.items (length t.lengths.items) j (λ i. and_false (is_set_for s.starts.items i) (is_set_for s.due.items i) (due i)))
         (length-marks_of s.starts.items s.due.items (length t.lengths.items) ∙ sym (length-lengths_of s.starts.items t.lengths.items))));
   }
+
+-- ---- the same rows once more
+
+AreRows-same : (r s : Rows) → AreRows r → s.free ≡ r.free → s.starts.items ≡ r.starts.items → s.due.items ≡ r.due.items
+    → s.due_pages.items ≡ r.due_pages.items → AreRows s
+AreRows-same r s are free starts due pages = record {
+  pages = are.pages;
+  whole = rw starts are.whole;
+  limit = rw starts are.limit;
+  free = rw (starts, free) are.free;
+  due = rw (starts, due) are.due;
+  due_pages = rw pages are.due_pages;
+  due_pages_limit = rw pages are.due_pages_limit;
+  inside = rw pages are.inside;
+  marked = rw (pages, due) are.marked;
+}
+
+pub AreStored-same : (t u : Inside) → AreStored t → u.lengths.items ≡ t.lengths.items → u.rows.free ≡ t.rows.free
+    → u.rows.starts.items ≡ t.rows.starts.items → u.rows.due.items ≡ t.rows.due.items
+    → u.rows.due_pages.items ≡ t.rows.due_pages.items → AreStored u
+AreStored-same t u stored lengths free starts due pages = record {
+  rows = AreRows-same t.rows u.rows stored.rows free starts due pages;
+  count = rw (lengths, starts) stored.count;
+  some = rw (lengths, starts) stored.some;
+  free = rw (lengths, starts, free) stored.free;
+  due = rw (lengths, starts, due) stored.due;
+}

@@ -105,6 +105,24 @@ impl Heap {
         })
     }
 
+    /// The same heap once more.
+    pub fn copy(&self, alloc: Global) -> Result<Heap, HeapFault>
+        ensures memory { IsOkUnless result HeapFault.Memory }
+        ensures same { IfOk result (λ copy. copy ≡ self.now) }
+    {
+        let table = self.table.copy(alloc)?;
+        let late = Vec::from_slice(alloc, &self.late)?;
+        Ok(Heap {
+            base: self.base,
+            table,
+            late,
+            is_open: self.is_open,
+            live_granules: self.live_granules,
+            due_granules: self.due_granules,
+            late_granules: self.late_granules,
+        })
+    }
+
     /// Makes a block of `size` bytes live, at the least place for it; `None` where it has no place.
     /// Sizes are rounded up to 16 bytes and then to what a capability can hold, and 0 counts as 1. It
     /// never errs.

@@ -1,11 +1,12 @@
 //! The granules of a heap, in rows of bits.
 
-ghost use Rattle.std.specs.Prelude.{◌≡◌, ◌<◌, ◌≤◌, ◌+◌, ◌*◌, ◌%◌, ◌^◌, ◌&&◌, ◌||◌, ◌/◌, not, ℕ, IfOk, false, length, slice_index};
+ghost use Rattle.std.specs.Prelude.{◌≡◌, ◌<◌, ◌≤◌, ◌+◌, ◌*◌, ◌%◌, ◌^◌, ◌&&◌, ◌||◌, ◌/◌, not, ℕ, IfOk, false, length, slice_index, true};
 ghost use Rattle.granule_rows.specs.Runs.{is_within};
+ghost use Rattle.heap_model.specs.Near.{LieBetween};
 ghost use Rattle.heap_core.specs.Rows.{AreGiven, AreRows, row_granules};
 ghost use Rattle.tag_memory.specs.Tags.{is_set_for};
 
-use granule_rows::{FreeRow, clear_run, clear_words, set_run};
+use granule_rows::{FreeRow, clear_run, clear_words, last_set, set_run};
 use host_memory::Global;
 use std::alloc::AllocError;
 use tag_memory::{WORD_GRANULES, lowest_bit, without_lowest};
@@ -55,6 +56,21 @@ impl Rows {
         })
     }
 
+    /// The same rows once more.
+    pub fn copy(&self, alloc: Global) -> Result<Rows, AllocError>
+        ensures free { IfOk result (λ rows. rows.free ≡ self.now.free) }
+        ensures starts { IfOk result (λ rows. rows.starts.items ≡ self.now.starts.items) }
+        ensures due { IfOk result (λ rows. rows.due.items ≡ self.now.due.items) }
+        ensures due_pages { IfOk result (λ rows. rows.due_pages.items ≡ self.now.due_pages.items) }
+    {
+        Ok(Rows {
+            free: self.free.copy(alloc)?,
+            starts: Vec::from_slice(alloc, &self.starts)?,
+            due: Vec::from_slice(alloc, &self.due)?,
+            due_pages: Vec::from_slice(alloc, &self.due_pages)?,
+        })
+    }
+
     /// Puts a block of `n` granules, at least one, at granule `start`.
     pub fn put(&mut self, start: usize, n: usize)
         requires rows { AreRows self.old }
@@ -87,6 +103,18 @@ impl Rows {
             start / PAGE_BITS,
             end.div_ceil(PAGE_BITS),
         );
+    }
+
+    /// Where due granules lie: from the first of these on, before the second. Their pages are looked for first.
+    pub fn due_part(&self) -> (usize, usize)
+        requires { AreRows self.now }
+        ensures { LieBetween (is_set_for self.now.due.items) result.0 result.1 }
+    {
+        let first_page = first_set(&self.due_pages, 0);
+        let end_page = end_of_set(&self.due_pages, WORD_GRANULES * self.due_pages.len());
+        let first = first_set(&self.due, PAGE_ROW_WORDS * first_page);
+        let end = end_of_set(&self.due, PAGE_BITS * end_page);
+        (first, end)
     }
 
     /// Makes the due granules free, and takes the blocks away that they lie in.
@@ -144,5 +172,35 @@ impl Rows {
         self.free.vacate_words(&self.due, first, end);
         clear_words(&mut self.starts, &self.due, first, end);
         clear_run(&mut self.due, WORD_GRANULES * first, WORD_GRANULES * end);
+    }
+}
+
+// From word `from` on no bit before this place is set.
+fn first_set(row: &[u64], from: usize) -> usize
+    requires { 64 * length row.now < 2 ^ 64 }
+    ensures before { (k : ℕ) → 64 * from ≤ k → is_set_for row.now k ≡ true → result ≤ k }
+    ensures inside { result ≤ 64 * length row.now }
+{
+    for w in from..row.len() {
+        if row[w] != 0 {
+            return WORD_GRANULES * w + lowest_bit(row[w]);
+        }
+    }
+    WORD_GRANULES * row.len()
+}
+
+// From this place on no bit before `end` is set.
+fn end_of_set(row: &[u64], end: usize) -> usize
+    requires { end ≤ 64 * length row.now }
+    ensures past { (k : ℕ) → k < end → is_set_for row.now k ≡ true → k < result }
+    ensures inside { result ≤ end }
+    ensures one { (k : ℕ) → result ≡ k + 1 → is_set_for row.now k ≡ true }
+{
+    if end == 0 {
+        return 0;
+    }
+    match last_set(row, end - 1) {
+        Some(last) => last + 1,
+        None => 0,
     }
 }

@@ -55,6 +55,15 @@ impl Table {
         Ok(Table { lengths, rows })
     }
 
+    /// The same table once more.
+    pub fn copy(&self, alloc: Global) -> Result<Table, AllocError>
+        ensures { IfOk result (λ copy. copy ≡ self.now) }
+    {
+        let lengths = Vec::from_slice(alloc, &self.lengths)?;
+        let rows = self.rows.copy(alloc)?;
+        Ok(Table { lengths, rows })
+    }
+
     /// How many granules there are.
     pub fn granules(&self) -> usize
         ensures { result ≡ length self.now.lengths }
@@ -354,7 +363,8 @@ impl Table {
         ensures painted { IfOk result (λ shadow. (k : ℕ) → k < length self.now.lengths
             → slice_index_or shadow k false ≡ is_occupied k (kept_lengths is_marked self.now.lengths self.now.marks)) }
     {
-        Shadow::of_row(alloc, &self.rows.due)
+        let (first, end) = self.rows.due_part();
+        Shadow::of_row(alloc, &self.rows.due, first, end)
     }
 
     /// How many due blocks there are.

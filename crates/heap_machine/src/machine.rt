@@ -1,6 +1,6 @@
 //! The machine that runs the commands of a trace.
 
-ghost use Rattle.std.specs.Prelude.{◌≡◌, ◌↔◌, ◌+◌, IfOk, false, replicate, true};
+ghost use Rattle.std.specs.Prelude.{◌≡◌, ◌↔◌, ◌+◌, IfOk, IfSome, false, replicate, true};
 ghost use Rattle.heap_model.specs.Blocks.{bytes_in};
 ghost use Rattle.heap_model.specs.Heap as heap;
 ghost use Rattle.tag_memory.specs.Extent as span;
@@ -84,6 +84,27 @@ impl Machine {
             registers: Registers::new(),
         };
         Ok(Machine { storage, cutting })
+    }
+
+    /// The same machine once more; `None` where memory runs out.
+    pub fn copy(&self, alloc: Global) -> Option<Machine>
+        ensures { IfSome result (λ copy. copy ≡ self.now) }
+    {
+        let Ok(heap) = self.storage.heap.copy(alloc) else {
+            return None;
+        };
+        let Ok(memory) = self.storage.memory.copy(alloc) else {
+            return None;
+        };
+        let storage = Storage {
+            heap,
+            memory,
+            registers: self.storage.registers.copy(),
+        };
+        Some(Machine {
+            storage,
+            cutting: self.cutting,
+        })
     }
 
     /// The registers now.

@@ -30,6 +30,15 @@ fn cutting_for(cutting: Cutting, tagged: usize) -> Cutting
     Cutting::new(workers, cutting.pages_per_task()).unwrap()
 }
 
+// How many tagged granules a pass may have to look at one by one. Where little of the heap is due, workers aren't worth their
+// start: of most words of tags it is seen at once that none is taken.
+fn tagged_for(storage: &Storage, shadow: &Shadow) -> usize {
+    match shadow.painted_part() {
+        Some(_) => 0,
+        None => storage.memory.tagged(),
+    }
+}
+
 /// What a pass finds now, by threads; `None` where memory runs out. In an open epoch it looks at dirty pages alone.
 /// One worker paints the shadow: it copies the row of the due granules, which takes less than the start of a thread.
 pub(crate) fn found_by_workers<R: Threads + Sync, G: Gate + Sync>(
@@ -64,7 +73,7 @@ fn masks_by_workers<R: Threads + Sync, G: Gate + Sync>(
     if storage.heap.is_open() {
         return sweep_dirty(rt, alloc, &storage.memory, shadow, &cutting, gate).ok();
     }
-    let cutting = cutting_for(cutting, storage.memory.tagged());
+    let cutting = cutting_for(cutting, tagged_for(storage, shadow));
     sweep_masks(rt, alloc, &storage.memory, shadow, &cutting, gate).ok()
 }
 

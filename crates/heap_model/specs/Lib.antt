@@ -5,6 +5,7 @@ pub mod ExtentLaws
 pub mod Found
 pub mod Heap
 pub mod Laws
+pub mod Near
 pub mod Place
 pub mod Quarantine
 pub mod Shadow

@@ -15,9 +15,9 @@ use Rattle.core.proofs.alloc.Calls.{Al, handle_tells}
 use Rattle.core.proofs.cell.Inside.{Good}
 use Rattle.std.specs.Prelude.{Option, Some, None, ◌≢◌}
 use Rattle.std.specs.Box.Ownership.{box_owns}
-use Rattle.std.specs.contracts.alloc.Global as heap
-use Rattle.std.proofs.alloc.Global.TheLaws as heap_laws
-use Rattle.std.specs.contracts.impls.GlobalAllocator.TheImpl.{ghosts}
+use Rattle.host_memory.specs.Heap as heap
+use Rattle.host_memory.specs.Heap.{ghosts}
+use Rattle.host_memory.proofs.HeapLaws as heap_laws
 use Rattle.loose_box.proofs.Values.{both}
 use Rattle.heap_machine.specs.contracts.machine.Machine as inner
 use Rattle.kernelstint.specs.Handle.{handle_owns}

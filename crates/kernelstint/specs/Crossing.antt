@@ -8,7 +8,7 @@ use Rattle.kernelstint.specs.declared.crossing.HostFields.{HostFields}
 use Rattle.kernelstint.specs.declared.crossing.HostLength.{HostLength}
 use Rattle.kernelstint.specs.declared.crossing.HostWord.{HostWord}
 
--- The number of 65 bits whose lower 64 are `low` and whose bit 64 is `high`.
+-- The number of two halves of 64 bits.
 abbrev pub wide : ℕ → ℕ → ℕ
 wide low high = low + 2 ^ 64 * high
 
@@ -16,12 +16,12 @@ wide low high = low + 2 ^ 64 * high
 abbrev pub word_from : HostWord → Word
 word_from w = record { bits = w.address + 2 ^ 64 * w.metadata }
 
--- A top and a length, whose bits 64 stand apart.
+-- A top and a length, of two halves each.
 abbrev pub top_of : HostBounds → ℕ
-top_of b = wide b.top b.top_64
+top_of b = wide b.top b.top_high
 
 abbrev pub length_of : HostLength → ℕ
-length_of n = wide n.length n.length_64
+length_of n = wide n.length n.length_high
 
 -- The bounds of a base and a top.
 abbrev pub bounds_from : HostBounds → Bounds

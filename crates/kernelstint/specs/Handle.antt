@@ -4,8 +4,8 @@ use denote.RattleType.{RattleType}
 use denote.RawPtr.{Ptr, null_ptr}
 use Rattle.std.specs.Prelude.{Option, Some, None}
 use Rattle.std.specs.Box.Ownership.{box_owns}
-use Rattle.std.specs.contracts.alloc.Global as heap
-use Rattle.std.specs.contracts.impls.GlobalAllocator.TheImpl.{ghosts}
+use Rattle.host_memory.specs.Heap as heap
+use Rattle.host_memory.specs.Heap.{ghosts}
 use Rattle.heap_machine.specs.contracts.machine.Machine.{the_row}
 
 abbrev pub handle_owns : (heap.the_row).Denot → (R : RattleType) → Ptr → Option R.Denot → Fml

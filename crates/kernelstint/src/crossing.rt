@@ -38,25 +38,25 @@ pub struct HostFields {
     pub internal: u8,
 }
 
-/// The bytes from `base` on, before a top of 65 bits.
+/// The bytes from `base` on, before a top that is told as in a reply.
 #[repr(C)]
 #[derive(Clone, Copy)]
 pub struct HostBounds {
     pub base: u64,
     /// The lower 64 bits of the top.
     pub top: u64,
-    /// Bit 64 of the top.
-    pub top_64: u8,
+    /// What is above.
+    pub top_high: u64,
 }
 
-/// A length of up to 65 bits.
+/// A length, told alike.
 #[repr(C)]
 #[derive(Clone, Copy)]
 pub struct HostLength {
     /// The lower 64 bits.
     pub length: u64,
-    /// Bit 64.
-    pub length_64: u8,
+    /// What is above.
+    pub length_high: u64,
 }
 
 /// By how many windows the base and the top lie apart from the address's own upper bits.
@@ -137,29 +137,27 @@ pub fn refused(code: u32) -> CodedWord
 pub fn top_in(bounds: HostBounds) -> u128
     ensures { result ≡ top_of bounds }
 {
-    (u128::from(bounds.top_64) << 64) + u128::from(bounds.top)
+    (u128::from(bounds.top_high) << 64) + u128::from(bounds.top)
 }
 
-// The bounds with their top's bit 64 apart.
+// The bounds with their top in two halves.
 pub fn bounds_out(bounds: Bounds) -> HostBounds
-    requires { bounds.top < 2 ^ 65 }
     ensures { bounds_from result ≡ bounds }
 {
     HostBounds {
         base: bounds.base,
         top: low(bounds.top),
-        top_64: (bounds.top >> 64) as u8,
+        top_high: (bounds.top >> 64) as u64,
     }
 }
 
-// A length with its bit 64 apart.
+// A length in two halves.
 pub fn length_out(length: u128) -> HostLength
-    requires { length < 2 ^ 65 }
     ensures { length_of result ≡ length }
 {
     HostLength {
         length: low(length),
-        length_64: (length >> 64) as u8,
+        length_high: (length >> 64) as u64,
     }
 }
 

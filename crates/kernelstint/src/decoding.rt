@@ -28,7 +28,7 @@ pub extern "C" fn kernelstint_bounds_of(word: HostWord) -> HostBounds
     ensures meets { IsBounds (fields_of (word_from word)) result.base (top_of result) }
     ensures only { (base top : ℕ) → IsBounds (fields_of (word_from word)) base top
         → (base ≡ result.base) × (top ≡ top_of result) }
-    ensures bit { result.top_64 ≤ 1 }
+    ensures bit { result.top_high ≤ 1 }
 {
     bounds_out(bounds(word_in(word)))
 }

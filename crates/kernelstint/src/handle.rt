@@ -66,7 +66,7 @@ impl MachineHandle {
 
 impl MachineHandle {
     /// Takes the machine out, and leaves none.
-    pub(crate) fn take(&mut self, alloc: Global) -> Box<Machine>
+    pub(crate) fn take(&mut self, alloc: Global) -> Box<Machine, Global>
         requires { self.old.value ≢ None }
         ensures taken { self.old.value ≡ Some result.value }
         ensures left { self.new.value ≡ None }
@@ -77,7 +77,7 @@ impl MachineHandle {
     }
 
     /// Puts a machine in where there is none.
-    pub(crate) fn put(&mut self, machine: Box<Machine>)
+    pub(crate) fn put(&mut self, machine: Box<Machine, Global>)
         requires { self.old.value ≡ None }
         ensures { self.new.value ≡ Some machine.value }
     {

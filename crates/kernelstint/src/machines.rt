@@ -9,9 +9,7 @@ ghost use Rattle.kernelstint.specs.Machines.{HasText, IsCopied, IsMachineStep, I
 
 use crate::codes::{BAD_COMMAND, BAD_ROOM, DONE, NO_MEMORY, code_of_fault};
 use crate::handle::MachineHandle;
-use byte_machine::{
-    CommandRecord, ReplyRecord, command_of, copy_of, machine_in, put_state, reply_record,
-};
+use byte_machine::{CommandRecord, ReplyRecord, command_of, machine_in, put_state, reply_record};
 use host_memory::Global;
 use state_bytes::exact_blocks_law;
 use sweep_pool::Open;
@@ -86,7 +84,7 @@ pub extern "C" fn kernelstint_proved_machine_copy(
     ensures kept { machine.new.value ≡ machine.old.value }
 {
     let held = machine.take(alloc);
-    let made = copy_of(alloc, &held);
+    let made = held.copy(alloc);
     machine.put(held);
     let Some(made) = made else {
         return NO_MEMORY;

@@ -1,8 +1,8 @@
 -- Blocks that are due, revoked, as the steps of a sweep and of an epoch's end.
-use Rattle.std.proofs.Common.{◌≡◌, ◌∙◌, List, inl, inr, ap, false, refl, sym, true}
+use Rattle.std.proofs.Common.{◌≡◌, ◌∙◌, List, inl, inr, ap, false, refl, true}
 use Rattle.std.proofs.lemmas.Bool.{cases_Bool}
 use Rattle.heap_model.specs.Blocks.{Span, bytes_in}
-use Rattle.heap_model.specs.Heap.{HeapState, due}
+use Rattle.heap_model.specs.Heap.{HeapState}
 use Rattle.heap_model.specs.Laws.{due-closed, due-open, without_due-closed, without_due-open}
 use Rattle.heap_model.specs.Quarantine.{without_due}
 use Rattle.heap_model.specs.Sweep.{swept_cells, swept_granules, tags_taken}

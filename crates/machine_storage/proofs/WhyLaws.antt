@@ -1,5 +1,5 @@
 -- Commands that have one answer, and why another is refused.
-use Rattle.std.proofs.Common.{◌≡◌, ◌≤◌, ◌+◌, ◌-◌, ℕ, Option, Some, None, refl, arith}
+use Rattle.std.proofs.Common.{◌≡◌, ◌≤◌, ◌+◌, ℕ, Option, Some, None, refl, arith}
 use Rattle.heap_model.specs.Heap.{HeapState, IsSound as IsSoundHeap}
 use Rattle.heap_model.specs.Quarantine.{without_waiting}
 use Rattle.trace_text.specs.declared.trace.Command.{Command}

@@ -1,5 +1,5 @@
 -- What becomes of an answer to a command.
-use Rattle.std.specs.Prelude.{◌≡◌, ◌≢◌, ◌<◌, ◌+◌, ℕ, max, Option, Some, None}
+use Rattle.std.specs.Prelude.{◌≡◌, ◌≢◌, ◌≤◌, ◌+◌, ℕ, max, Option, Some, None}
 use Rattle.heap_model.specs.Claim.{IsReason}
 use Rattle.heap_model.specs.Quarantine.{without_waiting}
 use Rattle.trace_text.specs.declared.trace.Command.{Command}
@@ -45,14 +45,21 @@ MakesNoPass command = HasOneReply command
 abbrev pub CanReply : State → Command → Reply → Type 0
 CanReply old command reply = (new : State) × Step old command reply new
 
--- Why a malloc of this size may not be answered so.
+-- From base to top there are as many bytes as a malloc of this size asks for, or more: 0 counts as 1.
+abbrev pub IsLongEnough : ℕ → ℕ → ℕ → Type 0
+IsLongEnough size base top = base + max 1 size ≤ top
+
+-- Why a malloc of this size may not be answered so, the first of these that is true: a sweep is told of, and none may be;
+-- the block is too short; the sweep takes another number of tags; the block may not lie there.
 abbrev pub IsWhyOfMalloc : State → ℕ → Reply → Why → Type 0
-IsWhyOfMalloc old size (Block base top) TooShort = top < base + max 1 size
-IsWhyOfMalloc old size (Block base top) (Refused reason) = IsReason old.heap base top reason
+IsWhyOfMalloc old size (Block base top) TooShort = ¬ IsLongEnough size base top
+IsWhyOfMalloc old size (Block base top) (Refused reason) = IsLongEnough size base top × IsReason old.heap base top reason
 IsWhyOfMalloc old size (BlockAfter base top cleared) MayNotSweep = ¬ MaySweep old
-IsWhyOfMalloc old size (BlockAfter base top cleared) TooShort = top < base + max 1 size
-IsWhyOfMalloc old size (BlockAfter base top cleared) (Takes count) = MaySweep old × (count ≡ sweep_takes old) × (cleared ≢ count)
-IsWhyOfMalloc old size (BlockAfter base top cleared) (Refused reason) = MaySweep old × IsReason (without_waiting old.heap) base top reason
+IsWhyOfMalloc old size (BlockAfter base top cleared) TooShort = MaySweep old × ¬ IsLongEnough size base top
+IsWhyOfMalloc old size (BlockAfter base top cleared) (Takes count) =
+    MaySweep old × IsLongEnough size base top × (count ≡ sweep_takes old) × (cleared ≢ count)
+IsWhyOfMalloc old size (BlockAfter base top cleared) (Refused reason) =
+    MaySweep old × IsLongEnough size base top × (cleared ≡ sweep_takes old) × IsReason (without_waiting old.heap) base top reason
 IsWhyOfMalloc old size (NoSpaceAfter cleared) MayNotSweep = ¬ MaySweep old
 IsWhyOfMalloc old size (NoSpaceAfter cleared) (Takes count) = MaySweep old × (count ≡ sweep_takes old) × (cleared ≢ count)
 IsWhyOfMalloc old size (Held bytes) NotOfMalloc = Unit {0}

@@ -5,7 +5,7 @@ ghost use Rattle.tag_memory.specs.Cells.{register_at, register_count};
 ghost use Rattle.trace_text.specs.Command.{IsValid};
 ghost use Rattle.machine_steps.specs.Dirty.{dirty_after};
 ghost use Rattle.machine_storage.specs.Storage.{IsServed, IsStorage, state_of};
-ghost use Rattle.machine_storage.specs.Passes.{FindsTags};
+ghost use Rattle.machine_storage.specs.Passes.{FindsTags, MakesPass, MayPass};
 ghost use Rattle.machine_steps.specs.Safety.{FitsTypes};
 ghost use Rattle.machine_steps.specs.Step.{Step, NeedsNoMemory, access, first_failed, index_in};
 
@@ -38,13 +38,13 @@ pub struct Storage {
 }
 
 impl Storage {
-    /// Does one command. `pass` tells what a pass finds.
+    /// Does one command. `pass` tells what a pass finds, and is called only where the command makes one.
     pub fn serve<P: Fn(&Storage) -> Option<Found>>(
         &mut self,
         command: Command,
         pass: &P,
     ) -> Result<Reply, MachineFault>
-        requires callable { P.IsAlwaysCallable pass.now }
+        requires callable { MakesPass self.old command → MayPass (P.pre pass.now) self.old }
         requires finds { FindsTags (P.post pass.now) }
         requires storage { IsStorage self.old }
         requires valid { IsValid command }

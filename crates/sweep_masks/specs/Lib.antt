@@ -4,5 +4,6 @@ pub mod Gather
 pub mod Laws
 pub mod MaskLaws
 pub mod Masks
+pub mod Outside
 pub mod Tasks
 pub mod Work

@@ -2,10 +2,11 @@
 
 ghost use Rattle.cap_codec.specs.Words.{base_of};
 ghost use Rattle.heap_model.specs.Heap.{HeapState, due};
-ghost use Rattle.std.specs.Prelude.{◌≡◌, ◌<◌, ◌≤◌, ◌*◌, ◌+◌, ◌^◌, ℕ, false, length, slice_index_or};
+ghost use Rattle.std.specs.Prelude.{◌≡◌, ◌<◌, ◌≤◌, ◌*◌, ◌+◌, ◌^◌, ℕ, false, length, slice_index_or, true};
 ghost use Rattle.heap_model.specs.Sweep.{takes_tag};
 ghost use Rattle.sweep_masks.specs.Masks.{IsShadowOf, is_hit, is_hit_at};
 ghost use Rattle.sweep_masks.specs.Masks as masks;
+ghost use Rattle.sweep_masks.specs.Outside.{HasBaseOutside};
 ghost use Rattle.sweep_masks.specs.declared.sweep.SweepFault.TheVariants.{Memory};
 ghost use Rattle.tag_memory.specs.Bases as bases;
 ghost use Rattle.tag_memory.specs.Cells.{cell_of, register_at, register_count};
@@ -18,6 +19,9 @@ use tag_memory::{
     FAR, GRANULE, Memory, REGISTERS, Registers, WORD_GRANULES, lowest_bit, without_lowest,
 };
 use thiserror::Error;
+
+// A word with so many tags or fewer is looked at tag by tag.
+const FEW_TAGS: u32 = 4;
 
 /// Why a sweep wasn't made.
 #[derive(Debug, PartialEq, Drop, Error)]
@@ -87,6 +91,54 @@ fn is_granule_painted(shadow: &Shadow, granule: usize) -> bool
     granule < shadow.granules() && shadow.painted(granule)
 }
 
+// Whether a word of tags has so many that to look at the bases of all its 64 granules at once costs less than to look at
+// those of the tagged ones.
+fn is_dense(tags: u64) -> bool {
+    let mut rest = tags;
+    for _ in 0..FEW_TAGS {
+        rest &= rest.wrapping_sub(1);
+    }
+    rest != 0
+}
+
+// Whether the base of a granule's word lies between these granules.
+#[inline(always)]
+fn is_base_between(memory: &Memory, i: usize, first: u32, end: u32) -> bool
+    requires { i < length memory.now.granules }
+    ensures { result ≡ false → HasBaseOutside memory.now first end i }
+{
+    let granule = memory.base_granule(i);
+    (first <= granule) & (granule < end)
+}
+
+// Whether one of the granules of word `w` has its base between these granules. All are looked at, in a row of comparisons,
+// whether tagged or not.
+#[inline(never)]
+fn has_base_between(memory: &Memory, w: usize, first: u32, end: u32) -> bool
+    requires { 64 * w + 64 ≤ length memory.now.granules }
+    ensures { result ≡ false → (j : ℕ) → j < 64 → HasBaseOutside memory.now first end (64 * w + j) }
+{
+    // Called for what it ensures alone: the granules are fewer than 2^64.
+    let _granules = memory.granules();
+    let mut is_between = false;
+    for j in 0..WORD_GRANULES {
+        is_between |= is_base_between(memory, WORD_GRANULES * w + j, first, end);
+    }
+    is_between
+}
+
+// Whether a word of tags has none that the pass takes, for a reason that takes no look at its tags one by one: where the
+// painted granules lie in a small part of the heap, none of its bases may.
+fn is_passed_over(memory: &Memory, shadow: &Shadow, w: usize) -> bool
+    requires { 64 * w + 64 ≤ length memory.now.granules }
+    ensures { result ≡ true → (j : ℕ) → j < 64 → is_hit_at memory.now shadow.now (64 * w + j) ≡ false }
+{
+    let Some((first, end)) = shadow.painted_part() else {
+        return false;
+    };
+    is_dense(memory.tag_word(w)) && !has_base_between(memory, w, first, end)
+}
+
 /// The mask of word `w` of the tags. The word isn't looked at where its page may hold no tags, and none of
 /// its 64 granules where it is 0.
 #[inline]
@@ -95,7 +147,7 @@ pub(crate) fn word_mask(memory: &Memory, shadow: &Shadow, w: usize, may_hold: bo
     requires untagged { may_hold ≡ false → (j : ℕ) → j < 64 → is_tagged memory.now.granules (64 * w + j) ≡ false }
     ensures { (j : ℕ) → j < 64 → is_set result j ≡ is_hit_at memory.now shadow.now (64 * w + j) }
 {
-    if !may_hold || memory.tag_word(w) == 0 {
+    if !may_hold || memory.tag_word(w) == 0 || is_passed_over(memory, shadow, w) {
         return 0;
     }
     tagged_mask(memory, shadow, w)

@@ -13,6 +13,7 @@ use crate::bits::{WORD_GRANULES, bit, with_bit};
 use crate::extent::{PAGE_GRANULES, is_base, is_size};
 use crate::pages::take_tags;
 use host_memory::Global;
+use std::alloc::AllocError;
 use std::marker::Model;
 use thiserror::Error;
 
@@ -109,6 +110,21 @@ impl Memory {
             tags,
             may_hold,
             dirty,
+        })
+    }
+
+    /// The same memory once more.
+    pub fn copy(&self, alloc: Global) -> Result<Memory, AllocError>
+        ensures { IfOk result (λ copy. copy ≡ self.now) }
+    {
+        Ok(Memory {
+            base: self.base,
+            pages: self.pages,
+            bits: Vec::from_slice(alloc, &self.bits)?,
+            granules_of_bases: Vec::from_slice(alloc, &self.granules_of_bases)?,
+            tags: Vec::from_slice(alloc, &self.tags)?,
+            may_hold: Vec::from_slice(alloc, &self.may_hold)?,
+            dirty: Vec::from_slice(alloc, &self.dirty)?,
         })
     }
 

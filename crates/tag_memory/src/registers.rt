@@ -52,6 +52,13 @@ impl Registers {
         }
     }
 
+    /// The same registers once more.
+    pub fn copy(&self) -> Registers
+        ensures { result ≡ self.now }
+    {
+        Registers { cells: self.cells }
+    }
+
     /// Tells what holds of all registers. Nothing is done.
     pub fn invariant(&self)
         ensures { AreRegisters self.now }

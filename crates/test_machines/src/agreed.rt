@@ -3,7 +3,7 @@
 use agreed_log::agreed;
 use heap_log::Tally;
 use heap_machine::Workers;
-use std::alloc::Global;
+use std::alloc::{AllocError, Global};
 use std::process::Abort;
 use std::thread::Threads;
 use sweep_pool::Cutting;
@@ -62,6 +62,55 @@ fn a_heap_alone_is_found(rt: HostRuntime) {
         found(&rt, rt.alloc(), "heap 0x40000000 1\n# end\n"),
         Some(none)
     );
+}
+
+// A log of so many bytes: one event, and a comment before it that fills the rest.
+fn long_log(alloc: Global, length: usize) -> Result<String, AllocError> {
+    let start = "heap 0x40000000 1\n#";
+    let event = "\nmalloc c1 16 -> block 0x40000000 0x40000010\n";
+    let mut text = String::new(alloc);
+    text.push_str(start)?;
+    let filler = vec![in alloc; b'x'; length.saturating_sub(start.len() + event.len())]?;
+    text.push_str(str::from_utf8(&filler).unwrap_or(""))?;
+    text.push_str(event)?;
+    Ok(text)
+}
+
+// However long a log is, it is found in one pass.
+#[test]
+fn long_logs_are_found(rt: HostRuntime) {
+    let tally = Tally {
+        tags: 0,
+        commands: 1,
+        blocks: 1,
+        passes: 0,
+    };
+    for length in [65_536usize, 65_537, 1_000_000, 16_777_216] {
+        let text = long_log(rt.alloc(), length).expect(&rt, "there is memory");
+        assert_eq!(rt; text.len(), length);
+        assert_eq!(rt; found(&rt, rt.alloc(), &text), Some(tally));
+    }
+    let text = long_log(rt.alloc(), 16_777_217).expect(&rt, "there is memory");
+    assert_eq!(rt; found(&rt, rt.alloc(), &text), None);
+}
+
+// Nor does it matter how many lines it has.
+#[test]
+fn logs_of_many_lines_are_found(rt: HostRuntime) {
+    let mut text = String::new(rt.alloc());
+    text.push_str("heap 0x40000000 1\n")
+        .expect(&rt, "there is memory");
+    for _ in 0..100_000 {
+        text.push_str("\ncopy c1 c2 -> ok\n")
+            .expect(&rt, "there is memory");
+    }
+    let tally = Tally {
+        tags: 0,
+        commands: 100_000,
+        blocks: 0,
+        passes: 0,
+    };
+    assert_eq!(rt; found(&rt, rt.alloc(), &text), Some(tally));
 }
 
 // Logs that lack something, one thing each, and those that are spelled unusually.

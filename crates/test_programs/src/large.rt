@@ -9,14 +9,23 @@ const HEAP: &[u8] = b"heap 0x40000000 1\n";
 
 const END: &[u8] = b"end live 0 held 0 free 4096 tags 0\n";
 
-// What the program writes for this text, after its status.
-fn answer<R: Threads + Sync>(rt: &R, alloc: Global, text: &[u8]) -> (u8, Vec<u8>) {
+// What the program writes for these words and this text, after its status.
+fn answer_to<R: Threads + Sync>(
+    rt: &R,
+    alloc: Global,
+    words: &[&str],
+    text: &[u8],
+) -> (u8, Vec<u8>) {
     let mut taken = Vec::new(alloc);
     let mut reader = FromRead::new(text);
     let mut writer = FromWrite::new(&mut taken);
-    let status = tool(rt, alloc, &["heap_tool", "run"], &mut reader, &mut writer);
+    let status = tool(rt, alloc, words, &mut reader, &mut writer);
     drop(writer);
     (status, taken)
+}
+
+fn answer<R: Threads + Sync>(rt: &R, alloc: Global, text: &[u8]) -> (u8, Vec<u8>) {
+    answer_to(rt, alloc, &["heap_tool", "run"], text)
 }
 
 #[test]
@@ -64,4 +73,31 @@ fn a_report_of_megabytes_is_written_whole(rt: HostRuntime) {
     assert_eq!(rt; status, 0);
     assert!(rt; report.len() > 3_000_000);
     assert!(rt; is_report(rt.alloc(), &report).expect(&rt, "there is memory"));
+}
+
+// A trace of so many blocks, each of which holds its own capability, and a sweep.
+fn stores(alloc: Global, count: usize) -> Result<Vec<u8>, AllocError> {
+    let mut text = Vec::from_slice(alloc, b"heap 0x40000000 512\n")?;
+    for _ in 0..count {
+        text.extend_from_slice(b"malloc c1 16\nstorecap c1 c1\n")?;
+    }
+    text.extend_from_slice(b"free c1\nsweep\n")?;
+    Ok(text)
+}
+
+// The sweep is large enough for threads, so one is started, and this is run with each start refused.
+#[test]
+fn a_refused_thread_of_a_tool_changes_nothing(rt: HostRuntime) {
+    let text = stores(rt.alloc(), 90_002).expect(&rt, "there is memory");
+    let (wanted, report) = answer(&rt, rt.alloc(), &text);
+    let words = ["heap_tool", "run", "--workers", "3", "--cut", "2"];
+    let (status, shared) = answer_to(&rt, rt.alloc(), &words, &text);
+    assert_eq!(rt; wanted, 0);
+    assert_eq!(rt; status, 0);
+    assert!(rt;
+        report.ends_with(
+            b"sweep cleared 2 released 16\nend live 1440016 held 0 free 657136 tags 90001\n"
+        )
+    );
+    assert!(rt; shared.as_slice() == report.as_slice());
 }

@@ -1,5 +1,7 @@
 //! Logs that are judged, words that are refused, and devices that fail.
 
+mod beside;
+
 use crate::devices::{Failing, Fixed, Short, Slow};
 use check_command::check_tool;
 use std::alloc::{AllocError, Global};
@@ -478,182 +480,36 @@ fn faults_are_named(rt: HostRuntime) {
     }
 }
 
-// What a program writes and says, and its status.
-#[derive(Drop)]
-struct Told {
-    status: u8,
-    written: Vec<u8>,
-    said: Vec<u8>,
+// A log of so many bytes: a heap line, and a comment.
+fn long_log(alloc: Global, length: usize) -> Result<Vec<u8>, AllocError> {
+    let mut text = Vec::from_slice(alloc, b"heap 0x40000000 1\n#")?;
+    text.resize(length, b'x')?;
+    Ok(text)
 }
 
-// What is written of a log, and what is said beside it to a device with so much room.
-fn said_beside<R: Threads + Sync>(rt: &R, alloc: Global, log: &str, room: usize) -> Told {
+#[test]
+fn a_log_has_16777216_bytes_at_most(rt: HostRuntime) {
+    let alloc = rt.alloc();
+    let text = long_log(alloc, 16_777_216).expect(&rt, "there is memory");
+    let (status, told) = answer(&rt, alloc, &["heap_check"], &text, (1_000_000, 1000));
+    assert_eq!(rt; status, 0);
+    assert_eq!(rt; told.as_slice(), EMPTY.as_bytes());
+    let text = long_log(alloc, 16_777_217).expect(&rt, "there is memory");
     let mut reader = Slow {
-        rest: log.as_bytes(),
-        step: 1000,
+        rest: &text,
+        step: 1_000_000,
         breaks: false,
         has_failed: false,
     };
-    let mut writer = Short {
-        taken: Vec::new(alloc),
-        step: 100,
-        room: 10_000,
-        has_failed: false,
-    };
-    let mut errors = Short {
-        taken: Vec::new(alloc),
-        step: 100,
-        room,
-        has_failed: false,
-    };
+    let mut writer = Fixed::new();
+    let mut errors = Fixed::new();
     let words = ["heap_check"];
-    let status = check_tool(rt, alloc, &words, &mut reader, &mut writer, &mut errors);
-    Told {
-        status,
-        written: writer.taken,
-        said: errors.taken,
-    }
-}
-
-// What is said of a log whose second line has no answer that is read.
-fn said<R: Threads + Sync>(rt: &R, alloc: Global, log: &str, room: usize) -> (u8, Vec<u8>) {
-    let told = said_beside(rt, alloc, log, room);
-    let is_fault = told.written.as_slice() == b"fault bad-answer 2\n".as_slice();
-    let status = if told.status != 3 || is_fault {
-        told.status
-    } else {
-        0
-    };
-    (status, told.said)
-}
-
-#[test]
-fn the_word_that_was_not_taken_is_named(rt: HostRuntime) {
-    let alloc = rt.alloc();
-    let rows = [
-        ("malloc c1 16 -> block 0x40000000 0X40000010", "0X40000010"),
-        ("malloc c1 16 -> block 0x4000000A 0x40000010", "0x4000000A"),
-        ("malloc c1 16 -> block 1073741824 1073741840", "1073741824"),
-        (
-            "malloc c1 16 -> block 0x40000000 0x40000010 sweep 1",
-            "sweep",
-        ),
-        ("malloc c1 16 -> block 0x40000000 0x40000010 swept 1 2", "2"),
-        ("malloc c1 16 -> nospace swept 01", "01"),
-        ("malloc c1 16 -> Block 0x40000000 0x40000010", "Block"),
-        ("free c1 -> held 0x10", "0x10"),
-        ("free c1 -> held 016\r", "016"),
-        ("free c1 -> trap Tag", "Tag"),
-        ("sweep -> ok junk", "junk"),
-        ("sweep -> cleared 1 released -1", "-1"),
-        ("sweep -> cleared 4294967296", "4294967296"),
-        ("show c1 -> tag 1 address 0x0 base 0x0 bottom 0x0", "bottom"),
-        ("show c1 -> tag 2", "2"),
-        (
-            "granule 0x40000000 -> 2 00000000000000000000000000000000",
-            "2",
-        ),
-        ("granule 0x40000000 -> ok", "ok"),
-        ("granule 0x40000000 -> 1 00", "00"),
-        ("sweep -> \u{e9}\u{1}x", "???x"),
-        (
-            "sweep -> aaaaaaaaaabbbbbbbbbbaaaaaaaaaabbbbbbbbbbaaaaaaaaaabbbbbbbbbbccc",
-            "aaaaaaaaaabbbbbbbbbbaaaaaaaaaabbbbbbbbbbaaaaaaaaaabbbbbbbbbb",
-        ),
-    ];
-    for (line, word) in rows {
-        let log = format!(in alloc; "heap 0x40000000 1\n{line}").expect(&rt, "there is memory");
-        let (status, told) = said(&rt, alloc, &log, 10_000);
-        let wanted = format!(in alloc;
-            "heap_check: line 2: no answer has the word {word} there (docs/QUARANTINE.md: What it prints)\n"
-        ).expect(&rt, "there is memory");
-        assert_eq!(rt; status, 3);
-        assert_eq!(rt; told.as_slice(), wanted.as_bytes(), "{line:?}");
-    }
-}
-
-#[test]
-fn an_answer_that_lacks_or_ends_too_early_is_told(rt: HostRuntime) {
-    let lacks =
-        "heap_check: line 2: it has no arrow -> between blanks (docs/QUARANTINE.md: What it prints)\n";
-    let ends =
-        "heap_check: line 2: its answer ends too early (docs/QUARANTINE.md: What it prints)\n";
-    let rows = [
-        ("sweep", lacks),
-        ("malloc c1 16", lacks),
-        ("sweep ->", ends),
-        ("malloc c1 16 -> block 0x40000000", ends),
-        ("malloc c1 16 -> nospace swept", ends),
-        ("free c1 -> trap", ends),
-        (
-            "show c1 -> tag 1 address 0x0 base 0x0 top 0x0 perms 0x0 type 0x0 exponent",
-            ends,
-        ),
-        ("granule 0x40000000 -> 1", ends),
-    ];
-    for (line, text) in rows {
-        let log = format!(in rt.alloc(); "heap 0x40000000 1\n{line}").expect(
-            &rt,
-            "there is memory",
-        );
-        let (status, told) = said(&rt, rt.alloc(), &log, 10_000);
-        assert_eq!(rt; status, 3);
-        assert_eq!(rt; told.as_slice(), text.as_bytes(), "{line:?}");
-    }
-}
-
-#[test]
-fn an_arrow_without_blanks_is_told_as_none(rt: HostRuntime) {
-    let lacks =
-        "heap_check: line 2: it has no arrow -> between blanks (docs/QUARANTINE.md: What it prints)\n";
-    let rows = [
-        ("malloc c1 16->nospace", "fault bad-number 2\n"),
-        ("malloc c1 16 ->nospace", "fault bad-count 2\n"),
-        ("free c1->held 16", "fault bad-count 2\n"),
-        ("free c1->trap", "fault bad-register 2\n"),
-        ("granule 0x40000000 0 00", "fault bad-count 2\n"),
-    ];
-    for (line, fault) in rows {
-        let log = format!(in rt.alloc(); "heap 0x40000000 1\n{line}").expect(
-            &rt,
-            "there is memory",
-        );
-        let told = said_beside(&rt, rt.alloc(), &log, 10_000);
-        assert_eq!(rt; told.status, 3);
-        assert_eq!(rt; told.written.as_slice(), fault.as_bytes());
-        assert_eq!(rt; told.said.as_slice(), lacks.as_bytes(), "{line:?}");
-    }
-}
-
-#[test]
-fn nothing_else_is_said(rt: HostRuntime) {
-    let rows = [
-        ("sweep -> cleared 0 released 0", 0),
-        ("sweep -> ok", 5),
-        ("given live 0x40000008 0x40000010", 5),
-        ("given live 0x40000010", 3),
-        ("free c32 -> held 16", 3),
-        ("frob", 3),
-    ];
-    for (line, wanted) in rows {
-        let log = format!(in rt.alloc(); "heap 0x40000000 1\n{line}").expect(
-            &rt,
-            "there is memory",
-        );
-        let told = said_beside(&rt, rt.alloc(), &log, 10_000);
-        assert_eq!(rt; told.status, wanted, "{line:?}");
-        assert!(rt; told.said.is_empty(), "{line:?}");
-    }
-}
-
-#[test]
-fn a_word_that_can_not_be_told_changes_nothing(rt: HostRuntime) {
-    for room in [0, 20] {
-        let log = "heap 0x40000000 1\nfree c1 -> held 0x10";
-        let (status, told) = said(&rt, rt.alloc(), log, room);
-        assert_eq!(rt; status, 3);
-        assert_eq!(rt; told.len(), room);
-    }
+    let status = check_tool(&rt, alloc, &words, &mut reader, &mut writer, &mut errors);
+    let wanted =
+        "heap_check: a log has at most 16777216 bytes (docs/QUARANTINE.md: What it prints)\n";
+    assert_eq!(rt; status, 3);
+    assert_eq!(rt; writer.text(), b"fault too-long\n".as_slice());
+    assert_eq!(rt; errors.text(), wanted.as_bytes());
 }
 
 #[test]

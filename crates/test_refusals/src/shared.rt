@@ -19,8 +19,9 @@ const BASE: u64 = 0x4000_0000;
 // From 86,000 tagged granules on a pass has two workers.
 const TAGGED: u64 = 90_002;
 
-// Two blocks: of 16 bytes, which is given up, and of 352 pages, which begins at granule 128. In so many granules of the
-// second stand the capabilities of both by turns, first that of the first.
+// Three blocks: of 16 bytes, of 352 pages, which begins at granule 128, and of 2,048 bytes behind these. The first and the
+// last are given up, so that the painted granules lie all over the heap. In so many granules of the second stand the capabilities
+// of the first and of itself by turns.
 const FREED: u128 = 0x003d_0000_0405_8004_0000_0000_4000_0000;
 
 const KEPT: u128 = 0x003d_0000_0183_c00c_0000_0000_4000_0800;
@@ -28,12 +29,15 @@ const KEPT: u128 = 0x003d_0000_0183_c00c_0000_0000_4000_0800;
 // That of the second with the address of the last such granule.
 const LAST: u128 = 0x003d_0000_0183_c00c_0000_0000_4016_0110;
 
-// The capabilities of the first block: those in memory, and one in register 1.
+// That of the third.
+const BEHIND: u128 = 0x003d_0000_0401_8804_0000_0000_4016_0800;
+
+// The capabilities of the first block in memory. One more stands in register 1, and that of the third block in register 4.
 const STORED: u32 = 45_001;
 
 const SWEPT: Reply = Reply::Swept {
-    cleared: STORED + 1,
-    released: 16,
+    cleared: STORED + 2,
+    released: 2064,
 };
 
 const BEGUN: Reply = Reply::Begun { cleared: STORED };
@@ -45,18 +49,18 @@ fn address_of(place: u64) -> u64
     BASE + 0x800 + 16 * place
 }
 
-// The trace: a store into each of these granules, and a sweep once the first block is freed. Its room is taken at
+// The trace: a store into each of these granules, and a sweep once the first block and the third are freed. Its room is taken at
 // once, so that few allocations are there to be refused.
 fn trace_text(alloc: Global) -> Option<String> {
     let mut text = String::with_capacity(alloc, 3_700_000).ok()?;
-    text.push_str("heap 0x40000000 360\nmalloc c1 16\nmalloc c2 1441792\n")
+    text.push_str("heap 0x40000000 360\nmalloc c1 16\nmalloc c2 1441792\nmalloc c4 2048\n")
         .ok()?;
     for place in 0..TAGGED {
         let address = address_of(place);
         let stored = place % 2 + 1;
         write!(text, "setaddr c3 c2 0x{address:x}\nstorecap c3 c{stored}\n").ok()?;
     }
-    text.push_str("free c1\nsweep\n").ok()?;
+    text.push_str("free c1\nfree c4\nsweep\n").ok()?;
     Some(text)
 }
 
@@ -64,16 +68,18 @@ fn trace_text(alloc: Global) -> Option<String> {
 fn report_text(alloc: Global) -> Option<String> {
     let mut report = String::with_capacity(alloc, 3_300_000).ok()?;
     report
-        .push_str("2 malloc block 0x40000000 0x40000010\n3 malloc block 0x40000800 0x40160800\n")
+        .push_str(
+            "2 malloc block 0x40000000 0x40000010\n3 malloc block 0x40000800 0x40160800\n4 malloc block 0x40160800 0x40161000\n",
+        )
         .ok()?;
     for place in 0..TAGGED {
-        let line = 4 + 2 * place;
+        let line = 5 + 2 * place;
         let next = line + 1;
         write!(report, "{line} setaddr ok\n{next} storecap ok\n").ok()?;
     }
     report
         .push_str(
-            "180008 free held 16\n180009 sweep cleared 45002 released 16\nend live 1441792 held 0 free 32768 tags 45003\n",
+            "180009 free held 16\n180010 free held 2048\n180011 sweep cleared 45003 released 2064\nend live 1441792 held 0 free 32768 tags 45003\n",
         )
         .ok()?;
     Some(report)
@@ -106,6 +112,7 @@ fn registers_are_swept(rt: &impl Abort, registers: &Registers) {
             1 => (FREED, false),
             2 => (KEPT, true),
             3 => (LAST, true),
+            4 => (BEHIND, false),
             _ => (0, false),
         };
         let (word, tag) = registers.get(r);
@@ -150,7 +157,7 @@ fn a_refused_allocation_and_thread_of_a_shared_run_are_told(rt: HostRuntime) {
     run_is_right(&rt, rt.alloc());
 }
 
-// The machine after those stores, with the first block freed; none where an allocation was refused.
+// The machine after those stores, with the first block and the third freed; none where an allocation was refused.
 fn machine<R: Threads + Sync>(rt: &R, alloc: Global) -> Option<Machine> {
     let cutting = Cutting::new(2, 6).ok()?;
     let mut machine = Machine::new(alloc, BASE, 360, cutting).ok()?;
@@ -160,15 +167,16 @@ fn machine<R: Threads + Sync>(rt: &R, alloc: Global) -> Option<Machine> {
             rd: 2,
             size: 1_441_792,
         },
+        Command::Malloc { rd: 4, size: 2048 },
     ] {
         let _ = machine.step(rt, alloc, command, &Open).ok()?;
     }
     for place in 0..TAGGED {
         store_at(rt, alloc, &mut machine, place)?;
     }
-    let _ = machine
-        .step(rt, alloc, Command::Free { rs: 1 }, &Open)
-        .ok()?;
+    for rs in [1, 4] {
+        let _ = machine.step(rt, alloc, Command::Free { rs }, &Open).ok()?;
+    }
     Some(machine)
 }
 

@@ -105,10 +105,11 @@ fn comes(calls: &AtomicU64, wanted: u64) -> bool {
     false
 }
 
-// A gate whose first call waits until so many calls have come.
+// A gate whose first call waits until so many calls have come. It counts how often it is told of each task.
 #[derive(Drop)]
 pub(super) struct Meeting {
     pub(super) calls: AtomicU64,
+    told: Tally,
     wanted: u64,
     pub(super) met: AtomicBool,
 }
@@ -117,6 +118,7 @@ impl Meeting {
     pub(super) fn of(wanted: u64) -> Meeting {
         Meeting {
             calls: AtomicU64::new(0),
+            told: Tally::new(),
             wanted,
             met: AtomicBool::new(false),
         }
@@ -124,7 +126,8 @@ impl Meeting {
 }
 
 impl Gate for Meeting {
-    fn pass(&self, _task: u32) {
+    fn pass(&self, task: u32) {
+        self.told.pass(task);
         if self.calls.fetch_add(1, SeqCst) == 0 && comes(&self.calls, self.wanted) {
             self.met.store(true, SeqCst);
         }
@@ -199,6 +202,12 @@ fn a_held_worker_leaves_its_tasks_to_others(rt: HostRuntime) {
         );
         assert!(rt; gate.met.load(SeqCst), "run {run}");
         assert_eq!(rt; gate.calls.load(SeqCst), 8, "run {run}");
+        // Each task by its own number, also where a worker passed over one that was claimed.
+        assert_eq!(rt;
+            gate.told.counts.load(SeqCst),
+            0x0101_0101_0101_0101,
+            "run {run}"
+        );
         assert_eq!(rt; masks.as_slice(), [0; 32].as_slice());
     }
 }

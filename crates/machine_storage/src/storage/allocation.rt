@@ -3,7 +3,7 @@
 ghost use Rattle.std.specs.Prelude.{◌≡◌, IfErr, IfOk, IsOk, OnErr, OnOk, false, true};
 ghost use Rattle.trace_text.specs.Command.{IsValid};
 ghost use Rattle.machine_storage.specs.Storage.{IsStorage, state_of};
-ghost use Rattle.machine_storage.specs.Passes.{FindsTags};
+ghost use Rattle.machine_storage.specs.Passes.{FindsTags, MakesPass, MayPass};
 ghost use Rattle.machine_steps.specs.Step.{MaySweep, Step, NeedsNoMemory};
 
 use crate::fault::MachineFault;
@@ -23,7 +23,7 @@ impl Storage {
         size: u64,
         pass: &P,
     ) -> Result<Reply, MachineFault>
-        requires callable { P.IsAlwaysCallable pass.now }
+        requires callable { MakesPass self.old (Command.Malloc rd size) → MayPass (P.pre pass.now) self.old }
         requires finds { FindsTags (P.post pass.now) }
         requires storage { IsStorage self.old }
         requires valid { IsValid (Command.Malloc rd size) }

@@ -5,7 +5,7 @@ ghost use Rattle.tag_memory.specs.Cells.{is_dirty_at};
 ghost use Rattle.machine_steps.specs.Dirty.{dirty_after};
 ghost use Rattle.machine_storage.specs.Followed.{CanReply, IsExpected};
 ghost use Rattle.machine_storage.specs.Storage.{IsStorage, state_of};
-ghost use Rattle.machine_storage.specs.Passes.{FindsTags};
+ghost use Rattle.machine_storage.specs.Passes.{FindsTags, MakesPass, MayPass};
 ghost use Rattle.machine_steps.specs.Step.{Step, NeedsNoMemory};
 
 use crate::fault::MachineFault;
@@ -25,7 +25,7 @@ impl Storage {
         expected: Option<Reply>,
         pass: &P,
     ) -> Result<Reply, MachineFault>
-        requires callable { P.IsAlwaysCallable pass.now }
+        requires callable { MakesPass self.old Command.Begin → MayPass (P.pre pass.now) self.old }
         requires finds { FindsTags (P.post pass.now) }
         requires storage { IsStorage self.old }
         ensures step { IfOk result (λ reply. IsExpected expected reply → Step (state_of self.old) Command.Begin reply (state_of self.new)) }
@@ -69,7 +69,7 @@ impl Storage {
         expected: Option<Reply>,
         pass: &P,
     ) -> Result<Reply, MachineFault>
-        requires callable { P.IsAlwaysCallable pass.now }
+        requires callable { MakesPass self.old Command.End → MayPass (P.pre pass.now) self.old }
         requires finds { FindsTags (P.post pass.now) }
         requires storage { IsStorage self.old }
         ensures step { IfOk result (λ reply. IsExpected expected reply → Step (state_of self.old) Command.End reply (state_of self.new)) }

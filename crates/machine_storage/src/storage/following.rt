@@ -5,7 +5,7 @@ ghost use Rattle.trace_text.specs.Command.{IsValid};
 ghost use Rattle.machine_steps.specs.Dirty.{dirty_after};
 ghost use Rattle.machine_storage.specs.Followed.{CanReply, FollowsFreely, HasOneReply, IsExpected, IsFollowed, IsJudgedFreely};
 ghost use Rattle.machine_storage.specs.Storage.{IsStorage, state_of};
-ghost use Rattle.machine_storage.specs.Passes.{FindsTags};
+ghost use Rattle.machine_storage.specs.Passes.{FindsTags, FollowsByPass, IsJudgedByPass, MakesPass, MayPass};
 ghost use Rattle.machine_steps.specs.Safety.{FitsTypes};
 ghost use Rattle.machine_steps.specs.Step.{MaySweep, Step, NeedsNoMemory};
 
@@ -20,14 +20,15 @@ use machine_steps::{any_placement_law, safe_reuse_law};
 use trace_text::Command;
 
 impl Storage {
-    /// Does one command as it was answered, where it may be answered so. Everything is judged before anything changes.
+    /// Does one command as it was answered, where it may be answered so. Everything is judged before anything changes, and
+    /// `pass` is called only where that takes a pass.
     pub fn follow<P: Fn(&Storage) -> Option<Found>>(
         &mut self,
         command: Command,
         answer: Reply,
         pass: &P,
     ) -> Result<Followed, MachineFault>
-        requires callable { P.IsAlwaysCallable pass.now }
+        requires callable { FollowsByPass self.old command answer → MayPass (P.pre pass.now) self.old }
         requires finds { FindsTags (P.post pass.now) }
         requires storage { IsStorage self.old }
         requires valid { IsValid command }
@@ -52,7 +53,7 @@ impl Storage {
         answer: Reply,
         pass: &P,
     ) -> Result<Followed, MachineFault>
-        requires callable { P.IsAlwaysCallable pass.now }
+        requires callable { MakesPass self.old command → MayPass (P.pre pass.now) self.old }
         requires finds { FindsTags (P.post pass.now) }
         requires storage { IsStorage self.old }
         requires valid { IsValid command }
@@ -81,7 +82,7 @@ impl Storage {
         answer: Reply,
         pass: &P,
     ) -> Result<Reply, MachineFault>
-        requires callable { P.IsAlwaysCallable pass.now }
+        requires callable { MakesPass self.old command → MayPass (P.pre pass.now) self.old }
         requires finds { FindsTags (P.post pass.now) }
         requires storage { IsStorage self.old }
         requires valid { IsValid command }
@@ -118,7 +119,7 @@ impl Storage {
         answer: Reply,
         pass: &P,
     ) -> Result<Followed, MachineFault>
-        requires callable { P.IsAlwaysCallable pass.now }
+        requires callable { IsJudgedByPass self.old size answer → MayPass (P.pre pass.now) self.old }
         requires finds { FindsTags (P.post pass.now) }
         requires storage { IsStorage self.old }
         requires valid { IsValid (Command.Malloc rd size) }
@@ -181,7 +182,7 @@ impl Storage {
         cleared: u32,
         pass: &P,
     ) -> Result<Followed, MachineFault>
-        requires callable { P.IsAlwaysCallable pass.now }
+        requires callable { IsJudgedByPass self.old size (Reply.BlockAfter base top cleared) → MayPass (P.pre pass.now) self.old }
         requires finds { FindsTags (P.post pass.now) }
         requires storage { IsStorage self.old }
         requires valid { IsValid (Command.Malloc rd size) }
@@ -220,7 +221,7 @@ impl Storage {
         cleared: u32,
         pass: &P,
     ) -> Result<Followed, MachineFault>
-        requires callable { P.IsAlwaysCallable pass.now }
+        requires callable { IsJudgedByPass self.old size (Reply.NoSpaceAfter cleared) → MayPass (P.pre pass.now) self.old }
         requires finds { FindsTags (P.post pass.now) }
         requires storage { IsStorage self.old }
         requires valid { IsValid (Command.Malloc rd size) }

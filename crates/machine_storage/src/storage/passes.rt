@@ -4,7 +4,7 @@ ghost use Rattle.std.specs.Prelude.{◌≡◌, IfErr, IfOk};
 ghost use Rattle.heap_model.specs.Heap.{due};
 ghost use Rattle.sweep_masks.specs.Masks.{TakeTags};
 ghost use Rattle.machine_storage.specs.Storage.{IsStorage};
-ghost use Rattle.machine_storage.specs.Passes.{FindsTags};
+ghost use Rattle.machine_storage.specs.Passes.{FindsTags, MayPass};
 
 use crate::fault::MachineFault;
 use crate::storage::Storage;
@@ -23,7 +23,7 @@ impl Storage {
         &self,
         pass: &P,
     ) -> Result<Vec<u64, Global>, MachineFault>
-        requires callable { P.IsAlwaysCallable pass.now }
+        requires callable { MayPass (P.pre pass.now) self.now }
         requires finds { FindsTags (P.post pass.now) }
         requires storage { IsStorage self.now }
         ensures memory { IfErr result (λ fault. fault ≡ MachineFault.Memory) }

@@ -3,7 +3,7 @@
 ghost use Rattle.std.specs.Prelude.{◌≡◌, IfErr, IfOk, OnErr, OnOk};
 ghost use Rattle.trace_text.specs.Command.{IsValid};
 ghost use Rattle.machine_storage.specs.Storage.{IsStorage, state_of};
-ghost use Rattle.machine_storage.specs.Passes.{FindsTags};
+ghost use Rattle.machine_storage.specs.Passes.{FindsTags, MayPass};
 ghost use Rattle.machine_steps.specs.Step.{HasNoPlace, MaySweep, Step};
 
 use crate::fault::MachineFault;
@@ -22,7 +22,7 @@ impl Storage {
         size: u64,
         pass: &P,
     ) -> Result<Reply, MachineFault>
-        requires callable { P.IsAlwaysCallable pass.now }
+        requires callable { MayPass (P.pre pass.now) self.old }
         requires finds { FindsTags (P.post pass.now) }
         requires storage { IsStorage self.old }
         requires valid { IsValid (Command.Malloc rd size) }

@@ -10,7 +10,7 @@ ghost use Rattle.tag_memory.specs.Cells.{Cell, MemoryState};
 ghost use Rattle.trace_text.specs.Command.{IsValid};
 ghost use Rattle.machine_storage.specs.Followed.{CanReply, IsExpected};
 ghost use Rattle.machine_storage.specs.Storage.{IsServed, IsStorage, state_of};
-ghost use Rattle.machine_storage.specs.Passes.{FindsTags};
+ghost use Rattle.machine_storage.specs.Passes.{FindsTags, MakesPass, MayPass};
 ghost use Rattle.machine_storage.specs.Revoked.{AreApplied, AreRevoked, IsRevocation, reply_of_revocation};
 ghost use Rattle.machine_steps.specs.Step.{Step, NeedsNoMemory};
 
@@ -99,7 +99,7 @@ impl Storage {
         expected: Option<Reply>,
         pass: &P,
     ) -> Result<Reply, MachineFault>
-        requires callable { P.IsAlwaysCallable pass.now }
+        requires callable { MakesPass self.old Command.Sweep → MayPass (P.pre pass.now) self.old }
         requires finds { FindsTags (P.post pass.now) }
         requires storage { IsStorage self.old }
         ensures step { IfOk result (λ reply. IsExpected expected reply → Step (state_of self.old) Command.Sweep reply (state_of self.new)) }
@@ -131,7 +131,7 @@ impl Storage {
         expected: Option<Reply>,
         pass: &P,
     ) -> Result<Reply, MachineFault>
-        requires callable { P.IsAlwaysCallable pass.now }
+        requires callable { MayPass (P.pre pass.now) self.old }
         requires finds { FindsTags (P.post pass.now) }
         requires storage { IsStorage self.old }
         ensures reply { IfOk result (λ reply. reply ≡ reply_of_revocation self.old) }
@@ -161,7 +161,7 @@ impl Storage {
         &self,
         pass: &P,
     ) -> Result<RevokedTags, MachineFault>
-        requires callable { P.IsAlwaysCallable pass.now }
+        requires callable { MayPass (P.pre pass.now) self.now }
         requires finds { FindsTags (P.post pass.now) }
         requires storage { IsStorage self.now }
         ensures memory { IfErr result (λ fault. fault ≡ MachineFault.Memory) }

@@ -1,5 +1,7 @@
 //! Sweeps by several workers, as a gate sees them.
 
+ghost use Rattle.std.specs.Prelude.{◌<◌};
+
 use heap_machine::{Machine, MachineFault, Reply};
 use std::alloc::Global;
 use std::process::Abort;
@@ -50,25 +52,40 @@ impl Gate for Count {
     }
 }
 
-// A machine of 532 pages and 136,000 blocks of 16 bytes, each of which holds its own capability; the last
-// of them is held, and its capability is in register 1 too. It may have 64 workers, of which three are worth their start,
+// A machine of 532 pages and 136,000 blocks of 16 bytes, each of which holds its own capability; the first and the last
+// of them are held, and their capabilities are in the registers 2 and 1 too. It may have 64 workers, of which three are worth their start,
 // and 1 page a task.
 fn crowded_machine<R: Threads + Sync>(rt: &R, alloc: Global) -> Result<Machine, MachineFault> {
     let Ok(cutting) = Cutting::new(64, 1) else {
         return Err(MachineFault::Memory);
     };
     let mut machine = Machine::new(alloc, 0x4000_0000, 532, cutting)?;
-    for _ in 0..136_000 {
-        let _ = machine.step(rt, alloc, Command::Malloc { rd: 1, size: 16 }, &Open)?;
-        let _ = machine.step(rt, alloc, Command::StoreCap { ra: 1, rs: 1 }, &Open)?;
+    put_block(rt, alloc, &mut machine, 2)?;
+    for _ in 1..136_000 {
+        put_block(rt, alloc, &mut machine, 1)?;
     }
+    let _ = machine.step(rt, alloc, Command::Free { rs: 2 }, &Open)?;
     let _ = machine.step(rt, alloc, Command::Free { rs: 1 }, &Open)?;
     Ok(machine)
 }
 
+// A block of 16 bytes, which holds its own capability.
+fn put_block<R: Threads + Sync>(
+    rt: &R,
+    alloc: Global,
+    machine: &mut Machine,
+    r: u8,
+) -> Result<(), MachineFault>
+    requires { r < 32 }
+{
+    let _ = machine.step(rt, alloc, Command::Malloc { rd: r, size: 16 }, &Open)?;
+    let _ = machine.step(rt, alloc, Command::StoreCap { ra: r, rs: r }, &Open)?;
+    Ok(())
+}
+
 const SWEPT: Reply = Reply::Swept {
-    cleared: 2,
-    released: 16,
+    cleared: 4,
+    released: 32,
 };
 
 #[test]
@@ -79,7 +96,7 @@ fn a_sweep_of_many_tags_is_shared(rt: HostRuntime) {
     assert_eq!(rt; reply, Ok(SWEPT));
     assert_eq!(rt; gate.calls.load(SeqCst), 532);
     assert_eq!(rt; gate.tasks.load(SeqCst), 532 * 531 / 2);
-    assert_eq!(rt; machine.memory().tagged(), 135_999);
+    assert_eq!(rt; machine.memory().tagged(), 135_998);
 }
 
 #[test]
@@ -113,7 +130,7 @@ fn a_sweep_of_many_tags_is_made_alone(rt: HostRuntime) {
     assert_eq!(rt; reply, Ok(SWEPT));
     assert_eq!(rt; gate.calls.load(SeqCst), 532);
     assert_eq!(rt; gate.tasks.load(SeqCst), 532 * 531 / 2);
-    assert_eq!(rt; machine.memory().tagged(), 135_999);
+    assert_eq!(rt; machine.memory().tagged(), 135_998);
 }
 
 // The sweep of a malloc is shared too, and is one.
@@ -126,9 +143,9 @@ fn a_malloc_that_sweeps_shares_its_sweep(rt: HostRuntime) {
         size: 1 << 20,
     };
     let reply = machine.step(&rt, rt.alloc(), asked, &gate);
-    assert_eq!(rt; reply, Ok(Reply::NoSpaceAfter { cleared: 2 }));
+    assert_eq!(rt; reply, Ok(Reply::NoSpaceAfter { cleared: 4 }));
     assert_eq!(rt; gate.calls.load(SeqCst), 532);
-    assert_eq!(rt; machine.memory().tagged(), 135_999);
+    assert_eq!(rt; machine.memory().tagged(), 135_998);
 }
 
 // Whichever threads are refused, a sweep is the same.
@@ -137,7 +154,7 @@ fn a_refused_thread_of_a_sweep_changes_nothing(rt: HostRuntime) {
     let mut machine = crowded_machine(&rt, rt.alloc()).expect(&rt, "there is memory");
     let reply = machine.step(&rt, rt.alloc(), Command::Sweep, &Open);
     assert_eq!(rt; reply, Ok(SWEPT));
-    assert_eq!(rt; machine.memory().tagged(), 135_999);
+    assert_eq!(rt; machine.memory().tagged(), 135_998);
 }
 
 #[test]
@@ -148,6 +165,6 @@ fn a_refused_thread_of_a_malloc_that_sweeps_changes_nothing(rt: HostRuntime) {
         size: 1 << 20,
     };
     let reply = machine.step(&rt, rt.alloc(), asked, &Open);
-    assert_eq!(rt; reply, Ok(Reply::NoSpaceAfter { cleared: 2 }));
-    assert_eq!(rt; machine.memory().tagged(), 135_999);
+    assert_eq!(rt; reply, Ok(Reply::NoSpaceAfter { cleared: 4 }));
+    assert_eq!(rt; machine.memory().tagged(), 135_998);
 }

@@ -6,9 +6,9 @@ use denote.RawPtr.{Ptr}
 use denote.Struct.Struct.{exits_of}
 use denote.Struct.Owning.{shape, fields, to}
 use denote.Param.Send.{IsSend, AllSend, owning_send, struct_send, sendable}
-use Rattle.std.proofs.Crossing.{frees}
 use Rattle.std.specs.Prelude.{Option, Some, None}
-use Rattle.std.proofs.alloc.Global.TheSendSync as heap
+use Rattle.host_memory.proofs.HeapLaws as heap
+use Rattle.host_memory.proofs.HeapLaws.{frees}
 use Rattle.std_alloc.proofs.SendSync.{quiet, lies}
 use Rattle.heap_machine.proofs.machine.Machine.TheSendSync.{the_send as inner}
 use Rattle.kernelstint.proofs.HandleValues.{R, Z}

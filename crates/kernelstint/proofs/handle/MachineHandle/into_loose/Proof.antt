@@ -21,8 +21,8 @@ use denote.Steps.{nothing, heard}
 use denote.Triple.Walked.{Stays, stay_dropped, walk_of, Goes-dropped}
 use Rattle.std.specs.Prelude.{Some, None, ◌≢◌}
 use Rattle.std.specs.Box.Ownership.{box_owns}
-use Rattle.std.proofs.alloc.Global.TheLaws as heap_laws
-use Rattle.std.specs.contracts.impls.GlobalAllocator.TheImpl.{ghosts}
+use Rattle.host_memory.specs.Heap.{ghosts}
+use Rattle.host_memory.proofs.HeapLaws as heap_laws
 use Rattle.std.proofs.raw_atomic.Walks.{proved_at, leaves}
 use Rattle.loose_box.proofs.Values.{both, loose_good, loose_in}
 use Rattle.kernelstint.proofs.HandleValues.{R, Z, H as Hd, handle_out, some_out}

@@ -17,8 +17,8 @@ use denote.RawPtr.{block_ptr}
 use denote.Steps.{nothing}
 use denote.Triple.Walked.{Stays, stay_dropped, walk_of, Goes-dropped}
 use Rattle.std.specs.Prelude.{Some}
-use Rattle.std.proofs.alloc.Global.TheLaws as heap_laws
-use Rattle.std.specs.contracts.impls.GlobalAllocator.TheImpl.{ghosts}
+use Rattle.host_memory.specs.Heap.{ghosts}
+use Rattle.host_memory.proofs.HeapLaws as heap_laws
 use Rattle.std.proofs.raw_atomic.Walks.{proved_at, leaves}
 use Rattle.loose_box.proofs.Values.{both, LooseBox, loose_good, loose_out}
 use Rattle.kernelstint.proofs.HandleValues.{R, Z, handle_in}

@@ -1,12 +1,9 @@
 use Rattle.std.proofs.Common.{◌≡◌, ◌∙◌, [], false, true, refl, subst, sym, arith}
 use Rattle.heap_model.specs.Blocks.{bytes_in}
-use Rattle.heap_model.specs.Heap.{HeapState, IsSound, due, held_bytes}
-use Rattle.heap_model.specs.Laws.{due-closed, without_due-closed}
-use Rattle.heap_model.specs.Quarantine.{without_due, without_waiting}
+use Rattle.heap_model.specs.Heap.{IsSound, held_bytes}
 use Rattle.heap_reply.specs.declared.reply.Reply.TheVariants.{Swept}
 use Rattle.trace_text.specs.declared.trace.Command.TheVariants.{Sweep}
 use Rattle.machine_storage.specs.Storage.{state_of}
-use Rattle.machine_storage.specs.Revoked.{AreRevoked, AreApplied}
 use Rattle.machine_steps.specs.State.{State}
 use Rattle.machine_steps.specs.Step.{Step, after_sweep}
 use Rattle.machine_storage.proofs.DueSweep.{sweep_leaves, sweep_step}

@@ -15,7 +15,7 @@ returns-then-count-cleared-clause-followed g c =
     let revoked : AreRevoked m.heap.waiting m.memory m.registers c.in_ok-revoked.revoked = rw (due-closed m.heap may.closed) at c.in_ok-revoked.ensures.revoked in
     let counted : c.count-count.result ≡ sweep_takes (state_of c.args.self.now) = c.count-count.ensures m.heap.waiting m.memory m.registers revoked in (
       λ left follows. c.if-count-cleared.true (counted ∙ sym follows.0.cleared_is),
-      (may, counted, λ is. c.if-count-cleared.true (sym is)),
+      (may, omega (arith, c.least_top.ensures, c.if-top-least_top.false), counted, λ is. c.if-count-cleared.true (sym is)),
       refl,
     )
 
@@ -23,12 +23,14 @@ pub returns-in_default : goal.returns-in_default
 returns-in_default g c =
     let m = c.args.self.now in
     let may : MaySweep (state_of c.args.self.now) = c.may_sweep.ensures.may c.if-not-may_sweep.false in
+    let revoked : AreRevoked m.heap.waiting m.memory m.registers c.in_ok-revoked.revoked = rw (due-closed m.heap may.closed) at c.in_ok-revoked.ensures.revoked in
+    let counted : c.count-count.result ≡ sweep_takes (state_of c.args.self.now) = c.count-count.ensures m.heap.waiting m.memory m.registers revoked in
     let refused = claim_refused m.heap (without_waiting m.heap) c.args.base c.args.top c.give_back_and_claim.result c.give_back_and_claim.new.self c.in_default.not-Claimed c.give_back_and_claim.ensures.claim in
     let same = refused.1 in
     record {
       followed = (
         λ left follows. no_reason (without_waiting m.heap) c.args.base c.args.top c.give_back_and_claim.result follows.1.may refused.0,
-        (may, refused.0),
+        (may, omega (arith, c.least_top.ensures, c.if-top-least_top.false), sym c.if-count-cleared.false ∙ counted, refused.0),
         λ i. record { heap = same i; granules = m.memory.granules; registers = m.registers },
       );
       base = rw same c.requires.storage.base;

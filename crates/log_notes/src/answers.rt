@@ -1,11 +1,12 @@
-//! What is said beside the fault of a log whose answer isn't read: the word that wasn't taken.
+//! Which word of an answer that isn't read wasn't taken.
 
 ghost use Rattle.std.specs.Prelude.{◌≤◌, length};
 
+use crate::saying::{joined, shown};
 use host_memory::Global;
-use log_text::{Asked, LogFault, asked_line, event_of_answer, parse};
+use log_text::{Asked, asked_line, event_of_answer};
 use std::alloc::AllocError;
-use trace_text::{Line, TraceFault, split_line, split_name};
+use trace_text::Line;
 
 // One answer of each form, with all words that it may have.
 const ANSWERS: [&str; 7] = [
@@ -24,9 +25,6 @@ const SEEN: [&str; 1] = ["0 00000000000000000000000000000000"];
 // More words than any answer has.
 const MOST_WORDS: usize = 16;
 
-// As much as is told of a word.
-const MOST_TOLD: usize = 60;
-
 /// What of a line's answer wasn't taken.
 #[derive(Clone, Copy)]
 enum Wrong<'a> {
@@ -36,17 +34,6 @@ enum Wrong<'a> {
     Ends,
     /// No answer has this word there.
     Word(&'a [u8]),
-}
-
-// The line of a text with this number, from 1.
-fn line_numbered(text: &[u8], number: u32) -> Option<Line<'_>> {
-    let mut rest = text;
-    for _ in 1..number {
-        let (_, after) = split_line(rest)?;
-        rest = after;
-    }
-    let (line, _) = split_line(rest)?;
-    Some(line)
 }
 
 // What stands behind so many words, if there are as many.
@@ -121,64 +108,19 @@ fn wrong_in<'a>(alloc: Global, line: &Line<'a>) -> Result<Wrong<'a>, AllocError>
     }
 }
 
-// A word as it may be told: its first bytes, and a `?` for each that isn't printed.
-fn push_shown(text: &mut Vec<u8, Global>, word: &[u8]) -> Result<(), AllocError> {
-    for byte in &word[..word.len().min(MOST_TOLD)] {
-        text.push(if byte.is_ascii_graphic() { *byte } else { b'?' })?;
-    }
-    Ok(())
+/// That a line has no arrow.
+pub fn no_arrow(alloc: Global) -> Result<Vec<u8, Global>, AllocError> {
+    joined(alloc, &[b"it has no arrow -> between blanks"])
 }
 
-fn push_wrong(text: &mut Vec<u8, Global>, wrong: Wrong<'_>) -> Result<(), AllocError> {
-    match wrong {
-        Wrong::NoArrow => text.extend_from_slice(b"it has no arrow -> between blanks"),
-        Wrong::Ends => text.extend_from_slice(b"its answer ends too early"),
+/// What is wrong with the answer of this line.
+pub fn answer_wanted(alloc: Global, line: &Line<'_>) -> Result<Vec<u8, Global>, AllocError> {
+    match wrong_in(alloc, line)? {
+        Wrong::NoArrow => no_arrow(alloc),
+        Wrong::Ends => joined(alloc, &[b"its answer ends too early"]),
         Wrong::Word(word) => {
-            text.extend_from_slice(b"no answer has the word ")?;
-            push_shown(text, word)?;
-            text.extend_from_slice(b" there")
+            let word = shown(alloc, word)?;
+            joined(alloc, &[b"no answer has the word ", &word, b" there"])
         }
     }
-}
-
-// The line of a fault that may lie in what stands where an arrow should.
-fn faulty_line(fault: &LogFault) -> Option<u32> {
-    match *fault {
-        LogFault::BadAnswer(line) => Some(line),
-        LogFault::Trace(TraceFault::BadCount(line) | TraceFault::BadNumber(line)) => Some(line),
-        LogFault::Trace(TraceFault::BadRegister(line) | TraceFault::BadData(line)) => Some(line),
-        _ => None,
-    }
-}
-
-// Whether a line that should have an arrow has none.
-fn lacks_arrow(line: &Line<'_>) -> bool {
-    let Some((name, words)) = split_name(line) else {
-        return false;
-    };
-    name != b"given".as_slice() && words.split_at_word(b"->").is_none()
-}
-
-/// The line that names the word which isn't taken in the first answer of a log that isn't read, or says that it has no arrow;
-/// nothing for other texts.
-pub fn hint(alloc: Global, log: &[u8]) -> Result<Option<Vec<u8, Global>>, AllocError> {
-    let Err(fault) = parse(alloc, log) else {
-        return Ok(None);
-    };
-    let Some(number) = faulty_line(&fault) else {
-        return Ok(None);
-    };
-    let Some(line) = line_numbered(log, number) else {
-        return Ok(None);
-    };
-    let wrong = match fault {
-        LogFault::BadAnswer(_) => wrong_in(alloc, &line)?,
-        LogFault::Trace(_) if lacks_arrow(&line) => Wrong::NoArrow,
-        LogFault::Trace(_) => return Ok(None),
-    };
-    let begun = format!(in alloc; "heap_check: line {number}: ")?;
-    let mut text = begun.into_bytes();
-    push_wrong(&mut text, wrong)?;
-    text.extend_from_slice(b" (docs/QUARANTINE.md: What it prints)\n")?;
-    Ok(Some(text))
 }

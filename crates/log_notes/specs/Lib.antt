@@ -1,0 +1,4 @@
+pub mod Beside
+pub mod Hint
+pub mod Notes
+pub mod Part
