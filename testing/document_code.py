@@ -7,10 +7,10 @@ import os
 import pathlib
 import re
 
-FUNCTION = re.compile(r"^( *)(pub )?(?:extern \"C\" )?fn (\w+)")
+FUNCTION = re.compile(r"^( *)(?:pub\(\w+\) )?(pub )?(?:extern \"C\" )?fn (\w+)")
 OWNER = re.compile(r"^(?:impl(?:<.*?>)? (?:.* for )?|(?:pub )?trait )(?:\w+::)*(\w+).*\{$")
 USE = re.compile(r"^pub use (\w+)::([\w:]*?)(?:\{([^}]*)\}|(\w+));", re.M)
-SCRIPTS = ("gate", "heap_check", "heap_curve", "heap_page", "heap_record", "heap_states", "heap_tool", "launcher", "library", "crates.txt")
+SCRIPTS = ("gate", "heap_check", "heap_curve", "heap_page", "heap_record", "heap_states", "heap_tool", "launcher", "library", "portable/", "prove", "crates.txt")
 # What has words that stand nowhere else: wrong bodies, and wrong documents.
 NOT_WORDS = ("testing/edits/", "testing/refused_edits", "testing/documents")
 ITEM = re.compile(r"^pub (?:extern \"C\" )?(?:fn|struct|enum|trait|const|type) (\w+)", re.M)
@@ -26,6 +26,7 @@ class Function:
     name: str
     is_public: bool
     contract: str
+    body: str = dataclasses.field(repr=False)
 
     def clauses(self):
         """The names of what it ensures; '' where that has none."""
@@ -51,6 +52,15 @@ def contract_at(lines, at, indent):
     return "\n".join(lines[at : end + 1])
 
 
+def body_at(lines, at, indent):
+    """A function's text behind its contract, up to its last brace; '' where it has none."""
+    first = at + contract_at(lines, at, indent).count("\n")
+    if lines[first].endswith(("{}", ";")):
+        return ""
+    end = next((it for it in range(first, len(lines)) if lines[it] == indent + "}"), first)
+    return "\n".join(lines[first : end + 1])
+
+
 def functions_in(crate, module, text):
     """The functions of a file. Those of a trait are public, and so are those by which a type has one."""
     owner, is_of_trait = "", False
@@ -62,7 +72,8 @@ def functions_in(crate, module, text):
             owner, is_of_trait = found[1], "trait " in line or " for " in line
         elif found := FUNCTION.match(line):
             indent, public, name = found.groups()
-            yield Function(crate, module, owner if indent else "", name, bool(public) or is_of_trait and len(indent) == 4, contract_at(lines, at, indent))
+            yield Function(crate, module, owner if indent else "", name, bool(public) or is_of_trait and len(indent) == 4, contract_at(lines, at, indent),
+                           body_at(lines, at, indent))
 
 
 class Code:
@@ -87,13 +98,17 @@ class Code:
             return self.changed[file]
         return (self.root / file).read_text(encoding="utf-8", errors="replace")
 
+    @staticmethod
+    def module(crate, file):
+        """The module of a crate that a file of its src/ is; '' of its root."""
+        module = file[len(f"crates/{crate}/src/") : -len(".rt")].replace("/", "::")
+        return "" if module in ("lib", "main") else module
+
     @functools.lru_cache(maxsize=None)
     def functions(self, crate):
-        source = f"crates/{crate}/src/"
         found = []
-        for file in sorted(it for it in self.files if it.startswith(source) and it.endswith(".rt")):
-            module = file[len(source) : -len(".rt")].replace("/", "::")
-            found += functions_in(crate, "" if module in ("lib", "main") else module, self.text(file))
+        for file in sorted(it for it in self.files if it.startswith(f"crates/{crate}/src/") and it.endswith(".rt")):
+            found += functions_in(crate, self.module(crate, file), self.text(file))
         return found
 
     @functools.lru_cache(maxsize=None)
@@ -120,6 +135,27 @@ class Code:
         owners = [owner] if owner else exports
         found = [it for of in owners if of in exports for it in self.functions(exports[of][0]) if (it.owner, it.name) == (of, name)]
         return [it for it in found if it.is_public]
+
+    @functools.lru_cache(maxsize=None)
+    def named(self, name):
+        """The functions of all crates by this name, which may have a type, a module or a crate before it, of a trait what has it."""
+        owner, _, last = name.rpartition("::")
+        owner = owner.rpartition("::")[2]
+        found = [it for crate in sorted(self.crates) for it in self.functions(crate) if it.name == last]
+        return [it for it in found if not owner or owner in (it.owner, it.crate, *it.module.split("::"))]
+
+    @functools.lru_cache(maxsize=None)
+    def parts(self):
+        """What types and modules have beside functions: the variants of enums, and items of modules and crates, as `A::b`."""
+        found = set()
+        for file in self.files:
+            if file.startswith("crates/") and "/src/" in file and file.endswith(".rt"):
+                text = self.text(file)
+                for name, body in re.findall(r"^pub enum (\w+)(?:<.*?>)? \{\n(.*?)^\}", text, re.M | re.S):
+                    found |= {f"{name}::{it}" for it in re.findall(r"^    (\w+)", body, re.M)}
+                found |= {f"{home}::{it}" for home in (file.split("/")[1], pathlib.Path(file).stem) for it in ITEM.findall(text)}
+                found |= {f"{file.split('/')[1]}::{it}" for it in re.findall(r"^pub mod (\w+);", text, re.M)}
+        return found
 
     def private_calls(self, crate, call):
         owner, _, name = call.rpartition("::")

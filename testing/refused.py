@@ -100,6 +100,11 @@ def add(sums, is_known):
         os.close(folder)
 
 
-def is_to_be_tried(known, name, now):
-    """Whether the sum of this name isn't the one of the record, or is due today."""
-    return known.get(name) != now or int(now, 16) % SHARE == datetime.date.today().toordinal() % SHARE
+def stands(known, name, now):
+    """Whether the sum of this name is the one of the record."""
+    return known.get(name) == now
+
+
+def is_due(now):
+    """Whether what has this sum is tried today though it is known."""
+    return int(now, 16) % SHARE == datetime.date.today().toordinal() % SHARE
