@@ -75,17 +75,21 @@ fn a_report_of_megabytes_is_written_whole(rt: HostRuntime) {
     assert!(rt; is_report(rt.alloc(), &report).expect(&rt, "there is memory"));
 }
 
-// A trace of so many blocks, each of which holds its own capability, and a sweep.
+// A trace of so many blocks, each of which holds its own capability. The first and the last are freed, so that the held
+// granules lie all over the heap, and then it sweeps.
 fn stores(alloc: Global, count: usize) -> Result<Vec<u8>, AllocError> {
-    let mut text = Vec::from_slice(alloc, b"heap 0x40000000 512\n")?;
-    for _ in 0..count {
+    let mut text = Vec::from_slice(
+        alloc,
+        b"heap 0x40000000 512\nmalloc c2 16\nstorecap c2 c2\n",
+    )?;
+    for _ in 1..count {
         text.extend_from_slice(b"malloc c1 16\nstorecap c1 c1\n")?;
     }
-    text.extend_from_slice(b"free c1\nsweep\n")?;
+    text.extend_from_slice(b"free c1\nfree c2\nsweep\n")?;
     Ok(text)
 }
 
-// The sweep is large enough for threads, so one is started, and this is run with each start refused.
+// The sweep has two workers, so one thread is started, and this is run with each start refused.
 #[test]
 fn a_refused_thread_of_a_tool_changes_nothing(rt: HostRuntime) {
     let text = stores(rt.alloc(), 90_002).expect(&rt, "there is memory");
@@ -96,7 +100,7 @@ fn a_refused_thread_of_a_tool_changes_nothing(rt: HostRuntime) {
     assert_eq!(rt; status, 0);
     assert!(rt;
         report.ends_with(
-            b"sweep cleared 2 released 16\nend live 1440016 held 0 free 657136 tags 90001\n"
+            b"sweep cleared 4 released 32\nend live 1440000 held 0 free 657152 tags 90000\n"
         )
     );
     assert!(rt; shared.as_slice() == report.as_slice());
