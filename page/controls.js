@@ -99,6 +99,7 @@ export function addControls(viewer) {
     byId('typed').addEventListener('input', viewer.takeTyped);
     listenToMap();
     viewer.listenToWindow();
+    viewer.watchInspector();
     const others = [viewer.listenToFind, viewer.listenToBlocks, viewer.listenToComparison, viewer.listenToPaper, viewer.listenToHandout,
       viewer.listenToSave, viewer.listenToPictures, viewer.listenToEdit, viewer.listenToWhole];
     for (const listenTo of others) listenTo();

@@ -6,6 +6,7 @@ from page_model import NAMES, COLOURS, PATTERNS, NULL_WORD, Word, block_key, gro
 
 # All that the page shows of a step, as its document has it.
 LOOK = r"""(() => {
+  drawDue(); // else what is out of sight has a step a moment later (kept)
   const all = selector => [...document.querySelectorAll(selector)], text = node => (node ? node.textContent : null);
   const middle = node => { const box = node.getBBox(); return [box.x + box.width / 2, box.y + box.height / 2]; };
   const box = node => { const { x, y, width, height } = node.getBBox(); return [x, y, width, height]; };
