@@ -15,6 +15,7 @@ import { fillMenu, inC, readLessons, showLesson } from './lessons.js';
 import { Program } from './program.js';
 import { Tasks } from './task.js';
 
+const NARROW = matchMedia('(max-width: 899px)'); // as in style.css
 const PAUSE = 150, SLICE = 8; // ms: after the last key, and of work that a key waits for
 
 let heapViewer = null; // of the run that is shown
@@ -84,15 +85,32 @@ function originOf() {
   return [...text, ...(desk.isAtOnce ? ['at_once'] : []), ...desk.tasks.address()];
 }
 
+// On a narrow screen what happens stands above the editor, for who goes there by Tab or hears the page too: the head and the map, or what is
+// told in their place. The editor itself stays, with its keyboard.
+function arrange(viewer = heapViewer) {
+  const above = byDesk('above'), root = byDesk('root'), place = NARROW.matches && !viewer?.view.present && !viewer?.view.embed ? above : root;
+  const focused = /** @type {HTMLElement} */ (document.activeElement), header = document.querySelector('header');
+  if (!viewer) place.append(...above.children, ...root.children);
+  else if (header.parentNode !== place) {
+    place.prepend(header);
+    (place === root ? byDesk('three') : header).after(byDesk('stage'));
+  }
+  if (document.activeElement !== focused) focused.focus({ preventScroll: true });
+}
+
+function closeViewer() {
+  if (heapViewer) heapViewer.close();
+  heapViewer = null;
+  byDesk('above').replaceChildren();
+}
+
 // Begins at a step, or as an address tells.
 function showRun(run, begin) {
   const isAddress = typeof begin === 'string';
-  if (heapViewer) {
-    if (!isAddress) heapViewer.writeAddress();
-    heapViewer.close();
-  }
+  if (heapViewer && !isAddress) heapViewer.writeAddress();
+  closeViewer();
   setAddress(isAddress ? begin || '#' : addressWith(begin ?? 0));
-  heapViewer = mount(document.querySelector('#root'), new Cursor(run), { isAtOnce: desk.isAtOnce, origin: originOf, place: placeForOthers, inC: step => inC(desk.about, step.line, step.text), lineOfWord: desk.isFallback ? null : lineOfWord,
+  heapViewer = mount(document.querySelector('#root'), new Cursor(run), { arrange, isAtOnce: desk.isAtOnce, origin: originOf, place: placeForOthers, inC: step => inC(desk.about, step.line, step.text), lineOfWord: desk.isFallback ? null : lineOfWord,
     onStep: (shown, { ask }) => {
       desk.edit.showLine(shown.line);
       desk.edit.hideLater(ask ? shown.line : null);
@@ -101,11 +119,11 @@ function showRun(run, begin) {
 
 // Takes the map away, and what the address says of it.
 function showNoRun(...shown) {
-  if (heapViewer) heapViewer.close();
-  heapViewer = null;
+  closeViewer();
   desk.edit.showLine(null);
   setAddress('#' + [...originOf(), ...looksOf()].join('&'));
   byDesk('root').replaceChildren(...shown);
+  arrange();
 }
 
 // A trace with more commands than a map has: its report, and the band.
@@ -382,6 +400,7 @@ function listenToDesk() {
   });
   listenToFiles(byDesk, text => setText(desk.tasks.takeText(text), 0), message => announce(message, true));
   addEventListener('hashchange', openAddress);
+  NARROW.addEventListener('change', () => arrange());
 }
 
 function toggleAtOnce() {
