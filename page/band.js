@@ -53,8 +53,8 @@ export function addBand(viewer) {
     const tags = state.tagged.register.size + state.tagged.granule.size;
     const told = Object.entries({ live: said('{0} live', grouped(live)), held: said('{0} held', grouped(held)),
       free: said('{0} bytes free', grouped(4096 * run.pages - live - held)), tags: inTags(tags), passes: said('pass'), traps: said('trap') });
-    const box = byId('sums'), empty = ([name]) => element('span', {}, element('i', { class: 'swatch band-' + name }), '');
-    if (!box.firstChild) box.append(...told.map(empty));
+    const box = byId('sums');
+    if (!box.firstChild) for (const [name] of told) box.append(element('span', {}, element('i', { class: 'swatch band-' + name }), ''));
     told.forEach(([, text], index) => { if (box.children[index].textContent !== text) box.children[index].lastChild.data = text; });
   }
 

@@ -54,7 +54,9 @@ export function tellFault(message) {
 // document has one at a time: it takes the keys, and the address.
 /** @param {any} root @param {import('./cursor.js').Cursor} cursor @param {Host} host */
 export function mount(root, cursor, host = {}) {
-  const { run } = cursor, ending = new AbortController(), byId = id => document.querySelector('#' + id); // the page around may have placed it elsewhere
+  const { run } = cursor, ending = new AbortController();
+  /** @type {(id: string) => any} */
+  const byId = id => document.querySelector('#' + id); // the page around may have placed it elsewhere
   root.replaceChildren(/** @type {HTMLTemplateElement} */ (document.querySelector('#page')).content.cloneNode(true));
   // Whether a key is for a field, for the table of keys, or for the browser.
   const isTyped = event => event.ctrlKey || event.metaKey || event.altKey || byId('keys').open ||
