@@ -226,6 +226,7 @@ PRESENT = r"""(() => {
   }
   for (const part of parts.map(byId)) if (part.scrollHeight > part.clientHeight + 1 || part.scrollWidth > part.clientWidth + 1) past.push(part.id);
   if (document.documentElement.scrollHeight > innerHeight) past.push('page');
+  if ([...document.querySelectorAll('#map [data-reason]')].some(line => line.getBBox().y + map.top < 0)) past.push('a line');
   return JSON.stringify({ least: Math.min(...texts.map(text => text[1])), parts: [...new Set(texts.map(text => text[0]))].sort(), past, reach: run.reach,
     legend: [...byId('legend').children].filter(item => item.checkVisibility()).map(item => item.innerText.trim()),
     three: [...byId('three').children].map(line => line.textContent.trim()), current: [...byId('three').children].findIndex(line => line.ariaCurrent),

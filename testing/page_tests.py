@@ -358,12 +358,13 @@ class Tests(page_long.LongTests):
         for folder in self.lessons():
             name, raw = folder.name, (folder / "stdin").read_bytes()
             path, model = self.page(root, raw, name), page_model.Run(raw, self.data(raw))
-            for width, height in ((1024, 768), (390, 844)):
-                self.open(path, width=width, height=height, at="#present&step=1")
+            for width, height, at in ((1024, 768, "#present&step=1"), (1024, 768, "#present&ask&step=1"), (390, 844, "#present&step=1")):
+                self.open(path, width=width, height=height, at=at)
                 for index in range(len(model.values)):
                     seen = json.loads(run(f"go({index}); {page_look.PRESENT}"))
-                    told = f"{name} on {width} by {height}, step {index}"
-                    self.check(f"{told}: the map, what is told and the legend are in sight", [run(low) <= height, "map" in seen["past"], "told" in seen["past"], "legend" in seen["past"]], [True] + [False] * 3)
+                    told = f"{name} on {width} by {height}, {at}, step {index}"
+                    self.check(f"{told}: the map, its lines, what is told and the legend are in sight",
+                               [run(low) <= height, [part for part in ("map", "a line", "told", "legend") if part in seen["past"]]], [True, []])
                     self.check_legend(told, model, index, seen["legend"])
             self.no_noise(name)
 
