@@ -42,6 +42,7 @@ export function tellFault(message) {
   paragraph.textContent = message;
   fault.hidden = false;
   fault.append(paragraph);
+  return paragraph;
 }
 
 /**

@@ -21,7 +21,7 @@ const PAUSE = 150, SLICE = 8; // ms: after the last key, and of work that a key 
 let heapViewer = null; // of the run that is shown
 
 const desk = { text: '', lessons: readLessons(), lesson: null, about: null, packed: null, isAtOnce: false, isFallback: false, timer: null, runs: 0, edit: null,
-  notice: '' /* what is said before the next answer */, tasks: null, outcome: null /* of the last run */ };
+  notice: '' /* what is said before the next answer */, shownNotice: null, tasks: null, outcome: null /* of the last run */ };
 const program = new Program(), words = new Program();
 /** @type {(id: string) => any} */
 const byDesk = id => document.querySelector('#' + id);
@@ -30,6 +30,17 @@ const announce = (message, isBad = false) => {
   byDesk('said').textContent = message;
   byDesk('said').classList.toggle('refused', isBad);
 };
+
+// What is said of a link stands above all else where the editor is out of sight, until the next run.
+function announceNotice(notice) {
+  announce(notice, true);
+  if (NARROW.matches || !byDesk('said').checkVisibility()) desk.shownNotice = tellFault(notice);
+}
+
+function takeNoticeAway() {
+  desk.shownNotice?.remove();
+  byDesk('fault').hidden = byDesk('fault').childNodes.length === 0;
+}
 
 // The line of a word, as the program tells it.
 async function lineOfWord(hex) {
@@ -160,7 +171,8 @@ function tellRun(answer, milliseconds) {
   desk.edit.showFault(answer.fault ?? null);
   const { notice } = desk;
   desk.notice = '';
-  if (notice) return announce(notice, true);
+  takeNoticeAway();
+  if (notice) return announceNotice(notice);
   if (answer.fault?.told) return announce(said('Line {0}: {1}.', answer.fault.line, answer.fault.name), true);
   if (answer.fault) return announce(said('Line {0}: {1}. Shown is what comes before it.', answer.fault.line, answer.fault.name), true);
   if (desk.isAtOnce) return announce(said('Without quarantine: words, tags and traps are the proved program’s, and where blocks lie is this page’s, of which nothing is proved.'));
@@ -300,7 +312,8 @@ async function textOfAddress(address) {
 async function openAddress() {
   const address = location.hash, text = await textOfAddress(address);
   if (text === null && desk.notice) {
-    announce(desk.notice, true);
+    takeNoticeAway();
+    announceNotice(desk.notice);
     desk.notice = '';
   } else desk.tasks.takeAddress(address);
   const isAtOnce = new URLSearchParams(address.slice(1)).has('at_once');
