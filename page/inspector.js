@@ -8,9 +8,9 @@ import { grouped, said, saidCount, say } from './say.js';
 export function addInspector(viewer) {
   const { run, view, byId, cursor: state } = viewer;
 
-  const DUE = 100; // milliseconds after a step, by which it is painted
+  const DUE = 150; // milliseconds after the last step, by which it is painted
 
-  let drawnWord = null, isInSight = true, isDue = false;
+  let drawnWord = null, isInSight = true, due = null;
 
   // What the reader has chosen, or the trace for him: a register, a granule or a word that was typed.
   function chosenCell() {
@@ -53,13 +53,12 @@ export function addInspector(viewer) {
   // At a step: what is out of sight keeps no step waiting.
   function drawInspectorSoon() {
     if (isInSight) return drawInspector();
-    if (isDue) return;
-    isDue = true;
-    setTimeout(drawDue, DUE);
+    clearTimeout(due);
+    due = setTimeout(drawDue, DUE);
   }
 
   function drawDue() {
-    if (isDue && !viewer.signal.aborted) drawInspector();
+    if (due !== null && !viewer.signal.aborted) drawInspector();
   }
 
   function watchInspector() {
@@ -70,7 +69,8 @@ export function addInspector(viewer) {
   }
 
   function drawInspector() {
-    isDue = false;
+    clearTimeout(due);
+    due = null;
     const { name, cell } = chosenCell() || { name: said('null, as nothing is chosen'), cell: NULL_CELL };
     const typed = view.chosen && view.chosen.kind === 'word';
     byId('follow').checked = view.follow;
