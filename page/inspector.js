@@ -8,7 +8,8 @@ import { grouped, said, saidCount, say } from './say.js';
 export function addInspector(viewer) {
   const { run, view, byId, cursor: state } = viewer;
 
-  const DUE = 150; // milliseconds after the last step, by which it is painted
+  // Milliseconds after the last step, by which it is painted.
+  const DUE = 150;
 
   let drawnWord = null, isInSight = true, due = null;
 

@@ -56,8 +56,9 @@ export function tellFault(message) {
 /** @param {any} root @param {import('./cursor.js').Cursor} cursor @param {Host} host */
 export function mount(root, cursor, host = {}) {
   const { run } = cursor, ending = new AbortController();
+  // The page around may have placed it elsewhere.
   /** @type {(id: string) => any} */
-  const byId = id => document.querySelector('#' + id); // the page around may have placed it elsewhere
+  const byId = id => document.querySelector('#' + id);
   root.replaceChildren(/** @type {HTMLTemplateElement} */ (document.querySelector('#page')).content.cloneNode(true));
   // Whether a key is for a field, for the table of keys, or for the browser.
   const isTyped = event => event.ctrlKey || event.metaKey || event.altKey || byId('keys').open ||

@@ -59,14 +59,14 @@ export function addMap(viewer) {
     if (L.shown < run.granules) grid.append(rest);
   }
 
-  // Its cells, and the addresses of its rows where there is room.
+  // Its cells, and the addresses of its rows where there is room: in the middle of each, so that a pin at its foot is nearer to it than to the next.
   function drawPart(L, { first, top, bottom }) {
     let lines = `M${L.gutter} ${top}H${L.right}V${bottom}H${L.gutter}Z`;
     if (L.height >= 7) for (let y = top; y <= bottom; y += L.height) lines += `M${L.gutter} ${y}H${L.right}`;
     if (L.width >= 7) for (let column = 0; column <= L.columns; column++) lines += `M${L.gutter + column * L.width} ${top}V${bottom}`;
     map.layers.grid.append(shape('path', { d: lines }));
     for (let y = top; y < bottom; y += Math.ceil(13 * L.scale / L.height) * L.height) {
-      const place = first + (y - top) / L.height * L.columns, low = y + L.height / 2 + 4 * L.scale; // in the middle: a pin at a row's foot is nearer to it than to the next
+      const place = first + (y - top) / L.height * L.columns, low = y + L.height / 2 + 4 * L.scale;
       map.layers.grid.append(shape('text', { x: L.gutter - 6, y: low, class: 'row' }, hex(run.addressOf(place))));
     }
   }
@@ -245,7 +245,7 @@ export function addMap(viewer) {
     viewer.draw(false);
   }
 
-  // A line from each word, a chip for a register, to its base in a block: of words whose tag went, in the block that is the reason.
+  // A line on the sheet from each word, a chip for a register, to its base in a block: of words whose tag went, in the block that is the reason.
   // Answers how many chips there are.
   function drawLines(L, rows, blockOf, isTagged) {
     const shown = rows.slice(0, DRAWN_REASONS), chipCount = shown.filter(row => row.kind === 'register').length;
@@ -266,7 +266,7 @@ export function addMap(viewer) {
       } else {
         const [x, y] = viewer.spotOf(L, row.place);
         start = [x + L.width / 2, y + 3];
-        const high = y => Math.max(y, 4 - top); // on the sheet
+        const high = y => Math.max(y, 4 - top);
         bend = [start[0], high(start[1] - L.height * 1.3), end[0] + L.width * .5, high(end[1] - L.height * 1.5)];
       }
       map.layers.reasons.append(shape('path', { class: 'reason', d: `M${start}C${bend.slice(0, 2)} ${bend.slice(2)} ${end}`,

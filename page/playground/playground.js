@@ -15,13 +15,15 @@ import { fillMenu, inC, readLessons, showLesson } from './lessons.js';
 import { Program } from './program.js';
 import { Tasks } from './task.js';
 
-const NARROW = matchMedia('(max-width: 899px)'); // as in style.css
+// As in style.css.
+const NARROW = matchMedia('(max-width: 899px)');
 const PAUSE = 150, SLICE = 8; // ms: after the last key, and of work that a key waits for
 
 let heapViewer = null; // of the run that is shown
 
 const desk = { text: '', lessons: readLessons(), lesson: null, about: null, packed: null, isAtOnce: false, isFallback: false, timer: null, runs: 0, edit: null,
-  notice: '' /* what is said before the next answer */, shownNotice: null, tasks: null, outcome: null /* of the last run */ };
+  // What is said before the next answer, and where it stands; and the outcome of the last run.
+  notice: '', shownNotice: null, tasks: null, outcome: null };
 const program = new Program(), words = new Program();
 /** @type {(id: string) => any} */
 const byDesk = id => document.querySelector('#' + id);
