@@ -162,7 +162,7 @@ class GoalTests:
     def called(task):
         """A task of a row as the page names it."""
         lesson = ROWS[task][0]
-        return f"task {[row[0] for row in ROWS[:task + 1]].count(lesson)} of the lesson {lesson}"
+        return f"task {[row[0] for row in ROWS[:task + 1]].count(lesson)} of the lesson “{lesson.replace('_', ' ').capitalize()}”"
 
     def not_of(self, verdict, *tasks):
         """What is told of a goal that stands in the place of others."""

@@ -10,7 +10,7 @@ function lessonOf(holder) {
   const c = new Map([...holder.querySelectorAll('.c')].map(line => [Number(line.dataset.line), line.textContent]));
   const goals = [...holder.querySelectorAll('.goal')].map((told, index) => {
     const [asks, goal, ...hints] = told.textContent.split('\n');
-    return { asks, goal, hints, text, called: said('task {0} of the lesson {1}', index + 1, holder.dataset.name) };
+    return { asks, goal, hints, text, called: said('task {0} of the lesson “{1}”', index + 1, holder.dataset.called) };
   });
   return { name: holder.dataset.name, called: holder.dataset.called, title, told: first.notes.join(' '), text, tasks, goals, c, states: holder.querySelector('.states').textContent };
 }
