@@ -60,16 +60,26 @@ impl Storage {
         // What the command's type says of its numbers, for the law `steps`.
         ensures fits { FitsTypes command }
     {
-        if let Command::Malloc { rd, size } = command {
-            return self.malloc(rd, size, pass);
-        }
-        let Decision { reply, change } = self.decide(command, pass)?;
-        self.make(change);
+        let reply = match command {
+            Command::Malloc { rd, size } => return self.malloc(rd, size, pass),
+            Command::Free { rs } => self.make(self.free(rs)),
+            Command::Copy { rd, rs } => self.make(self.copy(rd, rs)),
+            Command::SetAddr { rd, rs, address } => self.make(self.set_address(rd, rs, address)),
+            Command::Narrow { rd, rs, length } => self.make(self.narrow(rd, rs, length)),
+            Command::AndPerm { rd, rs, mask } => self.make(self.and_perms(rd, rs, mask)),
+            Command::StoreCap { ra, rs } => self.make(self.store_cap(ra, rs)),
+            Command::LoadCap { rd, ra } => self.make(self.load_cap(rd, ra)),
+            Command::Write { ra, bytes } => self.make(self.write(ra, bytes)),
+            Command::Show { rs } => self.make(self.show(rs)),
+            Command::Sweep | Command::Begin | Command::End => {
+                let decision = self.decide(command, pass)?;
+                self.make(decision)
+            }
+        };
         Ok(reply)
     }
 
-    // What a command that is no malloc comes to, before anything changes. Inlined, since most commands do little else.
-    #[inline(always)]
+    // What a command that is no malloc comes to, before anything changes.
     fn decide<P: Fn(&Storage) -> Option<Found>>(
         &self,
         command: Command,

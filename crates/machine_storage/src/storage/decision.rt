@@ -60,15 +60,17 @@ pub enum Change {
 }
 
 impl Storage {
-    // Makes a change.
+    // Makes what was decided, and answers its reply. Inlined, so that of each command no more is left than its own change.
     #[inline(always)]
-    pub(super) fn make(&mut self, change: Change)
+    pub(super) fn make(&mut self, decision: Decision) -> Reply
         requires storage { IsStorage self.old }
-        requires can { CanMake self.old change }
-        ensures state { state_of self.new ≡ left self.old change }
+        requires can { CanMake self.old decision.change }
+        ensures reply { result ≡ decision.reply }
+        ensures state { state_of self.new ≡ left self.old decision.change }
         ensures base { self.new.memory.base ≡ self.new.heap.base }
-        ensures dirty { self.new.memory.dirty ≡ dirty_left self.old change }
+        ensures dirty { self.new.memory.dirty ≡ dirty_left self.old decision.change }
     {
+        let Decision { reply, change } = decision;
         match change {
             Change::Nothing => {}
             Change::Register { r, word, tag } => self.registers.set(r, word, tag),
@@ -90,5 +92,6 @@ impl Storage {
                 self.heap.give_back();
             }
         }
+        reply
     }
 }

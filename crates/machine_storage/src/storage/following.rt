@@ -12,7 +12,6 @@ ghost use Rattle.machine_steps.specs.Step.{MaySweep, Step, NeedsNoMemory};
 use crate::fault::MachineFault;
 use crate::followed::{Followed, Why};
 use crate::storage::Storage;
-use crate::storage::decision::Decision;
 use crate::storage::passes::Found;
 use cap_codec::{Word, block_capability};
 use heap_core::Claim;
@@ -69,11 +68,11 @@ impl Storage {
     {
         any_placement_law();
         safe_reuse_law();
-        let Decision { reply, change } = self.decide(command, pass)?;
-        if differs(answer, reply) {
-            return Ok(Followed::Differs(Why::MustBe(reply)));
+        let decision = self.decide(command, pass)?;
+        if differs(answer, decision.reply) {
+            return Ok(Followed::Differs(Why::MustBe(decision.reply)));
         }
-        self.make(change);
+        self.make(decision);
         Ok(Followed::Agrees)
     }
 
