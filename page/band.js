@@ -51,10 +51,11 @@ export function addBand(viewer) {
       if (block.state === 'live') live += bytes; else held += bytes;
     }
     const tags = state.tagged.register.size + state.tagged.granule.size;
-    const told = (name, text) => element('span', {}, element('i', { class: 'swatch band-' + name }), text);
-    byId('sums').replaceChildren(told('live', said('{0} live', grouped(live))), told('held', said('{0} held', grouped(held))),
-      told('free', said('{0} bytes free', grouped(4096 * run.pages - live - held))), told('tags', inTags(tags)),
-      told('passes', said('pass')), told('traps', said('trap')));
+    const told = Object.entries({ live: said('{0} live', grouped(live)), held: said('{0} held', grouped(held)),
+      free: said('{0} bytes free', grouped(4096 * run.pages - live - held)), tags: inTags(tags), passes: said('pass'), traps: said('trap') });
+    const box = byId('sums');
+    if (!box.firstChild) for (const [name] of told) box.append(element('span', {}, element('i', { class: 'swatch band-' + name }), ''));
+    told.forEach(([, text], index) => { if (box.children[index].textContent !== text) box.children[index].lastChild.data = text; });
   }
 
   Object.assign(viewer, { drawBand, drawSums });

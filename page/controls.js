@@ -99,6 +99,7 @@ export function addControls(viewer) {
     byId('typed').addEventListener('input', viewer.takeTyped);
     listenToMap();
     viewer.listenToWindow();
+    viewer.watchInspector();
     const others = [viewer.listenToFind, viewer.listenToBlocks, viewer.listenToComparison, viewer.listenToPaper, viewer.listenToHandout,
       viewer.listenToSave, viewer.listenToPictures, viewer.listenToEdit, viewer.listenToWhole];
     for (const listenTo of others) listenTo();
@@ -125,10 +126,11 @@ export function addControls(viewer) {
   }
 
   function measure() {
+    viewer.host.arrange?.(viewer);
     const own = (name, pixels) => document.documentElement.style.setProperty(name, `${pixels}px`);
     view.letter = view.embed ? 13 : innerWidth <= 760 ? 15 : Math.max(20, Math.floor(20 * Math.min(innerWidth / 1280, innerHeight / 720)));
     own('--letter', view.letter);
-    own('--head', viewer.root.querySelector('header').offsetHeight);
+    own('--head', document.querySelector('header').offsetHeight);
     view.broad = broadOfLetter();
     view.mapWidth = byId('map').clientWidth;
     view.mapHeight = Math.max(byId('map').clientHeight, parseFloat(getComputedStyle(byId('map')).maxHeight) || 0); // it may be lower than it might

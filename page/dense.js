@@ -2,7 +2,7 @@
 // and is drawn again as a whole where something in it was touched.
 
 import { STATES } from './cursor.js';
-import { build, shape } from './dom.js';
+import { build, renew, shape } from './dom.js';
 
 export function addDenseMap(viewer) {
   const { run, cursor: state } = viewer;
@@ -44,13 +44,8 @@ export function addDenseMap(viewer) {
       if (!cell.isNull || isLost) marks[cell.tag ? 'tag' : isLost ? 'lost' : 'data'] += outlineOfMark(L, place, cell.tag, isLost);
     }
     const { fills, kinds } = viewer.map.strips[strip];
-    STATES.forEach((name, index) => { for (const path of fills[index].children) redraw(path, areas[name]); });
-    KINDS_OF_MARK.forEach((name, index) => redraw(kinds[index], marks[name]));
-  }
-
-  // What is written again as it was would be laid out and painted again.
-  function redraw(path, d) {
-    if (path.getAttribute('d') !== d) path.setAttribute('d', d);
+    STATES.forEach((name, index) => { for (const path of fills[index].children) renew(path, 'd', areas[name]); });
+    KINDS_OF_MARK.forEach((name, index) => renew(kinds[index], 'd', marks[name]));
   }
 
   function outlineOfMark(L, place, tag, isLost) {

@@ -12,6 +12,11 @@ export function build(node, attributes, children) {
   return node;
 }
 
+// What is written again as it was would be laid out and painted again.
+export function renew(node, name, value) {
+  if (node.getAttribute(name) !== value) node.setAttribute(name, value);
+}
+
 export const element = (name, attributes = {}, ...children) => build(document.createElement(name), attributes, children);
 export const shape = (name, attributes = {}, ...children) => build(document.createElementNS(SHAPES, name), attributes, children);
 export const code = text => element('code', {}, String(text));

@@ -54,7 +54,7 @@ export function addHistory(viewer) {
     const to = placesInTime(subject), step = to.wrote === null ? null : run.steps[to.wrote];
     const button = ([name, [key, text]]) => element('button', { 'data-history': `${subject.kind} ${name}`,
       'aria-disabled': to[name] === null ? 'true' : null, 'aria-label': said('{0} of {1}', text, subject.name),
-      title: said('Key {0}', subject.kind === 'block' ? SHIFTED[key] : key), onclick: () => goInHistory(to[name]) }, text);
+      title: said('Key {0}', subject.kind === 'block' ? SHIFTED[key] : key), onclick: () => goInHistory(placesInTime(subject)[name]) }, text);
     const name = element('b', {}, subject.name);
     const told = step ? say('{0}: changed last by line {1}, {2}.', name, step.line, code(step.text)) : say('{0}: no step up to here changed it.', name);
     return element('div', { class: 'bar', 'data-about': subject.kind === 'block' ? 'block' : 'own' },

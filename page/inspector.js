@@ -8,7 +8,10 @@ import { grouped, said, saidCount, say } from './say.js';
 export function addInspector(viewer) {
   const { run, view, byId, cursor: state } = viewer;
 
-  let drawnWord = null;
+  // Milliseconds after the last step, by which it is painted.
+  const DUE = 150;
+
+  let drawnWord = null, isInSight = true, due = null;
 
   // What the reader has chosen, or the trace for him: a register, a granule or a word that was typed.
   function chosenCell() {
@@ -48,7 +51,27 @@ export function addInspector(viewer) {
     showTyped(word);
   }
 
+  // At a step: what is out of sight keeps no step waiting.
+  function drawInspectorSoon() {
+    if (isInSight) return drawInspector();
+    clearTimeout(due);
+    due = setTimeout(drawDue, DUE);
+  }
+
+  function drawDue() {
+    if (due !== null && !viewer.signal.aborted) drawInspector();
+  }
+
+  function watchInspector() {
+    const watch = new IntersectionObserver(told => { isInSight = told.at(-1).isIntersecting; });
+    watch.observe(byId('inspector'));
+    viewer.signal.addEventListener('abort', () => watch.disconnect());
+    addEventListener('beforeprint', drawDue, { signal: viewer.signal });
+  }
+
   function drawInspector() {
+    clearTimeout(due);
+    due = null;
     const { name, cell } = chosenCell() || { name: said('null, as nothing is chosen'), cell: NULL_CELL };
     const typed = view.chosen && view.chosen.kind === 'word';
     byId('follow').checked = view.follow;
@@ -62,6 +85,7 @@ export function addInspector(viewer) {
         element('div', { class: 'two' }, derivation(word), meaningTable(word)));
     }
     viewer.drawWindow();
+    viewer.drawHistory();
   }
 
   // The bytes as text, with a dot for each that is no letter, digit or sign.
@@ -110,5 +134,5 @@ export function addInspector(viewer) {
       entries.map(([name, value]) => element('tr', {}, element('th', { scope: 'row' }, name), element('td', {}, code(value)))))));
   }
 
-  Object.assign(viewer, { chosenCell, chosenWord, takeTyped, drawInspector, textOfBytes });
+  Object.assign(viewer, { chosenCell, chosenWord, takeTyped, watchInspector, drawInspector, drawInspectorSoon, drawDue, textOfBytes });
 }

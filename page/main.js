@@ -42,19 +42,23 @@ export function tellFault(message) {
   paragraph.textContent = message;
   fault.hidden = false;
   fault.append(paragraph);
+  return paragraph;
 }
 
 /**
- * What a page around the viewer has for it: where others find it, the trace's text, a step in C, what stands first in an address, who tells the line of a word, and who is
+ * What a page around the viewer has for it: where its parts stand, where others find it, the trace's text, a step in C, what stands first in an address, who tells the line of a word, and who is
  * told the step; and whether the run is one without quarantine, of which nothing is proved.
- * @typedef {{ isAtOnce?: boolean, place?: () => string, inC?: (step: import('./run.js').Step) => string | null, text?: string, origin?: () => string[], lineOfWord?: ((word: string) => Promise<string | null>) | null, onStep?: (step: import('./run.js').Step, view: { ask: boolean }) => void }} Host
+ * @typedef {{ isAtOnce?: boolean, arrange?: (viewer: any) => void, place?: () => string, inC?: (step: import('./run.js').Step) => string | null, text?: string, origin?: () => string[], lineOfWord?: ((word: string) => Promise<string | null>) | null, onStep?: (step: import('./run.js').Step, view: { ask: boolean }) => void }} Host
  */
 
 // Draws the run of a cursor into an element, and answers the viewer: what its parts have, and `close`, which takes it down. A
 // document has one at a time: it takes the keys, and the address.
 /** @param {any} root @param {import('./cursor.js').Cursor} cursor @param {Host} host */
 export function mount(root, cursor, host = {}) {
-  const { run } = cursor, ending = new AbortController(), byId = id => root.querySelector('#' + id);
+  const { run } = cursor, ending = new AbortController();
+  // The page around may have placed it elsewhere.
+  /** @type {(id: string) => any} */
+  const byId = id => document.querySelector('#' + id);
   root.replaceChildren(/** @type {HTMLTemplateElement} */ (document.querySelector('#page')).content.cloneNode(true));
   // Whether a key is for a field, for the table of keys, or for the browser.
   const isTyped = event => event.ctrlKey || event.metaKey || event.altKey || byId('keys').open ||

@@ -41,7 +41,7 @@ export function addMap(viewer) {
 
   // Over a dense map what comes and goes with a step lies on a sheet of its own, so that the many blocks need not be painted again.
   function makeSheets(L) {
-    const sheet = (kind, before, names, ...after) => shape('svg', { width: L.full, class: `${L.width < SMALL ? 'small' : ''} ${kind}`.trim() || null,
+    const sheet = (kind, before, names, ...after) => shape('svg', { width: L.wide, class: `${L.width < SMALL ? 'small' : ''} ${kind}`.trim() || null,
       'aria-hidden': 'true' }, before, shape('g', {}, ...names.map(name => map.layers[name])), ...after);
     map.sheets = run.isDense
       ? [sheet('', viewer.patterns(), LOWER), sheet('upper', null, LAYERS.filter(name => !LOWER.includes(name)), map.chips)]
@@ -59,14 +59,14 @@ export function addMap(viewer) {
     if (L.shown < run.granules) grid.append(rest);
   }
 
-  // Its cells, and the addresses of its rows where there is room.
+  // Its cells, and the addresses of its rows where there is room: in the middle of each, so that a pin at its foot is nearer to it than to the next.
   function drawPart(L, { first, top, bottom }) {
     let lines = `M${L.gutter} ${top}H${L.right}V${bottom}H${L.gutter}Z`;
     if (L.height >= 7) for (let y = top; y <= bottom; y += L.height) lines += `M${L.gutter} ${y}H${L.right}`;
     if (L.width >= 7) for (let column = 0; column <= L.columns; column++) lines += `M${L.gutter + column * L.width} ${top}V${bottom}`;
     map.layers.grid.append(shape('path', { d: lines }));
     for (let y = top; y < bottom; y += Math.ceil(13 * L.scale / L.height) * L.height) {
-      const place = first + (y - top) / L.height * L.columns, low = y + Math.min(L.height / 2 + 4 * L.scale, 12 * L.scale);
+      const place = first + (y - top) / L.height * L.columns, low = y + L.height / 2 + 4 * L.scale;
       map.layers.grid.append(shape('text', { x: L.gutter - 6, y: low, class: 'row' }, hex(run.addressOf(place))));
     }
   }
@@ -88,7 +88,7 @@ export function addMap(viewer) {
     for (let page = 0; page * 256 < L.shown; page++) {
       if (L.gapOf[page]) continue;
       const y = viewer.spotOf(L, page * 256)[1], height = Math.min(256 / L.columns * L.height, L.bottom - y), x = L.right + 3;
-      const name = page % every === 0 ? shape('text', { x: x + 14, y: y + Math.min(height / 2 + 4, 12 * L.scale) }, said('page {0}', page)) : null;
+      const name = page % every === 0 ? shape('text', { x: x + 14, y: y + Math.min(height / 2 + 4, Math.max(12, L.height / 2 / L.scale + 4) * L.scale) }, said('page {0}', page)) : null;
       const box = { x, y: y + .5, width: 10, height: Math.max(height - 1, 1) };
       map.edges.set(page, shape('g', { 'data-page': page }, shape('rect', { class: 'band', ...box }), shape('rect', { class: 'hatch', ...box }), name));
       if (page && L.height * 256 / L.columns > 12) lines += `M${L.gutter} ${y}H${L.right}`;
@@ -217,7 +217,7 @@ export function addMap(viewer) {
   }
 
   function placeBody(L, top) {
-    const height = top + L.bottom + L.foot, viewBox = `0 0 ${L.full} ${height}`;
+    const height = top + L.bottom + L.foot, viewBox = `0 0 ${L.wide} ${height}`;
     map.top = top;
     if (map.sheets[0].getAttribute('viewBox') === viewBox) return; // else the browser would lay all of it out again
     for (const sheet of map.sheets) {
@@ -245,7 +245,7 @@ export function addMap(viewer) {
     viewer.draw(false);
   }
 
-  // A line from each word, a chip for a register, to its base in a block: of words whose tag went, in the block that is the reason.
+  // A line on the sheet from each word, a chip for a register, to its base in a block: of words whose tag went, in the block that is the reason.
   // Answers how many chips there are.
   function drawLines(L, rows, blockOf, isTagged) {
     const shown = rows.slice(0, DRAWN_REASONS), chipCount = shown.filter(row => row.kind === 'register').length;
@@ -266,7 +266,8 @@ export function addMap(viewer) {
       } else {
         const [x, y] = viewer.spotOf(L, row.place);
         start = [x + L.width / 2, y + 3];
-        bend = [start[0], start[1] - L.height * 1.3, end[0] + L.width * .5, end[1] - L.height * 1.5];
+        const high = y => Math.max(y, 4 - top);
+        bend = [start[0], high(start[1] - L.height * 1.3), end[0] + L.width * .5, high(end[1] - L.height * 1.5)];
       }
       map.layers.reasons.append(shape('path', { class: 'reason', d: `M${start}C${bend.slice(0, 2)} ${bend.slice(2)} ${end}`,
         'marker-end': 'url(#arrow)', 'data-reason': `${row.name} ${block.key}` }));

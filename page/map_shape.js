@@ -19,9 +19,10 @@ export function addMapShape(viewer) {
     const scale = view.present ? view.letter / 11 : 1, letter = 11 * scale * view.broad, gutter = gutterOfMap(letter), edge = edgeOfMap(letter);
     const room = view.mapWidth - gutter - edge, sizes = view.present ? largestCells(room, scale) : usualCells(room);
     const { columns, width, height, rowCount } = sizes, right = gutter + columns * width, shown = Math.min(rowCount * columns, run.granules);
+    const full = right + edge, chip = CHIP.width * scale, chipsInRow = Math.max(1, Math.floor(((view.present ? view.mapWidth : full) - gutter) / chip));
     return { columns, width, height, gutter, scale, letter, right, shown, ...layOut(columns, height, shown, Math.round(GAP * scale)),
-      head: Math.round(HEAD * scale), foot: Math.round(FOOT * scale), full: right + edge, hasNames: height >= 11 * scale + 9,
-      chipsInRow: Math.max(1, Math.floor(columns * width / (CHIP.width * scale))) };
+      head: Math.round(HEAD * scale), foot: Math.round(FOOT * scale), full, hasNames: height >= 11 * scale + 9,
+      chipsInRow, wide: Math.max(full, gutter + Math.min(run.most, chipsInRow) * chip) };
   }
 
   // The rows in parts, with a gap between two where pages are left out; and of each page where it begins, and the gap that stands for it.

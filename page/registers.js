@@ -1,6 +1,6 @@
-// The registers. A row is made anew only where what it tells differs.
+// The registers. A row is made anew only where what it tells differs; what is held, which all of them show, is drawn anew within them.
 
-import { code, element, hex, shape } from './dom.js';
+import { code, element, hex, renew, shape } from './dom.js';
 import { lettersOf, namesOfPermissions } from './codec.js';
 import { passage, said, say } from './say.js';
 
@@ -64,9 +64,12 @@ export function addRegisters(viewer) {
     for (const [register, kept] of registerRows) {
       const cell = state.registers[register], chosen = view.chosen && view.chosen.kind === 'register' && view.chosen.place === register;
       const { base, top } = cell.meaning, told = cell.isNull ? said('null') : said('bounds {0} to {1}, base {2}', hex(base), hex(top), viewer.placeOfBase(base));
-      const drawn = [cell.tag, cell.word, changed.has(register), taken.has(register), used.has(register), bands, told].join('\n');
-      kept.button.setAttribute('aria-pressed', String(Boolean(chosen)));
-      if (kept.drawn === drawn) continue;
+      const drawn = [cell.tag, cell.word, changed.has(register), taken.has(register), used.has(register), told].join('\n');
+      renew(kept.button, 'aria-pressed', String(Boolean(chosen)));
+      if (kept.drawn === drawn) {
+        if (!cell.isNull) renew(kept.row.querySelector('.held-band'), 'd', bands);
+        continue;
+      }
       kept.drawn = drawn;
       fillRow(kept, cell, { changed: changed.has(register), taken: taken.has(register), used: used.has(register), bands, told });
     }

@@ -66,8 +66,7 @@ export function addSteps(viewer) {
     viewer.drawRegisters();
     viewer.drawBlocks();
     viewer.drawMap();
-    viewer.drawInspector();
-    viewer.drawHistory();
+    if (scroll) viewer.drawInspectorSoon(); else viewer.drawInspector();
     viewer.drawComparison();
     viewer.drawSums();
     viewer.drawThree();

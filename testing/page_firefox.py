@@ -12,7 +12,7 @@ import page_look
 import page_model
 
 SECONDS = 60
-KEYS = {"ArrowLeft": "\ue012", "ArrowRight": "\ue014", "Home": "\ue011", "End": "\ue010"}
+KEYS = {"ArrowLeft": "\ue012", "ArrowRight": "\ue014", "Home": "\ue011", "End": "\ue010", "Tab": "\ue004"}
 
 # What the page's document shows of a step; the page's own variables are out of reach.
 SEEN = r"""

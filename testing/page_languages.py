@@ -220,13 +220,14 @@ def travels(tests, root, folders, traces):
         if tests.quiet and tests.failed:
             return
 
-# What the playground says now, outside of ⟦ and ⟧. Of the trace there are also commands with their forms, conditions of goals, the verdict on a log,
+# What the playground says now, outside of ⟦ and ⟧. Of the trace there are also commands with their forms, goals, heap lines, the verdict on a log,
 # the head of what is handed in, and the names of a file and of a lesson that the test gives.
 DESK = r"""
-const conditions = CONDITIONS.flatMap(({ forms }) => forms), asked = [...desk.lessons.flatMap(({ goals }) => goals.map(({ goal }) => goal)), desk.tasks.task?.goal ?? ''];
+const conditions = CONDITIONS.flatMap(({ forms }) => forms), asked = [...desk.lessons.flatMap(({ goals }) => goals.map(({ goal }) => goal)), ...['task', 'set', 'came'].map(name => desk.tasks[name]?.goal ?? '')];
 const forms = document.querySelector('#language').textContent.split('\n').map(row => row.split('\t')).filter(([kind]) => kind === 'command').flatMap(([, name, form]) => [name + form, name]);
+const heaps = [...desk.lessons, desk].map(({ text }) => text.split('\n').find(line => line.startsWith('heap ')) ?? '');
 const verdict = (document.querySelector('#judged-log pre')?.textContent ?? '').split('\n').map(line => line.replace(/^\S+ [0-9]+: /, ''));
-const own = [document.title, ...forms, ...verdict, ...asked.map(goal => goal.slice(0, 60)), 'A trace for a task of the heap playground.', 'task', 'goal', 'given', 'none', ...desk.lessons.flatMap(({ title, told }) => [title, told]), ...conditions, ...asked.flatMap(goal => conditionsOf(goal)),
+const own = [document.title, ...forms, ...verdict, ...heaps, ...asked, ...asked.map(goal => goal.slice(0, 60)), 'A trace for a task of the heap playground.', 'task', 'goal', 'given', 'none', ...desk.lessons.flatMap(({ title, told }) => [title, told]), ...conditions, ...asked.flatMap(goal => conditionsOf(goal)),
   ...(heapViewer ? [heapViewer.run.own.title, ...heapViewer.run.own.after, ...heapViewer.run.steps.flatMap(step => [step.text, step.reply, ...step.notes])] : [])];
 for (const details of document.querySelectorAll('details')) details.open = true;
 return JSON.stringify(outside(%s, own));

@@ -286,7 +286,7 @@ class LongTests:
                 self.check(f"{name}: it stays chosen", self.browser.run("view.chosen.kind + view.chosen.place"), f"{kind}{place}")
                 if row is not None:
                     name_of = {"w": "wrote", "[": "earlier", "]": "later"}[plain]
-                    self.browser.run(f"go({start}); document.querySelector('[data-history=\"{about} {name_of}\"]').click()")
+                    self.browser.run(f"go({start}); drawDue(); document.querySelector('[data-history=\"{about} {name_of}\"]').click()")
                     self.check(f"{name}: by its button", self.browser.run("view.step"), wanted[plain])
 
     # Two steps side by side, and who points where

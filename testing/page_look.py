@@ -6,6 +6,7 @@ from page_model import NAMES, COLOURS, PATTERNS, NULL_WORD, Word, block_key, gro
 
 # All that the page shows of a step, as its document has it.
 LOOK = r"""(() => {
+  drawDue(); // else what is out of sight has a step a moment later (kept)
   const all = selector => [...document.querySelectorAll(selector)], text = node => (node ? node.textContent : null);
   const middle = node => { const box = node.getBBox(); return [box.x + box.width / 2, box.y + box.height / 2]; };
   const box = node => { const { x, y, width, height } = node.getBBox(); return [x, y, width, height]; };
@@ -225,6 +226,7 @@ PRESENT = r"""(() => {
   }
   for (const part of parts.map(byId)) if (part.scrollHeight > part.clientHeight + 1 || part.scrollWidth > part.clientWidth + 1) past.push(part.id);
   if (document.documentElement.scrollHeight > innerHeight) past.push('page');
+  if ([...document.querySelectorAll('#map [data-reason]')].some(line => line.getBBox().y + map.top < 0)) past.push('a line');
   return JSON.stringify({ least: Math.min(...texts.map(text => text[1])), parts: [...new Set(texts.map(text => text[0]))].sort(), past, reach: run.reach,
     legend: [...byId('legend').children].filter(item => item.checkVisibility()).map(item => item.innerText.trim()),
     three: [...byId('three').children].map(line => line.textContent.trim()), current: [...byId('three').children].findIndex(line => line.ariaCurrent),

@@ -358,12 +358,13 @@ class Tests(page_long.LongTests):
         for folder in self.lessons():
             name, raw = folder.name, (folder / "stdin").read_bytes()
             path, model = self.page(root, raw, name), page_model.Run(raw, self.data(raw))
-            for width, height in ((1024, 768), (390, 844)):
-                self.open(path, width=width, height=height, at="#present&step=1")
+            for width, height, at in ((1024, 768, "#present&step=1"), (1024, 768, "#present&ask&step=1"), (390, 844, "#present&step=1")):
+                self.open(path, width=width, height=height, at=at)
                 for index in range(len(model.values)):
                     seen = json.loads(run(f"go({index}); {page_look.PRESENT}"))
-                    told = f"{name} on {width} by {height}, step {index}"
-                    self.check(f"{told}: the map, what is told and the legend are in sight", [run(low) <= height, "map" in seen["past"], "told" in seen["past"], "legend" in seen["past"]], [True] + [False] * 3)
+                    told = f"{name} on {width} by {height}, {at}, step {index}"
+                    self.check(f"{told}: the map, its lines, what is told and the legend are in sight",
+                               [run(low) <= height, [part for part in ("map", "a line", "told", "legend") if part in seen["past"]]], [True, []])
                     self.check_legend(told, model, index, seen["legend"])
             self.no_noise(name)
 
@@ -383,6 +384,26 @@ class Tests(page_long.LongTests):
             places = json.loads(self.browser.run(f"scrollTo(0, 0); JSON.stringify({json.dumps([part for part in wanted if part != '#stage'])}.map(name => {{"
                                                  " const { left, top } = document.querySelector(name === '#map' && !view.present ? '#stage' : name).getBoundingClientRect(); return [Math.round(top), Math.round(left)]; }))"))
             self.check(f"so they stand on {at}", places, sorted(places))
+
+    def kept(self, root):
+        """What is not made anew at a step tells it all the same: what is held, in each register, and the inspector out of sight, on paper too."""
+        raw = "\n".join(page_model.TRACES["wide"]).encode()
+        model = page_model.Run(raw, self.data(raw))
+        self.open(self.page(root, raw, "kept"))
+        run, shown = self.browser.run, "byId('shown').textContent + byId('history').textContent"
+        self.check("the inspector is out of sight", run("byId('inspector').getBoundingClientRect().top > innerHeight"), True)
+        for index in [*range(len(model.values)), *range(len(model.values) - 2, 0, -3)]:
+            run(f"go({index})")
+            bands = json.loads(run("JSON.stringify([...new Set([...document.querySelectorAll('#rows .held-band')].map(band => band.getAttribute('d') !== ''))])"))
+            wanted = [any(of != "live" for of in model.states[index].blocks.values())]
+            self.check(f"what is held at step {index}, in each register", bands if model.states[index].registers else wanted, wanted)
+        for index, act in ((3, "new Promise(done => setTimeout(done, 1000))"), (8, "dispatchEvent(new Event('beforeprint'))")):
+            run(f"go({index}); drawDue(); go({index + 2})")
+            before = run(shown)
+            run(act)
+            after = run(shown)
+            self.check(f"the inspector follows by itself after step {index}", [before != after, after], [True, run(f"drawDue(); {shown}")])
+        self.no_noise("kept")
 
     def ask(self, root):
         """What comes is hidden, and ticks are asked for before each pass and judged at it, in each lesson."""
@@ -866,7 +887,7 @@ class Tests(page_long.LongTests):
             self.lesson(self.root, name, "\n".join(lines).encode())
         for seed in range(1, 7):
             self.lesson(self.root, f"random_{seed}", page_model.random_trace(60, 1, seed))
-        for test in (self.words, self.tries, self.controls, self.named, self.gaps, self.tabs, self.present, self.small_screens, self.ask, self.addresses, self.letters, self.typed, self.colours, self.hostile,
+        for test in (self.words, self.tries, self.controls, self.named, self.gaps, self.tabs, self.kept, self.present, self.small_screens, self.ask, self.addresses, self.letters, self.typed, self.colours, self.hostile,
                      self.quick, self.rows, self.print_all, self.dense, self.find, self.history, self.compared, self.pointers, self.band, self.files,
                      self.handout, self.modules, self.texts, self.translated, self.german, self.second, self.kept_pages, self.embedded, self.phone, self.sideways, self.looks):
             test(self.root)

@@ -204,6 +204,12 @@ def in_browser(tests, browser):
         tests.open(browser, f"#lesson={name}&at_once&step=1&present")
         tests.answered(browser, f"{name} without quarantine", count)
         tests.check(f"{browser.name}: {name} is marked", browser.value(mark), True)
+        for way in ("", "&ask"):
+            tests.open(browser, f"#lesson={name}&at_once&present{way}")
+            cut = ("const told = document.querySelector('#told'), cut = []; for (let at = 1; at < %d; at++) { document.querySelector('#next').click();"
+                   " if (told.scrollHeight > told.clientHeight + 1) cut.push(at); } return cut")
+            tests.check(f"{browser.name}: {name} without quarantine{way}: all that is told is in sight", browser.value(cut % count), [])
+        tests.open(browser, f"#lesson={name}&at_once&step=1&present")
         harm = browser.value("const all = []; for (let at = 1; at < %d; at++) { document.querySelector('#next').click(); all.push(document.querySelector('#what').textContent); } return all.some(text => text.includes('Harm: '))" % count)
         tests.check(f"{browser.name}: {name} does harm", harm, True)
     tests.open(browser)

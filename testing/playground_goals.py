@@ -1,6 +1,7 @@
 """Tests of the playground's tasks, for testing/playground: the language of goals by itself, in Node; each task with a right solution and a
 wrong one, which stand in testing/goals.json; hints; what is handed in; links, files and fields that set a task."""
 
+import collections
 import json
 import pathlib
 import shutil
@@ -18,6 +19,8 @@ PANEL = ("const rows = [...document.querySelectorAll('#conditions li')];"
          " return [document.querySelector('#met').textContent, rows.map(row => [row.dataset.met, row.textContent.slice(2)])]")
 ASKS = "return document.querySelector('#asks').textContent"
 SAVED = "URL.createObjectURL = blob => { blob.text().then(text => { document.body.dataset.saved = text; }); return 'data:,'; };"
+WHOSE = "return [document.querySelector('#whose').textContent, document.querySelector('#whose').className]"
+FIELD = "const field = document.querySelector('#%s'); field.focus(); field.value = %s; field.dispatchEvent(new Event('input'))"
 DROP = ("const given = new DataTransfer(); given.items.add(new File([%s], 'given'));"
         " document.body.dispatchEvent(new DragEvent('drop', { bubbles: true, cancelable: true, dataTransfer: given }))")
 TEXT = "return (document.querySelector('.CodeMirror').wrappedJSObject ?? document.querySelector('.CodeMirror')).CodeMirror.getValue()"
@@ -155,10 +158,71 @@ class GoalTests:
         self.wait(browser, "a lesson of the menu leaves the task", "return document.body.dataset.shown === 'contents_stay' && document.querySelector('#goal').hidden")
         self.goal_fields(browser)
 
+    @staticmethod
+    def called(task):
+        """A task of a row as the page names it."""
+        lesson = ROWS[task][0]
+        return f"task {[row[0] for row in ROWS[:task + 1]].count(lesson)} of the lesson “{lesson.replace('_', ' ').capitalize()}”"
+
+    def not_of(self, verdict, *tasks):
+        """What is told of a goal that stands in the place of others."""
+        told = (f"This is not the goal of {self.called(task)}, which is “{ROWS[task][2]}”; by that one: {verdict}." for task in tasks)
+        return [" ".join(told), "refused"]
+
+    def whose_goals(self, browser):
+        """Whose goal it is that is met: in each way in which a student comes to another one it is told beside the lesson's."""
+        right, begun, goals = lesson_text(ROWS[0][0], GIVEN["tasks"][0]["right"]), lesson_text(ROWS[0][0], {}), [row[2] for row in ROWS]
+        own, none = [f"The goal is that of {self.called(0)}.", "muted"], ["No lesson has this goal.", "muted"]
+        lazy, asks, most = 'the trace has "sweep"', ROWS[0][1], " and ".join(goals[0].split(" and ")[:2])
+        heap = "The heap is not the lesson’s: here is “heap 0x40000000 2”, and there “heap 0x40000000 1”."
+        wider = right.replace("heap 0x40000000 1", "heap 0x40000000 2")
+        for what, at, text, wanted in (
+                ("the lesson's own", link_of(goals[0], ROWS[0][0]), right, own),
+                ("the lesson's, its conditions in another order", link_of(" AND ".join(reversed(goals[0].upper().split(" AND ")))), right, own),
+                ("the lesson's, the trace with another first line", link_of(goals[0]), "# Mine.\n" + right, own),
+                ("a goal of the address alone", link_of(lazy, ROWS[0][0]), begun, self.not_of("not yet", 0, 1)),
+                ("a goal without one condition", link_of(most), "\n".join([right, *["show c1"] * 9]), self.not_of("not yet", 0)),
+                ("another goal under the lesson's question", link_of(lazy, asks=asks), right, self.not_of("met", 0)),
+                ("the goal of another lesson under its question", link_of(goals[4], asks=asks), right, self.not_of("met", 0)),
+                ("another lesson's goal", link_of(goals[4], ROWS[0][0]), lesson_text(ROWS[4][0], {}), [f"The goal is that of {self.called(4)}.", "muted"]),
+                ("a goal in the trace's comments", link_of(goals[0]), f"# goal: {lazy}\n" + begun, self.not_of("not yet", 0)),
+                ("another heap", link_of(goals[0]), wider, [f"{own[0]} {heap}", "refused"]),
+                ("a teacher's own", link_of("tags are 0", asks="Take all."), MET, none)):
+            self.open(browser, at)
+            self.put_text(browser, text)
+            self.shown(browser, what)
+            self.check(f"{browser.name}: whose goal it is: {what}", browser.value(WHOSE), wanted)
+        self.changed_goals(browser, lazy, begun)
+
+    def changed_goals(self, browser, lazy, begun):
+        """By the fields, and in a file that is dropped where a task is open; and what is handed in then."""
+        self.open(browser, "#lesson=" + ROWS[0][0])
+        browser.value("document.querySelector('#about [data-goal]').click()")
+        browser.value(FIELD % ("set-goal", json.dumps(lazy)))
+        self.check(f"{browser.name}: a goal that was changed in its field", [self.shown(browser, "a changed goal")[0], *browser.value(WHOSE)], ["met", *self.not_of("not yet", 0)])
+        wanted = ["This is not the goal of the task that was here before, which is “tags are 0”; by that one: not yet.", "refused"]
+        handed = "# A trace for a task of the heap playground.\n# task: Take all.\n# goal: tags are 1\n# The trace:\n" + NOT_YET
+        for what, act in (("in its field", FIELD % ("set-goal", json.dumps("tags are 1"))), ("in a file that is dropped", DROP % json.dumps(handed))):
+            self.open(browser, link_of("tags are 0", asks="Take all."))
+            self.put_text(browser, NOT_YET)
+            browser.value(act)
+            self.wait(browser, "another goal is there", "return document.querySelector('#conditions').textContent.includes('tags are 1')")
+            self.check(f"{browser.name}: a teacher's goal that was changed {what}", [self.shown(browser, "a changed goal")[0], *browser.value(WHOSE)], ["met", *wanted])
+        if browser.name == "Chromium":
+            self.open(browser, link_of(lazy, ROWS[0][0]))
+            self.put_text(browser, begun.replace("heap 0x40000000 1", "heap 0x40000000 2"))
+            self.shown(browser, "a lazy goal")
+            browser.value(SAVED + "document.querySelector('#hand-in').click()")
+            self.wait(browser, "a lazy goal is handed in", "return document.body.dataset.saved !== undefined")
+            lines = browser.value("return document.body.dataset.saved").split("# The last replies:")[0].splitlines()
+            self.check("what is handed in by another goal", lines[1:], [
+                f"# goal: {lazy}", f"# result: met, by another goal than that of {self.called(0)}, {self.called(1)}", f"# holds: {lazy} (it is line 11)",
+                *(f"# {self.not_of('not yet', task)[0]}" for task in (0, 1)),
+                "# The heap is not the lesson’s: here is “heap 0x40000000 2”, and there “heap 0x40000000 1”.", f"# Commands: {self.shared(begun, ROWS[0][0])} more."])
+
     def goal_fields(self, browser):
-        field = "const field = document.querySelector('#%s'); field.focus(); field.value = %s; field.dispatchEvent(new Event('input'))"
-        browser.value(field % ("set-goal", json.dumps("tags are 0\nbytes held are 5")))
-        browser.value(field % ("set-asks", json.dumps("Hold five.")))
+        browser.value(FIELD % ("set-goal", json.dumps("tags are 0\nbytes held are 5")))
+        browser.value(FIELD % ("set-asks", json.dumps("Hold five.")))
         met, rows = self.shown(browser, "a goal of the fields")
         self.check(f"{browser.name}: a goal of the fields", [met, [text.split(":")[0] for _, text in rows], browser.value(ASKS)],
                    ["not yet", ["tags are 0", "bytes held are 5"], "Hold five."])
@@ -170,13 +234,20 @@ class GoalTests:
         self.check(f"{browser.name}: it comes first", browser.value(ASKS), "Say it.")
         self.check(f"{browser.name}: no field overrules it", browser.value("return [document.querySelector('#set-goal').readOnly, document.querySelector('#leave')]"), [True, None])
 
+    @staticmethod
+    def shared(text, lesson):
+        """How many of a lesson's commands a trace has, and how many others."""
+        here, there = (collections.Counter([line for line in each.splitlines() if line and line[0] != "#"][1:]) for each in (text, lesson_text(lesson, {})))
+        return f"{(here & there).total()} of the {there.total()} of the lesson, and {(here - there).total()}"
+
     def hands_in(self, browser):
         """What is handed in tells all, is a trace, and opens with its task; so does what is saved."""
         it, (lesson, asks, goal, *_) = GIVEN["tasks"][4], ROWS[4]
         text = lesson_text(lesson, it["wrong"])
         handed = (f"# A trace for a task of the heap playground.\n# task: {asks}\n" + "".join(f"# goal: {condition}\n" for condition in goal.split(" and "))
                   + '# result: not yet\n# holds: the trace has "free c1" (it is line 13)\n# not yet: the last sweep takes 1 tag (it takes 2)\n'
-                  "# holds: the address of c3 is 0x40000010 (it is 0x40000010)\n# not yet: c3 has a tag (it has none)\n# The last replies:\n")
+                  "# holds: the address of c3 is 0x40000010 (it is 0x40000010)\n# not yet: c3 has a tag (it has none)\n"
+                  f"# The goal is that of {self.called(4)}.\n# Commands: {self.shared(text, lesson)} more.\n# The last replies:\n")
         if browser.name == "Chromium":  # where the page's own functions are in reach
             self.open(browser, link_of(goal, lesson))
             self.put_text(browser, text)

@@ -143,6 +143,8 @@ export function judgeGoal(goal, run) {
 
 /** @param {Judged[]} judged */
 export const isGoalMet = judged => judged.length > 0 && judged.every(({ isMet }) => isMet);
+/** @param {Judged[]} judged */
+export const verdictOf = judged => (isGoalMet(judged) ? said('met') : said('not yet'));
 
 // A text with its task above it, in comments, so that all of it is still a trace.
 const HEAD = '# A trace for a task of the heap playground.', END_OF_HEAD = '# The trace:';
@@ -167,12 +169,13 @@ export function taskOfText(text) {
   return goal ? { goal, asks: told('task').join(' ') } : null;
 }
 
-// What a student hands in: the task, what was found of it, the last replies, and the trace.
-/** @param {Task} task @param {{ judged: Judged[], why: string, run: Run | null }} result @param {string} text */
-export function handedIn(task, { judged, why, run }, text) {
-  const within = words => (words ? ` (${words})` : '');
-  const result = said('result: {0}', isGoalMet(judged) ? said('met') : said('not yet')) + within(why);
+// What a student hands in: the task, what was found of it, what is told of its goal and of the trace, the last replies, and the trace. In
+// the place of another goal the result says so.
+/** @param {Task} task @param {{ judged: Judged[], why: string, run: Run | null, others: { called: string }[], about: string[] }} result @param {string} text */
+export function handedIn(task, { judged, why, run, others, about }, text) {
+  const within = words => (words ? ` (${words})` : ''), names = others.map(({ called }) => called).join(', ');
+  const result = names ? said('result: {0}, by another goal than that of {1}', verdictOf(judged), names) : said('result: {0}', verdictOf(judged));
   const marks = judged.map(({ text: condition, isMet, found }) => (isMet ? said('holds: {0}', condition) : said('not yet: {0}', condition)) + within(found));
   const last = run ? run.steps.slice(1).slice(-10).map(step => said('line {0}: {1} -> {2}', step.line, step.text, step.reply)) : [];
-  return withTask(task, [result, ...marks, ...(last.length ? [said('The last replies:'), ...last] : [])], text);
+  return withTask(task, [result + within(why), ...marks, ...about, ...(last.length ? [said('The last replies:'), ...last] : [])], text);
 }

@@ -8,9 +8,9 @@ function lessonOf(holder) {
   const text = textOf(holder.querySelector('.trace').textContent), { counted: [first], title } = readTrace(text);
   const tasks = [...holder.querySelectorAll('.task')].map(task => task.textContent.split('\n'));
   const c = new Map([...holder.querySelectorAll('.c')].map(line => [Number(line.dataset.line), line.textContent]));
-  const goals = [...holder.querySelectorAll('.goal')].map(told => {
+  const goals = [...holder.querySelectorAll('.goal')].map((told, index) => {
     const [asks, goal, ...hints] = told.textContent.split('\n');
-    return { asks, goal, hints, text };
+    return { asks, goal, hints, text, called: said('task {0} of the lesson “{1}”', index + 1, holder.dataset.called) };
   });
   return { name: holder.dataset.name, called: holder.dataset.called, title, told: first.notes.join(' '), text, tasks, goals, c, states: holder.querySelector('.states').textContent };
 }

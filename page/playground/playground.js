@@ -15,12 +15,15 @@ import { fillMenu, inC, readLessons, showLesson } from './lessons.js';
 import { Program } from './program.js';
 import { Tasks } from './task.js';
 
+// As in style.css.
+const NARROW = matchMedia('(max-width: 899px)');
 const PAUSE = 150, SLICE = 8; // ms: after the last key, and of work that a key waits for
 
 let heapViewer = null; // of the run that is shown
 
 const desk = { text: '', lessons: readLessons(), lesson: null, about: null, packed: null, isAtOnce: false, isFallback: false, timer: null, runs: 0, edit: null,
-  notice: '' /* what is said before the next answer */, tasks: null, outcome: null /* of the last run */ };
+  // What is said before the next answer, and where it stands; and the outcome of the last run.
+  notice: '', shownNotice: null, tasks: null, outcome: null };
 const program = new Program(), words = new Program();
 /** @type {(id: string) => any} */
 const byDesk = id => document.querySelector('#' + id);
@@ -29,6 +32,17 @@ const announce = (message, isBad = false) => {
   byDesk('said').textContent = message;
   byDesk('said').classList.toggle('refused', isBad);
 };
+
+// What is said of a link stands above all else where the editor is out of sight, until the next run.
+function announceNotice(notice) {
+  announce(notice, true);
+  if (NARROW.matches || !byDesk('said').checkVisibility()) desk.shownNotice = tellFault(notice);
+}
+
+function takeNoticeAway() {
+  desk.shownNotice?.remove();
+  byDesk('fault').hidden = byDesk('fault').childNodes.length === 0;
+}
 
 // The line of a word, as the program tells it.
 async function lineOfWord(hex) {
@@ -84,15 +98,32 @@ function originOf() {
   return [...text, ...(desk.isAtOnce ? ['at_once'] : []), ...desk.tasks.address()];
 }
 
+// On a narrow screen what happens stands above the editor, for who goes there by Tab or hears the page too: the head and the map, or what is
+// told in their place. The editor itself stays, with its keyboard.
+function arrange(viewer = heapViewer) {
+  const above = byDesk('above'), root = byDesk('root'), place = NARROW.matches && !viewer?.view.present && !viewer?.view.embed ? above : root;
+  const focused = /** @type {HTMLElement} */ (document.activeElement), header = document.querySelector('header');
+  if (!viewer) place.append(...above.children, ...root.children);
+  else if (header.parentNode !== place) {
+    place.prepend(header);
+    (place === root ? byDesk('three') : header).after(byDesk('stage'));
+  }
+  if (document.activeElement !== focused) focused.focus({ preventScroll: true });
+}
+
+function closeViewer() {
+  if (heapViewer) heapViewer.close();
+  heapViewer = null;
+  byDesk('above').replaceChildren();
+}
+
 // Begins at a step, or as an address tells.
 function showRun(run, begin) {
   const isAddress = typeof begin === 'string';
-  if (heapViewer) {
-    if (!isAddress) heapViewer.writeAddress();
-    heapViewer.close();
-  }
+  if (heapViewer && !isAddress) heapViewer.writeAddress();
+  closeViewer();
   setAddress(isAddress ? begin || '#' : addressWith(begin ?? 0));
-  heapViewer = mount(document.querySelector('#root'), new Cursor(run), { isAtOnce: desk.isAtOnce, origin: originOf, place: placeForOthers, inC: step => inC(desk.about, step.line, step.text), lineOfWord: desk.isFallback ? null : lineOfWord,
+  heapViewer = mount(document.querySelector('#root'), new Cursor(run), { arrange, isAtOnce: desk.isAtOnce, origin: originOf, place: placeForOthers, inC: step => inC(desk.about, step.line, step.text), lineOfWord: desk.isFallback ? null : lineOfWord,
     onStep: (shown, { ask }) => {
       desk.edit.showLine(shown.line);
       desk.edit.hideLater(ask ? shown.line : null);
@@ -101,11 +132,11 @@ function showRun(run, begin) {
 
 // Takes the map away, and what the address says of it.
 function showNoRun(...shown) {
-  if (heapViewer) heapViewer.close();
-  heapViewer = null;
+  closeViewer();
   desk.edit.showLine(null);
   setAddress('#' + [...originOf(), ...looksOf()].join('&'));
   byDesk('root').replaceChildren(...shown);
+  arrange();
 }
 
 // A trace with more commands than a map has: its report, and the band.
@@ -142,7 +173,8 @@ function tellRun(answer, milliseconds) {
   desk.edit.showFault(answer.fault ?? null);
   const { notice } = desk;
   desk.notice = '';
-  if (notice) return announce(notice, true);
+  takeNoticeAway();
+  if (notice) return announceNotice(notice);
   if (answer.fault?.told) return announce(said('Line {0}: {1}.', answer.fault.line, answer.fault.name), true);
   if (answer.fault) return announce(said('Line {0}: {1}. Shown is what comes before it.', answer.fault.line, answer.fault.name), true);
   if (desk.isAtOnce) return announce(said('Without quarantine: words, tags and traps are the proved program’s, and where blocks lie is this page’s, of which nothing is proved.'));
@@ -282,7 +314,8 @@ async function textOfAddress(address) {
 async function openAddress() {
   const address = location.hash, text = await textOfAddress(address);
   if (text === null && desk.notice) {
-    announce(desk.notice, true);
+    takeNoticeAway();
+    announceNotice(desk.notice);
     desk.notice = '';
   } else desk.tasks.takeAddress(address);
   const isAtOnce = new URLSearchParams(address.slice(1)).has('at_once');
@@ -382,6 +415,7 @@ function listenToDesk() {
   });
   listenToFiles(byDesk, text => setText(desk.tasks.takeText(text), 0), message => announce(message, true));
   addEventListener('hashchange', openAddress);
+  NARROW.addEventListener('change', () => arrange());
 }
 
 function toggleAtOnce() {

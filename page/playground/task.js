@@ -3,15 +3,17 @@
 import { element } from '../dom.js';
 import { said, say } from '../say.js';
 import { saveText } from './files.js';
-import { CONDITIONS, conditionsOf, handedIn, isGoalMet, judgeGoal, taskOfText, withTask, withoutTask } from './goal.js';
+import { CONDITIONS, handedIn, isGoalMet, judgeGoal, taskOfText, verdictOf, withTask, withoutTask } from './goal.js';
+import { isSameGoal, toldOfCommands, toldOfGoal, toldOfHeap, whoseTask } from './whose.js';
 
 /**
  * What a run came to: none where nothing has run. A run of a part of a faulty text isn't judged.
  * @typedef {{ run: import('../run.js').Run | null, fault: { line: number, name: string } | null, isAtOnce: boolean } | null} Outcome
+ * @typedef {import('./goal.js').Task} Task
  * A task of a lesson has hints, and the text with which it begins.
- * @typedef {{ goal: string, asks: string, hints?: string[], text?: string }} Shown
+ * @typedef {Task & { hints?: string[], text?: string }} Shown
  * What the playground has for tasks: those of the lessons, the text of the editor, and who takes a text, copies a link and keeps the address.
- * @typedef {{ known: Shown[], textNow: () => string, begin: (text: string) => void, copyLink: () => void, keepAddress: () => void,
+ * @typedef {{ known: import('./whose.js').Known[], textNow: () => string, begin: (text: string) => void, copyLink: () => void, keepAddress: () => void,
  *   announce: (message: string) => void }} TaskHost
  */
 
@@ -42,7 +44,10 @@ export class Tasks {
   constructor(byId, host) {
     this.byId = byId;
     this.host = host;
+    /** @type {Task | null} */
     this.set = null; // by a link, a lesson, a file or the fields
+    /** @type {Task | null} */
+    this.came = null; // by a link or a lesson, or that to which a file came
     this.own = null; // that the trace tells in its comments, which comes first
     /** @type {Outcome | 'waits'} */
     this.outcome = 'waits';
@@ -54,7 +59,7 @@ export class Tasks {
   get task() {
     const told = this.own ?? this.set;
     if (told === null) return null;
-    const same = goal => conditionsOf(goal).join('\n'), known = this.host.known.find(({ goal }) => same(goal) === same(told.goal));
+    const known = this.host.known.find(({ goal }) => isSameGoal(goal, told.goal));
     return { ...known, goal: told.goal, asks: told.asks || (known?.asks ?? '') };
   }
 
@@ -67,22 +72,22 @@ export class Tasks {
 
   takeAddress(address) {
     const told = new URLSearchParams(address.slice(1)), goal = (told.get('goal') ?? '').trim();
-    this.set = goal ? { goal, asks: told.get('asks') ?? '' } : null;
+    this.came = this.set = goal ? { goal, asks: told.get('asks') ?? '' } : null;
     this.tell();
   }
 
   // The trace of a file, whose head tells its task.
   takeText(text) {
-    const rest = withoutTask(text);
-    if (rest.length < text.length) this.set = taskOfText(text.slice(0, text.length - rest.length)) ?? this.set;
+    const rest = withoutTask(text), task = rest.length < text.length ? taskOfText(text.slice(0, text.length - rest.length)) : null;
+    if (task) [this.came, this.set] = [this.set ?? task, task];
     return rest;
   }
 
   // A text with the task in its head, so that a file keeps it.
   textToSave(text) { return this.set && !this.own ? withTask(this.task, [], text) : text; }
 
-  choose(task) {
-    this.set = task;
+  choose(task, came = task) {
+    [this.set, this.came] = [task, came];
     this.host.keepAddress();
     this.tell();
   }
@@ -101,7 +106,9 @@ export class Tasks {
 
   result() {
     const outcome = /** @type {Outcome} */ (this.outcome), why = whyNot(outcome), run = why ? null : outcome.run;
-    return { judged: judgeGoal(this.task.goal, run), why, run };
+    const text = withoutTask(this.host.textNow()), whose = whoseTask(this.task, this.own ? this.set ?? this.came : this.came, this.host.known, text);
+    const heap = toldOfHeap(whose, text), told = toldOfGoal(whose, run).concat(heap), isOther = whose.others.length + heap.length > 0;
+    return { judged: judgeGoal(this.task.goal, run), why, run, others: whose.others, told, isOther, about: told.concat(toldOfCommands(whose, text)) };
   }
 
   // What stands in the panel is made anew for another task alone: hints that are open stay so.
@@ -119,11 +126,13 @@ export class Tasks {
     if (!waits) this.tellResult(this.result());
   }
 
-  tellResult({ judged, why }) {
-    const isMet = isGoalMet(judged), told = this.byId('met'), text = isMet ? said('met') : why ? said('not yet: {0}', why) : said('not yet');
-    if (told.textContent !== text) told.textContent = text;
-    told.className = isMet ? 'kept' : 'refused';
+  tellResult({ judged, why, told, isOther }) {
+    const met = this.byId('met'), text = why ? said('not yet: {0}', why) : verdictOf(judged);
+    if (met.textContent !== text) met.textContent = text;
+    met.className = isGoalMet(judged) ? 'kept' : 'refused';
     this.byId('conditions').replaceChildren(...judged.map(conditionRow));
+    this.byId('whose').textContent = told.join(' ');
+    this.byId('whose').className = isOther ? 'refused' : 'muted';
   }
 
   showTask(task) {
@@ -136,7 +145,7 @@ export class Tasks {
       task.text && button('again', said('Begin again'), () => this.host.begin(task.text), said('The trace with which the task begins')),
       !this.own && button('leave', said('Leave the task'), () => this.choose(null))];
     place.replaceChildren(element('h2', {}, say('Task: {0}', element('b', { id: 'met', role: 'status' }))), element('p', { id: 'asks' }, task.asks),
-      element('ul', { id: 'conditions' }), foldedHints(task.hints ?? []), element('div', { class: 'bar' }, buttons));
+      element('ul', { id: 'conditions' }), element('p', { id: 'whose' }), foldedHints(task.hints ?? []), element('div', { class: 'bar' }, buttons));
   }
 
   async handIn() {
@@ -163,7 +172,7 @@ export class Tasks {
 
   listen() {
     const { byId } = this;
-    const value = id => byId(id).value, take = () => this.choose(value('set-goal').trim() ? { goal: value('set-goal'), asks: value('set-asks') } : null);
+    const value = id => byId(id).value, take = () => this.choose(value('set-goal').trim() ? { goal: value('set-goal'), asks: value('set-asks') } : null, this.came);
     for (const id of ['set-asks', 'set-goal']) byId(id).addEventListener('input', take);
     byId('set-copy').onclick = () => this.host.copyLink();
     const form = ({ forms, more }) => element('li', {}, forms.join('; '), element('span', { class: 'muted' }, ` (${more})`));
