@@ -11,9 +11,7 @@ use Rattle.heap_model.specs.Quarantine.{freed_of, is_held_block, with_waiting}
 use Rattle.heap_model.specs.declared.block.Freed.TheVariants as TheFreed
 use Rattle.trace_text.specs.declared.trace.Command.TheVariants.{Free}
 use Rattle.machine_steps.specs.Safety.{IsLiveOrHeld, IsSafe}
-use Rattle.heap_reply.specs.declared.reply.Reply.{Reply}
-use Rattle.heap_reply.specs.declared.reply.Reply.TheVariants.{Held, Trap}
-use Rattle.heap_reply.specs.declared.reply.Trap.TheVariants as trap
+use Rattle.heap_reply.specs.declared.reply.Reply.TheVariants.{Held}
 use Rattle.machine_steps.specs.State.{State, register}
 use Rattle.cap_codec.specs.Words.{bounds_in}
 use Rattle.machine_steps.specs.Step.{Step}
@@ -93,41 +91,3 @@ Step-free s rs heap sound tagged held same =
     let live = was_live s.heap bounds.base bounds.top held in
     let other = one_of_both s.heap bounds.base bounds.top sound live in
     rw (tagged, other, live) (refl, ap (λ (h : HeapState). record s { heap = h }) same)
-
--- ---- its one reply
-
-pub Step-free_only : (s : State) (rs : ℕ) (r : Reply) (new : State) → IsSoundHeap s.heap → (register s rs).1 ≡ true
-    → freed_of s.heap (bounds_in (register s rs).0).base (bounds_in (register s rs).0).top ≡ TheFreed.Held → Step s (Free rs) r new
-    → r ≡ Held ((bounds_in (register s rs).0).top - (bounds_in (register s rs).0).base)
-Step-free_only s rs r new sound tagged held step =
-    let bounds = bounds_in (register s rs).0 in
-    let live = was_live s.heap bounds.base bounds.top held in
-    let other = one_of_both s.heap bounds.base bounds.top sound live in
-    (rw (tagged, other, live) at step).0
-
-was_held : (heap : HeapState) (base top : ℕ) → freed_of heap base top ≡ TheFreed.AlreadyHeld → is_held_block heap base top ≡ true
-was_held heap base top held = go (is_block heap.live base top) (is_held_block heap base top) held where
-  go : (live other : Bool) → (cond live TheFreed.Held (cond other TheFreed.AlreadyHeld TheFreed.NotBlock)) ≡ TheFreed.AlreadyHeld → other ≡ true
-  go true other e = absurd cc
-  go false true e = refl
-  go false false e = absurd cc
-
-pub Step-freed_only : (s : State) (rs : ℕ) (r : Reply) (new : State) → (register s rs).1 ≡ true
-    → freed_of s.heap (bounds_in (register s rs).0).base (bounds_in (register s rs).0).top ≡ TheFreed.AlreadyHeld → Step s (Free rs) r new → r ≡ Trap trap.Freed
-Step-freed_only s rs r new tagged held step =
-    let bounds = bounds_in (register s rs).0 in
-    (rw (tagged, was_held s.heap bounds.base bounds.top held) at step).0
-
-was_neither : (heap : HeapState) (base top : ℕ) → freed_of heap base top ≡ TheFreed.NotBlock → (is_block heap.live base top ≡ false) × (is_held_block heap base top ≡ false)
-was_neither heap base top none = go (is_block heap.live base top) (is_held_block heap base top) none where
-  go : (live other : Bool) → (cond live TheFreed.Held (cond other TheFreed.AlreadyHeld TheFreed.NotBlock)) ≡ TheFreed.NotBlock → (live ≡ false) × (other ≡ false)
-  go true other e = absurd cc
-  go false true e = absurd cc
-  go false false e = (refl, refl)
-
-pub Step-no_block_only : (s : State) (rs : ℕ) (r : Reply) (new : State) → (register s rs).1 ≡ true
-    → freed_of s.heap (bounds_in (register s rs).0).base (bounds_in (register s rs).0).top ≡ TheFreed.NotBlock → Step s (Free rs) r new → r ≡ Trap trap.NotBlock
-Step-no_block_only s rs r new tagged none step =
-    let bounds = bounds_in (register s rs).0 in
-    let neither = was_neither s.heap bounds.base bounds.top none in
-    (rw (tagged, neither.1, neither.0) at step).0

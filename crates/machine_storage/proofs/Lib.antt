@@ -1,6 +1,7 @@
 pub mod ClearedRegisters
 pub mod CountLaws
 pub mod DueSweep
+pub mod MadeLaws
 pub mod PassedChecks
 pub mod SweepStep
 pub mod SweptMalloc

@@ -1,5 +1,5 @@
 -- What becomes of an answer to a command.
-use Rattle.std.specs.Prelude.{◌≡◌, ◌≢◌, ◌≤◌, ◌+◌, ℕ, max, Option, Some, None}
+use Rattle.std.specs.Prelude.{◌≡◌, ◌≢◌, ◌≤◌, ◌+◌, ℕ, max}
 use Rattle.heap_model.specs.Claim.{IsReason}
 use Rattle.heap_model.specs.Quarantine.{without_waiting}
 use Rattle.trace_text.specs.declared.trace.Command.{Command}
@@ -33,13 +33,6 @@ HasOneReply (Show rs) = Unit {0}
 HasOneReply Sweep = Unit {0}
 HasOneReply Begin = Unit {0}
 HasOneReply End = Unit {0}
-
--- Such commands make no pass either: they look at one register, or two.
-abbrev pub MakesNoPass : Command → Type 0
-MakesNoPass Sweep = ⊥
-MakesNoPass Begin = ⊥
-MakesNoPass End = ⊥
-MakesNoPass command = HasOneReply command
 
 -- A command is answered so, whatever state that leaves.
 abbrev pub CanReply : State → Command → Reply → Type 0
@@ -81,11 +74,6 @@ IsWhy old command answer why = ⊥
 abbrev pub IsFollowed : State → Command → Reply → Followed → State → Type 0
 IsFollowed old command answer Agrees new = Follows old command answer new
 IsFollowed old command answer (Differs why) new = IsRefused old command answer × IsWhy old command answer why × (new ≡ old)
-
--- A reply is the one that was expected, if one was.
-abbrev pub IsExpected : Option Reply → Reply → Type 0
-IsExpected None reply = Unit {0}
-IsExpected (Some answer) reply = answer ≡ reply
 
 -- To judge what a malloc was answered needs no memory: no sweep is told of, or none may be.
 abbrev pub IsJudgedFreely : State → Reply → Type 0

@@ -17,13 +17,13 @@ use Rattle.heap_reply.specs.declared.reply.Reply.{Reply}
 use Rattle.heap_reply.specs.declared.reply.Reply.TheVariants.{Block, BlockAfter, NoSpace, NoSpaceAfter, Held, Done, Cleared, Swept, Begun, Shown, Trap}
 use Rattle.heap_reply.specs.declared.reply.Trap.{Trap as TheTrap}
 use Rattle.machine_steps.specs.Dirty.{HasPages, IsDirtied, dirty_after}
-use Rattle.machine_storage.specs.Followed.{CanReply, IsFollowed}
+use Rattle.machine_storage.specs.Followed.{IsFollowed}
 use Rattle.machine_storage.specs.Storage.{IsStorage, state_of}
 use Rattle.machine_steps.specs.Safety.{FitsTypes, IsSafe}
 use Rattle.machine_steps.specs.Sound.{IsMachine}
 use Rattle.machine_steps.specs.State.{State, with_register}
 use Rattle.machine_steps.specs.Follow.{Allows, Follows, FollowsAfter, MallocAllows, Places, PlacesNone}
-use Rattle.machine_steps.specs.Step.{Step, checks, first_failed, after_begin, after_end, index_in, after_sweep, with_granule}
+use Rattle.machine_steps.specs.Step.{checks, first_failed, after_begin, after_end, index_in, after_sweep, with_granule}
 
 record HasSizes (s : State) : Type 0 where
   pub granules : 16 * length s.granules ≡ s.heap.size
@@ -149,18 +149,3 @@ pub Agrees-holds : (P : Type 0) (old new : State) (c : Command) (answer : Reply)
 Agrees-holds P old new c answer (Ok Agrees) followed holds is = holds followed
 Agrees-holds P old new c answer (Ok (Differs why)) followed holds is = absurd cc
 Agrees-holds P old new c answer (Err fault) followed holds is = absurd cc
-
--- What holds of a command that was done where its one reply is the one that was expected.
-pub record IsServedAs (old new : Storage) (c : Command) (answer : Reply) (result : Result Reply MachineFault) : Type 0 where
-  pub step : IfOk result (λ r. answer ≡ r → Step (state_of old) c r (state_of new))
-  pub other : IfOk result (λ r. answer ≢ r → CanReply (state_of old) c r)
-  pub still : IfOk result (λ r. answer ≢ r → new ≡ old)
-  pub dirty : IfOk result (λ r. answer ≡ r → new.memory.dirty ≡ dirty_after (state_of old) c old.memory.dirty)
-
-pub IsServedAs-done : (old new : Storage) (c : Command) (answer due : Reply) (result : Result Reply MachineFault) → answer ≡ due
-    → ((r : Reply) (t : State) → Step (state_of old) c r t → r ≡ due) → IfOk result (λ r. Step (state_of old) c r (state_of new))
-    → OnOk result (new.memory.dirty ≡ dirty_after (state_of old) c old.memory.dirty) → IsServedAs old new c answer result
-IsServedAs-done old new c answer due (Ok r) same only step dirty =
-    let is : answer ≡ r = same ∙ sym (only r (state_of new) step) in
-    record { step = λ _. step; other = λ no. absurd (no is); still = λ no. absurd (no is); dirty = λ _. dirty }
-IsServedAs-done old new c answer due (Err fault) same only step dirty = record { step = tt; other = tt; still = tt; dirty = tt }

@@ -1,3 +1,4 @@
+pub mod Decision
 pub mod Followed
 pub mod KeptSizes
 pub mod Passes

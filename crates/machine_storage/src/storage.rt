@@ -4,20 +4,23 @@ ghost use Rattle.std.specs.Prelude.{◌≡◌, ◌<◌, IfErr, IfOk, IsOk, None,
 ghost use Rattle.tag_memory.specs.Cells.{register_at, register_count};
 ghost use Rattle.trace_text.specs.Command.{IsValid};
 ghost use Rattle.machine_steps.specs.Dirty.{dirty_after};
-ghost use Rattle.machine_storage.specs.Storage.{IsServed, IsStorage, state_of};
+ghost use Rattle.machine_storage.specs.Decision.{IsDecision};
+ghost use Rattle.machine_storage.specs.Followed.{HasOneReply};
+ghost use Rattle.machine_storage.specs.Storage.{IsStorage, state_of};
 ghost use Rattle.machine_storage.specs.Passes.{FindsTags, MakesPass, MayPass};
 ghost use Rattle.machine_steps.specs.Safety.{FitsTypes};
 ghost use Rattle.machine_steps.specs.Step.{Step, NeedsNoMemory, access, first_failed, index_in};
 
 mod allocation;
+mod decision;
 mod epochs;
 mod following;
 mod passes;
-mod replying;
 mod retry;
 mod revocation;
 
 use crate::fault::MachineFault;
+use crate::storage::decision::{Change, Decision};
 pub use crate::storage::passes::Found;
 use cap_codec::{
     LOAD, LOAD_CAPABILITY, STORE, STORE_CAPABILITY, Word, and_perms, bounds, fields, from_bytes,
@@ -57,8 +60,42 @@ impl Storage {
         // What the command's type says of its numbers, for the law `steps`.
         ensures fits { FitsTypes command }
     {
+        let reply = match command {
+            Command::Malloc { rd, size } => return self.malloc(rd, size, pass),
+            Command::Free { rs } => self.make(self.free(rs)),
+            Command::Copy { rd, rs } => self.make(self.copy(rd, rs)),
+            Command::SetAddr { rd, rs, address } => self.make(self.set_address(rd, rs, address)),
+            Command::Narrow { rd, rs, length } => self.make(self.narrow(rd, rs, length)),
+            Command::AndPerm { rd, rs, mask } => self.make(self.and_perms(rd, rs, mask)),
+            Command::StoreCap { ra, rs } => self.make(self.store_cap(ra, rs)),
+            Command::LoadCap { rd, ra } => self.make(self.load_cap(rd, ra)),
+            Command::Write { ra, bytes } => self.make(self.write(ra, bytes)),
+            Command::Show { rs } => self.make(self.show(rs)),
+            Command::Sweep | Command::Begin | Command::End => {
+                let decision = self.decide(command, pass)?;
+                self.make(decision)
+            }
+        };
+        Ok(reply)
+    }
+
+    // What a command that is no malloc comes to, before anything changes.
+    fn decide<P: Fn(&Storage) -> Option<Found>>(
+        &self,
+        command: Command,
+        pass: &P,
+    ) -> Result<Decision, MachineFault>
+        requires callable { MakesPass self.now command → MayPass (P.pre pass.now) self.now }
+        requires finds { FindsTags (P.post pass.now) }
+        requires storage { IsStorage self.now }
+        requires valid { IsValid command }
+        requires one { HasOneReply command }
+        ensures decision { IfOk result (IsDecision self.now command) }
+        ensures memory { IfErr result (λ fault. fault ≡ MachineFault.Memory) }
+        ensures ok { NeedsNoMemory (state_of self.now) command → IsOk result }
+    {
         match command {
-            Command::Malloc { rd, size } => self.malloc(rd, size, pass),
+            Command::Malloc { .. } => unreachable!(),
             Command::Free { rs } => Ok(self.free(rs)),
             Command::Copy { rd, rs } => Ok(self.copy(rd, rs)),
             Command::SetAddr { rd, rs, address } => Ok(self.set_address(rd, rs, address)),
@@ -68,69 +105,71 @@ impl Storage {
             Command::LoadCap { rd, ra } => Ok(self.load_cap(rd, ra)),
             Command::Write { ra, bytes } => Ok(self.write(ra, bytes)),
             Command::Show { rs } => Ok(self.show(rs)),
-            Command::Sweep => self.sweep(None, pass),
-            Command::Begin => self.begin(None, pass),
-            Command::End => self.end(None, pass),
+            Command::Sweep => self.sweep(pass),
+            Command::Begin => self.begin(pass),
+            Command::End => self.end(pass),
         }
     }
 
-    fn copy(&mut self, rd: u8, rs: u8) -> Reply
-        requires storage { IsStorage self.old }
+    fn copy(&self, rd: u8, rs: u8) -> Decision
+        requires storage { IsStorage self.now }
         requires valid { IsValid (Command.Copy rd rs) }
-        ensures { IsServed self.old (Command.Copy rd rs) result self.new }
+        ensures { IsDecision self.now (Command.Copy rd rs) result }
     {
         let (word, tag) = self.registers.get(rs);
-        self.registers.set(rd, word, tag);
-        Reply::Done
+        Decision::done(Change::Register { r: rd, word, tag })
     }
 
-    fn set_address(&mut self, rd: u8, rs: u8, address: u64) -> Reply
-        requires storage { IsStorage self.old }
+    fn set_address(&self, rd: u8, rs: u8, address: u64) -> Decision
+        requires storage { IsStorage self.now }
         requires valid { IsValid (Command.SetAddr rd rs address) }
-        ensures { IsServed self.old (Command.SetAddr rd rs address) result self.new }
+        ensures { IsDecision self.now (Command.SetAddr rd rs address) result }
     {
         let (word, tag) = self.registers.get(rs);
         let keeps = representable(word, address);
-        self.registers
-            .set(rd, set_address(word, address), tag & keeps);
-        if tag & !keeps {
-            return Reply::Cleared;
-        }
-        Reply::Done
+        let reply = if tag & !keeps {
+            Reply::Cleared
+        } else {
+            Reply::Done
+        };
+        let word = set_address(word, address);
+        let tag = tag & keeps;
+        let change = Change::Register { r: rd, word, tag };
+        Decision { reply, change }
     }
 
-    fn narrow(&mut self, rd: u8, rs: u8, length: u64) -> Reply
-        requires storage { IsStorage self.old }
+    fn narrow(&self, rd: u8, rs: u8, length: u64) -> Decision
+        requires storage { IsStorage self.now }
         requires valid { IsValid (Command.Narrow rd rs length) }
-        ensures { IsServed self.old (Command.Narrow rd rs length) result self.new }
+        ensures { IsDecision self.now (Command.Narrow rd rs length) result }
     {
         let (word, tag) = self.registers.get(rs);
         if !tag {
-            return Reply::Trap(Trap::Tag);
+            return Decision::trap(Trap::Tag);
         }
         if length == 0 {
-            return Reply::Trap(Trap::Empty);
+            return Decision::trap(Trap::Empty);
         }
         let base = fields(word).address;
         if !bounds(word).hold(base, length) {
-            return Reply::Trap(Trap::Bounds);
+            return Decision::trap(Trap::Bounds);
         }
         let (word, exact) = with_bounds(word, base, u128::from(base) + u128::from(length));
         if !exact {
-            return Reply::Trap(Trap::Inexact);
+            return Decision::trap(Trap::Inexact);
         }
-        self.registers.set(rd, word, true);
-        Reply::Done
+        let tag = true;
+        Decision::done(Change::Register { r: rd, word, tag })
     }
 
-    fn and_perms(&mut self, rd: u8, rs: u8, mask: u16) -> Reply
-        requires storage { IsStorage self.old }
+    fn and_perms(&self, rd: u8, rs: u8, mask: u16) -> Decision
+        requires storage { IsStorage self.now }
         requires valid { IsValid (Command.AndPerm rd rs mask) }
-        ensures { IsServed self.old (Command.AndPerm rd rs mask) result self.new }
+        ensures { IsDecision self.now (Command.AndPerm rd rs mask) result }
     {
         let (word, tag) = self.registers.get(rs);
-        self.registers.set(rd, and_perms(word, mask), tag);
-        Reply::Done
+        let word = and_perms(word, mask);
+        Decision::done(Change::Register { r: rd, word, tag })
     }
 
     // The index of the granule at a register's address, for an access that is allowed so.
@@ -151,10 +190,10 @@ impl Storage {
         Ok(((fields(word).address - self.memory.base()) / GRANULE) as usize)
     }
 
-    fn store_cap(&mut self, ra: u8, rs: u8) -> Reply
-        requires storage { IsStorage self.old }
+    fn store_cap(&self, ra: u8, rs: u8) -> Decision
+        requires storage { IsStorage self.now }
         requires valid { IsValid (Command.StoreCap ra rs) }
-        ensures { IsServed self.old (Command.StoreCap ra rs) result self.new }
+        ensures { IsDecision self.now (Command.StoreCap ra rs) result }
     {
         let (word, tag) = self.registers.get(rs);
         let (authority, _) = self.registers.get(ra);
@@ -162,49 +201,52 @@ impl Storage {
         let allowed = stores & (!tag | is_allowed(authority, STORE_CAPABILITY));
         let i = match self.granule_index(ra, allowed) {
             Ok(i) => i,
-            Err(trap) => return Reply::Trap(trap),
+            Err(trap) => return Decision::trap(trap),
         };
-        self.memory.put(i, word.bits, tag);
-        Reply::Done
+        let bits = word.bits;
+        Decision::done(Change::Granule { i, bits, tag })
     }
 
-    fn load_cap(&mut self, rd: u8, ra: u8) -> Reply
-        requires storage { IsStorage self.old }
+    fn load_cap(&self, rd: u8, ra: u8) -> Decision
+        requires storage { IsStorage self.now }
         requires valid { IsValid (Command.LoadCap rd ra) }
-        ensures { IsServed self.old (Command.LoadCap rd ra) result self.new }
+        ensures { IsDecision self.now (Command.LoadCap rd ra) result }
     {
         let (authority, _) = self.registers.get(ra);
         let i = match self.granule_index(ra, is_allowed(authority, LOAD)) {
             Ok(i) => i,
-            Err(trap) => return Reply::Trap(trap),
+            Err(trap) => return Decision::trap(trap),
         };
         let (bits, tag) = self.memory.cell(i);
-        let keeps = is_allowed(authority, LOAD_CAPABILITY);
-        self.registers.set(rd, Word { bits }, tag & keeps);
-        Reply::Done
+        let word = Word { bits };
+        let tag = tag & is_allowed(authority, LOAD_CAPABILITY);
+        Decision::done(Change::Register { r: rd, word, tag })
     }
 
-    fn write(&mut self, ra: u8, bytes: [u8; 16]) -> Reply
-        requires storage { IsStorage self.old }
+    fn write(&self, ra: u8, bytes: [u8; 16]) -> Decision
+        requires storage { IsStorage self.now }
         requires valid { IsValid (Command.Write ra bytes) }
-        ensures { IsServed self.old (Command.Write ra bytes) result self.new }
+        ensures { IsDecision self.now (Command.Write ra bytes) result }
     {
         let (authority, _) = self.registers.get(ra);
         let i = match self.granule_index(ra, is_allowed(authority, STORE)) {
             Ok(i) => i,
-            Err(trap) => return Reply::Trap(trap),
+            Err(trap) => return Decision::trap(trap),
         };
-        self.memory.put(i, from_bytes(bytes).bits, false);
-        Reply::Done
+        let bits = from_bytes(bytes).bits;
+        let tag = false;
+        Decision::done(Change::Granule { i, bits, tag })
     }
 
-    fn show(&self, rs: u8) -> Reply
+    fn show(&self, rs: u8) -> Decision
         requires storage { IsStorage self.now }
         requires valid { IsValid (Command.Show rs) }
-        ensures { Step (state_of self.now) (Command.Show rs) result (state_of self.now) }
+        ensures { IsDecision self.now (Command.Show rs) result }
     {
         let (word, tag) = self.registers.get(rs);
-        Reply::Shown(Shown::of(word, tag))
+        let reply = Reply::Shown(Shown::of(word, tag));
+        let change = Change::Nothing;
+        Decision { reply, change }
     }
 }
 

@@ -1,16 +1,16 @@
 //! Epochs of revocation: what begins one sweeps memory alone, and what ends it looks at registers and dirty pages.
 
-ghost use Rattle.std.specs.Prelude.{◌≡◌, ℕ, IfErr, IfOk, IsOk, OnErr, OnOk, false, true};
-ghost use Rattle.tag_memory.specs.Cells.{is_dirty_at};
-ghost use Rattle.machine_steps.specs.Dirty.{dirty_after};
-ghost use Rattle.machine_storage.specs.Followed.{CanReply, IsExpected};
+ghost use Rattle.std.specs.Prelude.{◌≡◌, ℕ, IfErr, IfOk, IsOk, false, true};
+ghost use Rattle.heap_model.specs.Quarantine.{with_epoch};
+ghost use Rattle.tag_memory.specs.Cells.{all_clean, is_dirty_at};
+ghost use Rattle.machine_storage.specs.Decision.{IsDecision, IsRevocation};
 ghost use Rattle.machine_storage.specs.Storage.{IsStorage, state_of};
 ghost use Rattle.machine_storage.specs.Passes.{FindsTags, MakesPass, MayPass};
-ghost use Rattle.machine_steps.specs.Step.{Step, NeedsNoMemory};
+ghost use Rattle.machine_steps.specs.Step.{NeedsNoMemory};
 
 use crate::fault::MachineFault;
 use crate::storage::Storage;
-use crate::storage::following::differs;
+use crate::storage::decision::{Change, Decision};
 use crate::storage::passes::Found;
 use crate::storage::revocation::ones_in;
 use heap_core::due_registers;
@@ -19,100 +19,79 @@ use trace_text::Command;
 
 impl Storage {
     // Every tagged word of memory whose base lies in a block that waits loses its tag; then these blocks are painted, and
-    // all pages clean. The registers are left for the end. Whatever takes memory comes first.
+    // all pages clean. The registers are left for the end. Whatever takes memory comes before the first change.
     pub(super) fn begin<P: Fn(&Storage) -> Option<Found>>(
-        &mut self,
-        expected: Option<Reply>,
+        &self,
         pass: &P,
-    ) -> Result<Reply, MachineFault>
-        requires callable { MakesPass self.old Command.Begin → MayPass (P.pre pass.now) self.old }
+    ) -> Result<Decision, MachineFault>
+        requires callable { MakesPass self.now Command.Begin → MayPass (P.pre pass.now) self.now }
         requires finds { FindsTags (P.post pass.now) }
-        requires storage { IsStorage self.old }
-        ensures step { IfOk result (λ reply. IsExpected expected reply → Step (state_of self.old) Command.Begin reply (state_of self.new)) }
-        ensures other { IfOk result (λ reply. ¬ IsExpected expected reply → CanReply (state_of self.old) Command.Begin reply) }
-        ensures still { IfOk result (λ reply. ¬ IsExpected expected reply → self.new ≡ self.old) }
-        ensures base { self.new.memory.base ≡ self.new.heap.base }
-        ensures dirty { IfOk result (λ reply. IsExpected expected reply → self.new.memory.dirty ≡ dirty_after (state_of self.old) Command.Begin self.old.memory.dirty) }
-        ensures err { OnErr result (self.new ≡ self.old) }
+        requires storage { IsStorage self.now }
+        ensures decision { IfOk result (IsDecision self.now Command.Begin) }
         ensures memory { IfErr result (λ fault. fault ≡ MachineFault.Memory) }
-        ensures ok { NeedsNoMemory (state_of self.old) Command.Begin → IsOk result }
+        ensures ok { NeedsNoMemory (state_of self.now) Command.Begin → IsOk result }
     {
         if self.heap.is_open() {
-            return Ok(Reply::Trap(Trap::Open));
+            return Ok(Decision::trap(Trap::Open));
         }
         if self.heap.held_bytes() == 0 {
             let reply = Reply::Begun { cleared: 0 };
-            if differs(expected, reply) {
-                return Ok(reply);
-            }
-            self.memory.mark_clean();
-            self.heap.begin_epoch();
-            return Ok(reply);
+            let change = Change::BeginsEmpty;
+            return Ok(Decision { reply, change });
         }
         let masks = self.memory_masks(pass)?;
         let reply = Reply::Begun {
             cleared: ones_in(&masks),
         };
-        if differs(expected, reply) {
-            return Ok(reply);
-        }
-        self.memory.clear_tags(&masks);
-        self.memory.mark_clean();
-        self.heap.begin_epoch();
-        Ok(reply)
+        let change = Change::Begins(masks);
+        Ok(Decision { reply, change })
     }
 
     // Every tagged word whose base lies in a painted block loses its tag; then these blocks are free. In memory such
     // words stand in dirty pages alone, since none was left when the epoch began, and later each came from a register.
     pub(super) fn end<P: Fn(&Storage) -> Option<Found>>(
-        &mut self,
-        expected: Option<Reply>,
+        &self,
         pass: &P,
-    ) -> Result<Reply, MachineFault>
-        requires callable { MakesPass self.old Command.End → MayPass (P.pre pass.now) self.old }
+    ) -> Result<Decision, MachineFault>
+        requires callable { MakesPass self.now Command.End → MayPass (P.pre pass.now) self.now }
         requires finds { FindsTags (P.post pass.now) }
-        requires storage { IsStorage self.old }
-        ensures step { IfOk result (λ reply. IsExpected expected reply → Step (state_of self.old) Command.End reply (state_of self.new)) }
-        ensures other { IfOk result (λ reply. ¬ IsExpected expected reply → CanReply (state_of self.old) Command.End reply) }
-        ensures still { IfOk result (λ reply. ¬ IsExpected expected reply → self.new ≡ self.old) }
-        ensures base { self.new.memory.base ≡ self.new.heap.base }
-        ensures dirty { OnOk result (self.new.memory.dirty ≡ self.old.memory.dirty) }
-        ensures err { OnErr result (self.new ≡ self.old) }
+        requires storage { IsStorage self.now }
+        ensures decision { IfOk result (IsDecision self.now Command.End) }
         ensures memory { IfErr result (λ fault. fault ≡ MachineFault.Memory) }
-        ensures ok { NeedsNoMemory (state_of self.old) Command.End → IsOk result }
+        ensures ok { NeedsNoMemory (state_of self.now) Command.End → IsOk result }
     {
         if !self.heap.is_open() {
-            return Ok(Reply::Trap(Trap::NotOpen));
+            return Ok(Decision::trap(Trap::NotOpen));
         }
         if !self.memory.has_dirty() {
-            return Ok(self.end_clean(expected));
+            return Ok(self.end_clean());
         }
-        let reply = self.revoke(expected, pass)?;
-        Ok(reply)
+        self.revocation(pass)
     }
 
     // The same where no page is dirty, so that no word of memory loses its tag: only registers are looked at, whatever the
     // heap, and that takes no memory.
-    fn end_clean(&mut self, expected: Option<Reply>) -> Reply
-        requires storage { IsStorage self.old }
-        requires opened { self.old.heap.is_open ≡ true }
-        requires clean { (page : ℕ) → is_dirty_at self.old.memory.dirty page ≡ false }
-        ensures step { IsExpected expected result → Step (state_of self.old) Command.End result (state_of self.new) }
-        ensures other { ¬ IsExpected expected result → CanReply (state_of self.old) Command.End result }
-        ensures still { ¬ IsExpected expected result → self.new ≡ self.old }
-        ensures base { self.new.memory.base ≡ self.new.heap.base }
-        ensures dirty { self.new.memory.dirty ≡ self.old.memory.dirty }
+    fn end_clean(&self) -> Decision
+        requires storage { IsStorage self.now }
+        requires opened { self.now.heap.is_open ≡ true }
+        requires clean { (page : ℕ) → is_dirty_at self.now.memory.dirty page ≡ false }
+        ensures { IsRevocation self.now result }
     {
         let revoked = due_registers(&self.registers, &self.heap);
         let reply = Reply::Swept {
             cleared: revoked.count_ones(),
             released: self.heap.due_bytes(),
         };
-        if differs(expected, reply) {
-            return reply;
-        }
-        self.registers.clear_tags(revoked);
-        self.heap.give_back();
-        reply
+        let change = Change::Registers(revoked);
+        Decision { reply, change }
+    }
+
+    // The blocks that wait are painted, and all pages clean.
+    pub(super) fn begin_epoch(&mut self)
+        requires { self.old.heap.is_open ≡ false }
+        ensures { self.new ≡ record self.old { heap = with_epoch self.old.heap; memory = record self.old.memory { dirty = all_clean self.old.memory.dirty } } }
+    {
+        self.memory.mark_clean();
+        self.heap.begin_epoch();
     }
 }

@@ -1,9 +1,9 @@
 //! Doing commands as they were answered by an allocator that places blocks as it likes.
 
-ghost use Rattle.std.specs.Prelude.{◌≡◌, IfErr, IfOk, IsOk, OnErr, ◌+◌, ◌≢◌, false, max, true};
+ghost use Rattle.std.specs.Prelude.{◌≡◌, IfErr, IfOk, IsOk, ◌+◌, ◌≢◌, false, max, true};
 ghost use Rattle.trace_text.specs.Command.{IsValid};
 ghost use Rattle.machine_steps.specs.Dirty.{dirty_after};
-ghost use Rattle.machine_storage.specs.Followed.{CanReply, FollowsFreely, HasOneReply, IsExpected, IsFollowed, IsJudgedFreely};
+ghost use Rattle.machine_storage.specs.Followed.{FollowsFreely, HasOneReply, IsFollowed, IsJudgedFreely};
 ghost use Rattle.machine_storage.specs.Storage.{IsStorage, state_of};
 ghost use Rattle.machine_storage.specs.Passes.{FindsTags, FollowsByPass, IsJudgedByPass, MakesPass, MayPass};
 ghost use Rattle.machine_steps.specs.Safety.{FitsTypes};
@@ -68,47 +68,12 @@ impl Storage {
     {
         any_placement_law();
         safe_reuse_law();
-        let reply = self.serve_as(command, answer, pass)?;
-        if differs(Some(answer), reply) {
-            return Ok(Followed::Differs(Why::MustBe(reply)));
+        let decision = self.decide(command, pass)?;
+        if differs(answer, decision.reply) {
+            return Ok(Followed::Differs(Why::MustBe(decision.reply)));
         }
+        self.make(decision);
         Ok(Followed::Agrees)
-    }
-
-    // Does a command that has one answer, where it is this; else nothing is changed. It answers the command's.
-    fn serve_as<P: Fn(&Storage) -> Option<Found>>(
-        &mut self,
-        command: Command,
-        answer: Reply,
-        pass: &P,
-    ) -> Result<Reply, MachineFault>
-        requires callable { MakesPass self.old command → MayPass (P.pre pass.now) self.old }
-        requires finds { FindsTags (P.post pass.now) }
-        requires storage { IsStorage self.old }
-        requires valid { IsValid command }
-        requires one { HasOneReply command }
-        ensures step { IfOk result (λ reply. answer ≡ reply → Step (state_of self.old) command reply (state_of self.new)) }
-        ensures other { IfOk result (λ reply. answer ≢ reply → CanReply (state_of self.old) command reply) }
-        ensures still { IfOk result (λ reply. answer ≢ reply → self.new ≡ self.old) }
-        ensures base { self.new.memory.base ≡ self.new.heap.base }
-        ensures dirty { IfOk result (λ reply. answer ≡ reply → self.new.memory.dirty ≡ dirty_after (state_of self.old) command self.old.memory.dirty) }
-        ensures err { OnErr result (self.new ≡ self.old) }
-        ensures memory { IfErr result (λ fault. fault ≡ MachineFault.Memory) }
-        ensures ok { NeedsNoMemory (state_of self.old) command → IsOk result }
-        ensures fits { FitsTypes command }
-    {
-        match command {
-            Command::Sweep => return self.sweep(Some(answer), pass),
-            Command::Begin => return self.begin(Some(answer), pass),
-            Command::End => return self.end(Some(answer), pass),
-            _ => {}
-        }
-        safe_reuse_law();
-        let reply = self.reply_to(command);
-        if differs(Some(answer), reply) {
-            return Ok(reply);
-        }
-        self.serve(command, pass)
     }
 
     // Does a malloc as it was answered, where it may be.
@@ -247,15 +212,12 @@ impl Storage {
     }
 }
 
-// Whether a reply is another than the one that was expected, if one was.
-pub(super) fn differs(expected: Option<Reply>, reply: Reply) -> bool
-    ensures yes { result ≡ true → ¬ IsExpected expected reply }
-    ensures no { result ≡ false → IsExpected expected reply }
+// Whether an answer is another than this reply.
+fn differs(answer: Reply, reply: Reply) -> bool
+    ensures yes { result ≡ true → answer ≢ reply }
+    ensures no { result ≡ false → answer ≡ reply }
 {
-    match expected {
-        None => false,
-        Some(answer) => answer != reply,
-    }
+    answer != reply
 }
 
 // The least top of a block of this size from `base` on: 0 counts as 1.

@@ -8,15 +8,15 @@ ghost use Rattle.heap_model.specs.Sweep.{tags_taken};
 ghost use Rattle.sweep_masks.specs.Masks.{TakeTags};
 ghost use Rattle.tag_memory.specs.Cells.{Cell, MemoryState};
 ghost use Rattle.trace_text.specs.Command.{IsValid};
-ghost use Rattle.machine_storage.specs.Followed.{CanReply, IsExpected};
-ghost use Rattle.machine_storage.specs.Storage.{IsServed, IsStorage, state_of};
+ghost use Rattle.machine_storage.specs.Decision.{IsDecision, IsRevocation};
+ghost use Rattle.machine_storage.specs.Storage.{IsStorage, state_of};
 ghost use Rattle.machine_storage.specs.Passes.{FindsTags, MakesPass, MayPass};
-ghost use Rattle.machine_storage.specs.Revoked.{AreApplied, AreRevoked, IsRevocation, reply_of_revocation};
+ghost use Rattle.machine_storage.specs.Revoked.{AreApplied, AreRevoked};
 ghost use Rattle.machine_steps.specs.Step.{Step, NeedsNoMemory};
 
 use crate::fault::MachineFault;
 use crate::storage::Storage;
-use crate::storage::following::differs;
+use crate::storage::decision::{Change, Decision};
 use crate::storage::passes::Found;
 use cap_codec::{Bounds, bounds};
 use heap_core::{Freed, due_registers};
@@ -74,72 +74,65 @@ impl RevokedTags {
 
 impl Storage {
     // The block with just a register's bounds goes into quarantine.
-    pub(super) fn free(&mut self, rs: u8) -> Reply
-        requires storage { IsStorage self.old }
+    pub(super) fn free(&self, rs: u8) -> Decision
+        requires storage { IsStorage self.now }
         requires valid { IsValid (Command.Free rs) }
-        ensures { IsServed self.old (Command.Free rs) result self.new }
+        ensures { IsDecision self.now (Command.Free rs) result }
     {
         let (word, tag) = self.registers.get(rs);
         if !tag {
-            return Reply::Trap(Trap::Tag);
+            return Decision::trap(Trap::Tag);
         }
         let Bounds { base, top } = bounds(word);
         let bytes = (top - u128::from(base)) as u64;
-        match self.heap.give_up(base, top) {
-            Freed::Held => Reply::Held(bytes),
-            Freed::AlreadyHeld => Reply::Trap(Trap::Freed),
-            Freed::NotBlock => Reply::Trap(Trap::NotBlock),
+        match self.heap.freed_of(base, top) {
+            Freed::Held => {
+                let reply = Reply::Held(bytes);
+                let change = Change::Waits { base, top };
+                Decision { reply, change }
+            }
+            Freed::AlreadyHeld => Decision::trap(Trap::Freed),
+            Freed::NotBlock => Decision::trap(Trap::NotBlock),
         }
     }
 
     // Every tagged word whose base lies in a block that waits loses its tag; then these blocks are free. Where none waits
-    // there is nothing to look for. Where another reply is expected than the one that is answered, nothing is changed.
+    // there is nothing to look for.
     pub(super) fn sweep<P: Fn(&Storage) -> Option<Found>>(
-        &mut self,
-        expected: Option<Reply>,
+        &self,
         pass: &P,
-    ) -> Result<Reply, MachineFault>
-        requires callable { MakesPass self.old Command.Sweep → MayPass (P.pre pass.now) self.old }
+    ) -> Result<Decision, MachineFault>
+        requires callable { MakesPass self.now Command.Sweep → MayPass (P.pre pass.now) self.now }
         requires finds { FindsTags (P.post pass.now) }
-        requires storage { IsStorage self.old }
-        ensures step { IfOk result (λ reply. IsExpected expected reply → Step (state_of self.old) Command.Sweep reply (state_of self.new)) }
-        ensures other { IfOk result (λ reply. ¬ IsExpected expected reply → CanReply (state_of self.old) Command.Sweep reply) }
-        ensures still { IfOk result (λ reply. ¬ IsExpected expected reply → self.new ≡ self.old) }
-        ensures base { self.new.memory.base ≡ self.new.heap.base }
-        ensures dirty { OnOk result (self.new.memory.dirty ≡ self.old.memory.dirty) }
-        ensures err { OnErr result (self.new ≡ self.old) }
+        requires storage { IsStorage self.now }
+        ensures decision { IfOk result (IsDecision self.now Command.Sweep) }
         ensures memory { IfErr result (λ fault. fault ≡ MachineFault.Memory) }
-        ensures ok { NeedsNoMemory (state_of self.old) Command.Sweep → IsOk result }
+        ensures ok { NeedsNoMemory (state_of self.now) Command.Sweep → IsOk result }
     {
         if self.heap.is_open() {
-            return Ok(Reply::Trap(Trap::Open));
+            return Ok(Decision::trap(Trap::Open));
         }
         if self.heap.held_bytes() == 0 {
-            return Ok(Reply::Swept {
+            let reply = Reply::Swept {
                 cleared: 0,
                 released: 0,
-            });
+            };
+            let change = Change::Nothing;
+            return Ok(Decision { reply, change });
         }
-        let reply = self.revoke(expected, pass)?;
-        Ok(reply)
+        self.revocation(pass)
     }
 
     // Every tagged word whose base lies in a block that is due loses its tag; then these blocks are free. Whatever takes
-    // memory comes first. Where another reply is expected than the one that is answered, nothing is changed.
-    pub(super) fn revoke<P: Fn(&Storage) -> Option<Found>>(
-        &mut self,
-        expected: Option<Reply>,
+    // memory comes before the first change.
+    pub(super) fn revocation<P: Fn(&Storage) -> Option<Found>>(
+        &self,
         pass: &P,
-    ) -> Result<Reply, MachineFault>
-        requires callable { MayPass (P.pre pass.now) self.old }
+    ) -> Result<Decision, MachineFault>
+        requires callable { MayPass (P.pre pass.now) self.now }
         requires finds { FindsTags (P.post pass.now) }
-        requires storage { IsStorage self.old }
-        ensures reply { IfOk result (λ reply. reply ≡ reply_of_revocation self.old) }
-        ensures done { IfOk result (λ reply. IsExpected expected reply → IsRevocation self.old self.new) }
-        ensures still { IfOk result (λ reply. ¬ IsExpected expected reply → self.new ≡ self.old) }
-        ensures base { self.new.memory.base ≡ self.new.heap.base }
-        ensures dirty { OnOk result (self.new.memory.dirty ≡ self.old.memory.dirty) }
-        ensures err { OnErr result (self.new ≡ self.old) }
+        requires storage { IsStorage self.now }
+        ensures decision { IfOk result (IsRevocation self.now) }
         ensures memory { IfErr result (λ fault. fault ≡ MachineFault.Memory) }
     {
         let revoked = self.revoked_tags(pass)?;
@@ -147,12 +140,8 @@ impl Storage {
             cleared: revoked.count(),
             released: self.heap.due_bytes(),
         };
-        if differs(expected, reply) {
-            return Ok(reply);
-        }
-        revoked.apply(&mut self.memory, &mut self.registers);
-        self.heap.give_back();
-        Ok(reply)
+        let change = Change::Revokes(revoked);
+        Ok(Decision { reply, change })
     }
 
     // The tags of memory and registers that a pass takes now, of words whose base lies in a block that is due. In an open

@@ -1,4 +1,4 @@
-use Rattle.std.proofs.Common.{◌≡◌, ◌∙◌, rules, true, ap, sym}
+use Rattle.std.proofs.Common.{◌≡◌, ◌∙◌, rules, true, ap, refl, sym}
 use Rattle.heap_model.specs.Quarantine.{freed_of}
 use Rattle.heap_model.specs.declared.block.Freed.TheVariants as TheFreed
 use Rattle.cap_codec.specs.Words.{bounds_in}
@@ -13,10 +13,9 @@ returns-in-Held c =
     let is : c.bounds-base.result ≡ bounds_in (register_at c.args.self.now.registers c.args.rs).0 =
     c.bounds-base.ensures.value ∙ ap (λ (cell : Cell). bounds_in cell.0) c.get-tag.ensures.value in
     let tagged : (register_at c.args.self.now.registers c.args.rs).1 ≡ true = sym (ap (λ (cell : Cell). cell.1) c.get-tag.ensures.value) ∙ c.if-not-tag.false in
-    let same = c.give_up.ensures.held c.in-Held.is in
-    let held : freed_of c.args.self.now.heap c.bounds-base.result.base c.bounds-base.result.top ≡ TheFreed.Held = sym c.give_up.ensures.answer ∙ c.in-Held.is in
+    let held : freed_of c.args.self.now.heap c.bounds-base.result.base c.bounds-base.result.top ≡ TheFreed.Held = sym c.freed_of.ensures ∙ c.in-Held.is in
     record {
-      step = rw (c.from.ensures, is) (Step-free s c.args.rs c.give_up.new.self c.requires.storage.sound.safe.heap tagged (rw is at held) (rw is at same));
-      base = search rules;
+      step = rw (c.from.ensures, is) (Step-free s c.args.rs _ c.requires.storage.sound.safe.heap tagged (rw is at held) refl);
+      can = held;
       dirty = search rules;
     }
