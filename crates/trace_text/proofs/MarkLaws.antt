@@ -29,7 +29,7 @@ or_set m (suc (suc n)) k lm ln e set = absurd (omega (arith, ln))
 -- ---- stops
 
 -- those of the line before the first feed
-pub stops_of : (text : List ℕ) (blanks feeds count : ℕ) → 64 ≤ length text → count < 64 → ((j : ℕ) → j < 64 → is_set blanks j ≡ is_blank (get_or text j 0))
+pub stops_of : (text : List ℕ) (blanks feeds count : ℕ) → 64 ≤ length text → count < 64 → ((j : ℕ) → j < count → is_set blanks j ≡ is_blank (get_or text j 0))
     → is_set feeds count ≡ true → ((j : ℕ) → j < count → is_set feeds j ≡ false) → AreStops (take count text) (bit_or blanks feeds)
 stops_of text blanks feeds count room lt marked feed none =
     let size : length (take count text) ≡ count = length-take-le count text (omega (arith, room, lt)) in
@@ -38,7 +38,7 @@ stops_of text blanks feeds count room lt marked feed none =
       blanks = λ j within.
           let before : j < count = omega (arith, within, size) in
           or_clear (bit_at blanks j) (bit_at feeds j) (bit_at (bit_or blanks feeds) j) (bit_at-lt blanks j) (bit_at-lt feeds j) (bit_at_or blanks feeds j) (none j before)
-          ∙ marked j (omega (arith, before, lt)) ∙ ap is_blank (sym (get_or-take count text j 0 before));
+          ∙ marked j before ∙ ap is_blank (sym (get_or-take count text j 0 before));
       end = rw size (or_set (bit_at blanks count) (bit_at feeds count) (bit_at (bit_or blanks feeds) count) (bit_at-lt blanks count) (bit_at-lt feeds count) (bit_at_or blanks feeds count) feed);
     }
 

@@ -13,6 +13,9 @@ use tag_memory::lowest_bit;
 /// How many bytes one look takes in.
 pub const LANES: usize = 64;
 
+// How many a first look takes in: most lines end there.
+const NEAR: usize = 32;
+
 /// A line, and where its words end, if one look took it in with the feed after it.
 #[derive(Drop)]
 pub struct Line<'a> {
@@ -45,9 +48,48 @@ pub fn feeds_of(text: &[u8]) -> u64
         .to_bitmask()
 }
 
-// Which of the first 64 bytes of a text are blank.
+/// Which of the first 32 are; the other bits are 0.
 #[inline(always)]
-fn blanks_of(text: &[u8]) -> u64
+pub fn near_feeds_of(text: &[u8]) -> u64
+    requires { 64 ≤ length text.now }
+    ensures near { (j : ℕ) → j < 32 → is_set result j ≡ (slice_index text.now j == 10) }
+    ensures far { (j : ℕ) → 32 ≤ j → is_set result j ≡ false }
+{
+    u8x32::from_slice(text)
+        .simd_eq(u8x32::splat(b'\n'))
+        .to_bitmask()
+}
+
+// Which of the bytes of a text are blank, of as many as are looked at for a line of `count` bytes.
+#[inline(always)]
+fn blanks_of(text: &[u8], count: usize) -> u64
+    requires room { 64 ≤ length text.now }
+    requires within { count < 64 }
+    ensures { (j : ℕ) → j < count → is_set result j ≡ is_blank (slice_index text.now j) }
+{
+    if count < NEAR {
+        near_blanks_of(text)
+    } else {
+        far_blanks_of(text)
+    }
+}
+
+// Which of the first 32 are.
+#[inline(always)]
+fn near_blanks_of(text: &[u8]) -> u64
+    requires { 64 ≤ length text.now }
+    ensures { (j : ℕ) → j < 32 → is_set result j ≡ is_blank (slice_index text.now j) }
+{
+    let bytes = u8x32::from_slice(text);
+    let is_space = bytes.simd_eq(u8x32::splat(b' '));
+    let is_tab = bytes.simd_eq(u8x32::splat(b'\t'));
+    let is_return = bytes.simd_eq(u8x32::splat(b'\r'));
+    (is_space | (is_tab | is_return)).to_bitmask()
+}
+
+// Which of the first 64 are.
+#[inline(always)]
+fn far_blanks_of(text: &[u8]) -> u64
     requires { 64 ≤ length text.now }
     ensures { (j : ℕ) → j < 64 → is_set result j ≡ is_blank (slice_index text.now j) }
 {
@@ -96,7 +138,7 @@ fn bytes_before_word(bytes: &[u8]) -> usize
 }
 
 impl<'a> Line<'a> {
-    /// The line before the first feed of a text, which stands at `count`. These are the feeds of 64 bytes.
+    /// The line before the first feed of a text, which stands at `count`. These are feeds, up to that one.
     #[inline(always)]
     pub fn of_text(text: &'a [u8], feeds: u64, count: usize) -> Line<'a>
         requires room { 64 ≤ length text.now }
@@ -108,7 +150,7 @@ impl<'a> Line<'a> {
         Line {
             bytes: &text[..count],
             is_seen: true,
-            stops: blanks_of(text) | feeds,
+            stops: blanks_of(text, count) | feeds,
         }
     }
 

@@ -6,7 +6,7 @@ ghost use Rattle.trace_text.specs.Lines.{is_blank, is_passed_over, lines_of, wor
 ghost use Rattle.trace_text.specs.Marked.{Ends};
 ghost use Rattle.trace_text.specs.Reading.{no_word_in, one_word_in, three_words_in, two_words_in};
 
-use crate::marked::{LANES, Line, feeds_of};
+use crate::marked::{LANES, Line, feeds_of, near_feeds_of};
 use memchr::memchr_iter;
 use tag_memory::lowest_bit;
 
@@ -64,6 +64,11 @@ pub fn split_line(text: &[u8]) -> Option<(Line<'_>, &[u8])>
     // Of a line that begins with a blank or as a comment does, the feed alone may be all that is asked for.
     if *first <= b'#' || text.len() < LANES {
         return Some(split_from(text, 0));
+    }
+    let near = near_feeds_of(text);
+    if near != 0 {
+        let count = lowest_bit(near);
+        return Some((Line::of_text(text, near, count), &text[count + 1..]));
     }
     let feeds = feeds_of(text);
     if feeds == 0 {
