@@ -60,7 +60,7 @@ FALSE_TEXTS = (
 
 
 # Examples whose states are listed.
-LISTED = ("run_first_steps", "lesson_an_epoch_with_a_store", "lesson_a_copy_hidden_in_memory", "run_overwritten_capability")
+LISTED = ("examples/run_first_steps", "examples/lesson_an_epoch_with_a_store", "examples/lesson_a_copy_hidden_in_memory", "testing/rows/run_overwritten_capability")
 # What calls answer, and none takes.
 ANSWERED = {"Block", "Change", "Corrections", "Tag", "TaggedWord", "Why"}
 # Methods of Python's own numbers and exceptions, which the help doesn't repeat for each kind.
@@ -392,7 +392,7 @@ def all_of(tests, library, example):
     wrong_types(tests, library)
     named_errors(tests, library)
     traps(tests, library)
-    lists(tests, library, [(example.parent / it / "stdin").read_text(encoding="utf-8") for it in LISTED])
+    lists(tests, library, [(example.parent.parent / it / "stdin").read_text(encoding="utf-8") for it in LISTED])
     types(tests, library)
     read_back(tests, library)
     copies(tests, library)

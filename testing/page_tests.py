@@ -814,7 +814,7 @@ class Tests(page_long.LongTests):
 
     def kept_pages(self, root):
         """The pages in docs/lessons are those that ./heap_page makes, and their index leads to each of them."""
-        told = subprocess.run([root / "docs/lessons/make", "--check"], capture_output=True, text=True)
+        told = subprocess.run([root / "page/make_lessons", "--check"], capture_output=True, text=True)
         self.check("docs/lessons is as it would be made", (told.returncode, told.stdout, told.stderr), (0, "", ""))
         self.browser.call("Page.navigate", url=(root / "docs/lessons/index.html").as_uri())
         self.settle()
