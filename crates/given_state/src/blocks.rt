@@ -71,7 +71,7 @@ fn release_given(heap: &mut Heap, kind: Kind, given: Given)
     ensures { heap.new ≡ with_released heap.old (block_of_kind kind given) }
 {
     if let Some((base, top)) = bounds_of_kind(kind, given) {
-        heap.give_up(base, top);
+        heap.release(base, top).unwrap();
     }
 }
 

@@ -72,6 +72,7 @@ impl Storage {
             Command::Write { ra, bytes } => self.make(self.write(ra, bytes)),
             Command::Show { rs } => self.make(self.show(rs)),
             Command::Sweep | Command::Begin | Command::End => {
+                self.prepare()?;
                 let decision = self.decide(command, pass)?;
                 self.make(decision)
             }

@@ -187,9 +187,6 @@ fn release_at(heap: &mut Heap, i: usize, length: u32) -> bool
 {
     heap.invariant();
     let base = heap.base() + GRANULE * i as u64;
-    match heap.give_up(base, u128::from(base) + u128::from(length)) {
-        Freed::Held => true,
-        Freed::AlreadyHeld => false,
-        Freed::NotBlock => false,
-    }
+    let top = u128::from(base) + u128::from(length);
+    matches!(heap.release(base, top), Ok(Freed::Held))
 }

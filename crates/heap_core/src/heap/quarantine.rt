@@ -29,8 +29,8 @@ impl Heap {
         Ok(self.give_up(base, top))
     }
 
-    /// `release`, as it never errs.
-    pub fn give_up(&mut self, base: u64, top: u128) -> Freed
+    // `release`, as it never errs.
+    fn give_up(&mut self, base: u64, top: u128) -> Freed
         ensures answer { result ≡ freed_of self.old base top }
         ensures held { result ≡ Freed.Held → self.new ≡ with_waiting self.old base top }
         ensures unchanged { ¬ (result ≡ Freed.Held) → self.new ≡ self.old }
@@ -174,24 +174,8 @@ impl Heap {
         ensures live { IfOk result (λ done. IfSome done.0 (λ block. self.new ≡ with_live (without_waiting self.old) size block.base)) }
         ensures sound { IsSound self.new }
     {
-        let waiting = self.due_bytes();
-        Ok((self.give_back_and_hand_out(size), waiting))
-    }
-
-    /// The same without an answer for want of memory, and without the bytes.
-    pub fn give_back_and_hand_out(&mut self, size: u64) -> Option<Block>
-        requires { self.old.is_open ≡ false }
-        ensures none { (result ≡ None) ↔ ((a : ℕ) → ¬ IsFree (without_waiting self.old) size a) }
-        ensures free { result ≡ None → self.new ≡ without_waiting self.old }
-
-        ensures place { IfSome result (λ block. IsPlace (without_waiting self.old) size block.base) }
-        ensures top { IfSome result (λ block. block.top ≡ block.base + block_length size) }
-        ensures exact { IfSome result (λ block. IsExact block.base block.top) }
-        ensures live { IfSome result (λ block. self.new ≡ with_live (without_waiting self.old) size block.base) }
-        ensures sound { IsSound self.new }
-    {
-        self.give_back();
-        self.hand_out(size)
+        let waiting = self.give_back();
+        Ok((self.hand_out(size), waiting))
     }
 
     /// Makes the blocks that wait free, and then the bytes from `base` on, before `top`, a live block, where they may

@@ -29,18 +29,7 @@ impl Machine {
         gate: &G,
     ) -> Result<Reply, MachineFault>
         requires { IsValid command }
-        ensures step { IfOk result (λ reply. Step self.old.state command reply self.new.state) }
-        ensures err { OnErr result (self.new ≡ self.old) }
-        ensures memory { IfErr result (λ fault. fault ≡ MachineFault.Memory) }
-        ensures ok { NeedsNoMemory self.old.state command → IsOk result }
-        ensures cutting { self.new.cutting ≡ self.old.cutting }
-        ensures safe { IsSafe self.new.state }
-        ensures unused { IfOk result (λ reply. IsUnused self.old.state command reply) }
-        ensures revoked { IfOk result (λ reply. LeavesInUse command reply self.new.state) }
-        // A page is dirty where a tagged word was stored into it since an epoch began, and so stands each tagged word
-        // of memory whose base lies in a painted block.
-        ensures dirty { OnOk result (self.new.dirty ≡ dirty_after self.old.state command self.old.dirty) }
-        ensures dirtied { IsDirtied self.new.state self.new.dirty }
+        ensures { IsStepped self.old command result self.new }
     {
         let cutting = self.cutting;
         self.step_with(
@@ -59,18 +48,7 @@ impl Machine {
         gate: &G,
     ) -> Result<Reply, MachineFault>
         requires { IsValid command }
-        ensures step { IfOk result (λ reply. Step self.old.state command reply self.new.state) }
-        ensures err { OnErr result (self.new ≡ self.old) }
-        ensures memory { IfErr result (λ fault. fault ≡ MachineFault.Memory) }
-        ensures ok { NeedsNoMemory self.old.state command → IsOk result }
-        ensures cutting { self.new.cutting ≡ self.old.cutting }
-        ensures safe { IsSafe self.new.state }
-        ensures unused { IfOk result (λ reply. IsUnused self.old.state command reply) }
-        ensures revoked { IfOk result (λ reply. LeavesInUse command reply self.new.state) }
-        // A page is dirty where a tagged word was stored into it since an epoch began, and so stands each tagged word
-        // of memory whose base lies in a painted block.
-        ensures dirty { OnOk result (self.new.dirty ≡ dirty_after self.old.state command self.old.dirty) }
-        ensures dirtied { IsDirtied self.new.state self.new.dirty }
+        ensures { IsStepped self.old command result self.new }
     {
         let cutting = self.cutting;
         self.step_with(
@@ -90,16 +68,7 @@ impl Machine {
         requires callable { P.IsAlwaysCallable pass.now }
         requires finds { FindsTags (P.post pass.now) }
         requires valid { IsValid command }
-        ensures step { IfOk result (λ reply. Step self.old.state command reply self.new.state) }
-        ensures err { OnErr result (self.new ≡ self.old) }
-        ensures memory { IfErr result (λ fault. fault ≡ MachineFault.Memory) }
-        ensures ok { NeedsNoMemory self.old.state command → IsOk result }
-        ensures cutting { self.new.cutting ≡ self.old.cutting }
-        ensures safe { IsSafe self.new.state }
-        ensures unused { IfOk result (λ reply. IsUnused self.old.state command reply) }
-        ensures revoked { IfOk result (λ reply. LeavesInUse command reply self.new.state) }
-        ensures dirty { OnOk result (self.new.dirty ≡ dirty_after self.old.state command self.old.dirty) }
-        ensures dirtied { IsDirtied self.new.state self.new.dirty }
+        ensures { IsStepped self.old command result self.new }
     {
         // From a sound state each step leads to one.
         any_placement_law();
