@@ -1,7 +1,7 @@
 -- What is answered for a log: a status, and the text that goes with it.
 use Rattle.std.specs.Prelude.{◌≡◌, ◌==◌, ◌<◌, ◌^◌, ℕ, All, length, Bool, false, true, List, [], ◌++◌, Option, None, Some, Ok, Err, take, if◌then◌else◌}
 use Rattle.heap_model.specs.declared.block.Block.{Block as BlockBounds}
-use Rattle.heap_model.specs.declared.block.Claim.TheVariants.{OverHeld, OverLive}
+use Rattle.heap_model.specs.declared.block.Obstacle.TheVariants.{OverHeld, OverLive}
 use Rattle.heap_reply.specs.declared.reply.Reply.TheVariants.{Begun, Swept}
 use Rattle.log_text.specs.declared.fault.LogFault.{LogFault}
 use Rattle.log_text.specs.declared.fault.LogFault.TheVariants.{Trace}

@@ -4,8 +4,8 @@ use Rattle.std.specs.Fmt.{decimal}
 use Rattle.std.specs.List.{concat}
 use Rattle.hex.specs.Hex.{encode_lower}
 use Rattle.heap_model.specs.declared.block.Block.{Block}
-use Rattle.heap_model.specs.declared.block.Claim.{Claim}
-use Rattle.heap_model.specs.declared.block.Claim.TheVariants.{Claimed, Empty, Inexact, Outside, OverHeld, OverLive, Uneven}
+use Rattle.heap_model.specs.declared.block.Obstacle.{Obstacle}
+use Rattle.heap_model.specs.declared.block.Obstacle.TheVariants.{Empty, Inexact, Outside, OverHeld, OverLive, Uneven}
 use Rattle.heap_reply.specs.declared.reply.Reply.TheVariants.{Block as HandsOut, BlockAfter as HandsOutAfter}
 use Rattle.heap_reply.specs.ReplyText.{text_of_reply, block_text}
 use Rattle.heap_reply.specs.Display.{bit_text, hexadecimal_text, join_pieces}
@@ -68,8 +68,7 @@ abbrev pub way_text : Block → Origin → List ℕ
 way_text block from = join_pieces (hexadecimal_text block.base ∷ codes " " ∷ hexadecimal_text block.top ∷ origin_text from ∷ [])
 
 -- Why a block may not lie where it is told to.
-abbrev pub refused_text : Claim → Origin → List ℕ
-refused_text Claimed from = []
+abbrev pub refused_text : Obstacle → Origin → List ℕ
 refused_text Uneven from = codes " is not whole granules"
 refused_text Empty from = codes " is empty"
 refused_text Outside from = codes " lies outside the heap"

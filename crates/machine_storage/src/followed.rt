@@ -1,6 +1,6 @@
 //! What became of an answer that an allocator gave.
 
-use heap_core::Claim;
+use heap_core::Obstacle;
 use heap_reply::Reply;
 
 /// What became of a command that was answered by an allocator.
@@ -26,5 +26,5 @@ pub enum Why {
     /// A sweep was told, and it takes so many tags.
     Takes(u32),
     /// The block may not lie there, for this reason.
-    Refused(Claim),
+    Refused(Obstacle),
 }

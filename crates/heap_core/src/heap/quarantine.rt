@@ -12,7 +12,7 @@ ghost use Rattle.heap_model.specs.Quarantine.{IsShadow, freed_of, with_epoch, wi
 use crate::fault::HeapFault;
 use crate::heap::Heap;
 use granule_rows::set_run;
-use heap_model::{Block, Claim, Freed, Shadow};
+use heap_model::{Block, Freed, Obstacle, Shadow};
 use host_memory::Global;
 use tag_memory::GRANULE;
 
@@ -179,19 +179,16 @@ impl Heap {
     }
 
     /// Makes the blocks that wait free, and then the bytes from `base` on, before `top`, a live block, where they may
-    /// be one then (`Claimed`). Else nothing changes, and the first reason is answered.
-    pub fn give_back_and_claim(&mut self, base: u64, top: u128) -> Claim
+    /// be one then. Else nothing changes, and the first obstacle is answered.
+    pub fn give_back_and_claim(&mut self, base: u64, top: u128) -> Result<(), Obstacle>
         requires { self.old.is_open ≡ false }
         ensures claim { IsClaim self.old (without_waiting self.old) base top result self.new }
         ensures sound { IsSound self.new }
     {
         self.invariant();
-        let (first, granules) = match self.granules_of(base, top) {
-            Ok(place) => place,
-            Err(reason) => return reason,
-        };
+        let (first, granules) = self.granules_of(base, top)?;
         if let Some(block) = self.live_over(first, granules) {
-            return Claim::OverLive(block);
+            return Err(Obstacle::OverLive(block));
         }
         self.drop_due();
         self.claim(base, top)

@@ -3,7 +3,7 @@ use Rattle.heap_model.specs.Blocks.{Span}
 use Rattle.heap_core.specs.Consistent.{either_mark}
 use Rattle.heap_model.specs.Shadow.{bits_of}
 use Rattle.heap_core.specs.Table.{blocks_of, is_unmarked}
-use Rattle.heap_core.proofs.ClaimLaws.{AreGranules-fit, IsClaim-refused, IsClaimable-gap, IsGap-unused, heap_state-claimed}
+use Rattle.heap_core.proofs.ClaimLaws.{AreGranules-fit, IsClaimable-gap, IsGap-unused, heap_state-claimed}
 use Rattle.heap_core.proofs.ExtentLaws.{LiesWithin-table}
 use Rattle.heap_core.proofs.HeapLaws.{granules_of_all, late_blocks-set, live_blocks-put}
 use Rattle.heap_core.proofs.LateLaws.{AreLate-put}
@@ -12,8 +12,10 @@ use Rattle.heap_core.proofs.SoundLaws.{IsSound-from_table}
 use Rattle.heap_core.proofs.SumLaws.{bytes_in-blocks_with}
 use Rattle.heap_core.proofs.heap.Heap.claim.Goals as goal
 
-pub returns-in-Err-clause-claim : goal.returns-in-Err-clause-claim
-returns-in-Err-clause-claim c = IsClaim-refused _ (record { is = c.in-Err.ensures.reason c.args.self.now refl refl })
+pub returns-in_err-place-clause-claim : goal.returns-in_err-place-clause-claim
+returns-in_err-place-clause-claim c =
+    let p = err_from_is_err_and c.from_residual.result c.from_residual.ensures.1 in
+    rw p.1 (rw p.2 (c.in_err-place.ensures.reason c.args.self.now refl refl), refl)
 
 pub in_the_way-requires-clause-taken : goal.in_the_way-requires-clause-taken
 in_the_way-requires-clause-taken c =
@@ -27,7 +29,7 @@ pub returns-then-not-put_at-clause-claim : goal.returns-then-not-put_at-clause-c
 returns-then-not-put_at-clause-claim c =
     let same : c.put_at.new.self ≡ c.self.inside.table = c.put_at.ensures.unchanged c.if-not-put_at.true in
     let reason = rw (same, c.self.view_is) at c.in_the_way.ensures in
-    rw (same, c.self.view_is) (IsClaim-refused _ (record { is = reason }))
+    rw (same, c.self.view_is) (reason, refl)
 
 pub overflow_add-self : goal.overflow_add-self
 overflow_add-self c =

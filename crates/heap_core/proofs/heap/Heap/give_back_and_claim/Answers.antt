@@ -1,7 +1,7 @@
 use Rattle.std.proofs.Common.{◌≡◌, ◌∙◌, refl}
 use Rattle.heap_model.specs.Laws.{without_due-closed}
 use Rattle.heap_model.specs.Quarantine.{without_waiting}
-use Rattle.heap_core.proofs.ClaimLaws.{IsClaim-again, IsClaim-refused, IsClaimable-dropped}
+use Rattle.heap_core.proofs.ClaimLaws.{IsClaim-again, IsClaimable-dropped}
 use Rattle.heap_core.proofs.heap.Heap.give_back_and_claim.Goals as goal
 
 pub returns-in-Err-clause-claim : goal.returns-in-Err-clause-claim
