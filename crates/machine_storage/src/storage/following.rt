@@ -67,7 +67,6 @@ impl Storage {
     {
         any_placement_law();
         safe_reuse_law();
-        self.prepare()?;
         let decision = self.decide(command, pass)?;
         if differs(answer, decision.reply) {
             return Ok(Followed::Differs(Why::MustBe(decision.reply)));
@@ -164,7 +163,6 @@ impl Storage {
         if top < least_top(base, size) {
             return Ok(Followed::Differs(Why::TooShort));
         }
-        self.prepare()?;
         let revoked = self.revoked_tags(pass)?;
         let count = revoked.count();
         if count != cleared {
@@ -201,7 +199,6 @@ impl Storage {
         if !self.may_sweep() {
             return Ok(Followed::Differs(Why::MayNotSweep));
         }
-        self.prepare()?;
         let revoked = self.revoked_tags(pass)?;
         let taken = revoked.count();
         if taken != cleared {

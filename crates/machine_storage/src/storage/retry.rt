@@ -34,9 +34,10 @@ impl Storage {
         ensures err { OnErr result (self.new ≡ self.old) }
         ensures memory { IfErr result (λ fault. fault ≡ MachineFault.Memory) }
     {
-        self.prepare()?;
         let revoked = self.revoked_tags(pass)?;
-        let (found, _) = self.heap.give_back_and_reserve(size).unwrap();
+        let Ok((found, _)) = self.heap.give_back_and_reserve(size) else {
+            return Err(MachineFault::Memory);
+        };
         let cleared = revoked.count();
         revoked.apply(&mut self.memory, &mut self.registers);
         let Some(block) = found else {
