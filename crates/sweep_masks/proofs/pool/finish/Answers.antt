@@ -1,7 +1,4 @@
-use Rattle.std.proofs.Common.{◌≡◌, ◌∙◌, ◌*◌, length, rules, sym, subst, arith}
-use Rattle.std.specs.Prelude.{IfOk}
-use Rattle.sweep_masks.specs.Claims.{AreAllSwept}
-use Rattle.sweep_masks.specs.Gather.{AreGathered, IsFaultOf}
+use Rattle.std.proofs.Common.{◌≡◌, ◌∙◌, sym, arith}
 use Rattle.sweep_masks.specs.Tasks.{IsTaskCount, page_count}
 use Rattle.sweep_masks.proofs.CountLaws.{all_once}
 use Rattle.sweep_masks.proofs.WholeLaws.{gathered_masks, only_memory}
@@ -13,7 +10,17 @@ gather-requires c =
     rw (c.bits-tasks.ensures, pages) c.requires.tasks
 
 pub unreachable-requires : goal.unreachable-requires
-unreachable-requires c = ?
+unreachable-requires c =
+    let m = c.args.memory.now in
+    let pages : page_count m ≡ c.pages.result = (let e = c.pages.ensures in omega arith) in
+    let tasks : IsTaskCount c.args.cutting.now (page_count m) c.bits-tasks.result = rw c.bits-tasks.ensures c.requires.tasks in
+    let all = all_once m c.args.shadow.now c.args.cutting.now c.args.board.bits c.args.done.seat c.args.done.list.items c.requires.tasks (sym c.in-Ok.ensures.mine ∙ c.in-Ok.ensures.seen) c.requires.done in
+    c.in_default-fault.not-Memory (only_memory c.in-Err.fault all tasks (rw pages c.in-Err.ensures.err))
 
-pub returns-in-Ok-clause-ok : goal.returns-in-Ok-clause-ok
-returns-in-Ok-clause-ok c = ?
+pub returns-in-Ok-gather-clause-ok : goal.returns-in-Ok-gather-clause-ok
+returns-in-Ok-gather-clause-ok c =
+    let m = c.args.memory.now in
+    let pages : page_count m ≡ c.pages.result = (let e = c.pages.ensures in omega arith) in
+    let tasks : IsTaskCount c.args.cutting.now (page_count m) c.bits-tasks.result = rw c.bits-tasks.ensures c.requires.tasks in
+    let all = all_once m c.args.shadow.now c.args.cutting.now c.args.board.bits c.args.done.seat c.args.done.list.items c.requires.tasks (sym c.in-Ok.ensures.mine ∙ c.in-Ok.ensures.seen) c.requires.done in
+    gathered_masks c.in-Ok-gather.masks.items all (omega (arith, c.pages.ensures)) tasks (rw pages c.in-Ok-gather.ensures.ok)
