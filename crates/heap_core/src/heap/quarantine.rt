@@ -1,6 +1,6 @@
 //! Blocks that are given up, and wait until their bytes may be used again.
 
-ghost use Rattle.std.specs.Prelude.{◌≡◌, ◌<◌, ◌≤◌, ◌↔◌, ◌+◌, ◌*◌, ◌^◌, ℕ, IfErr, IfOk, IfSome, IsOk, None, false, length, slice_set, true};
+ghost use Rattle.std.specs.Prelude.{◌≡◌, ◌<◌, ◌≤◌, ◌↔◌, ◌+◌, ◌-◌, ◌*◌, ◌/◌, ◌^◌, ℕ, IfErr, IfOk, IfSome, IsOk, None, false, length, slice_set, true};
 ghost use Rattle.cap_codec.specs.Rounding.{IsExact};
 ghost use Rattle.heap_model.specs.Blocks.{bytes_in, lies_in};
 ghost use Rattle.heap_model.specs.Claim.{IsClaim};
@@ -84,6 +84,13 @@ impl Heap {
             return false;
         }
         self.table.is_in_due_block(granule)
+    }
+
+    /// Whether a granule, counted from the heap's base, lies in a block that is due now. None past the last does.
+    pub fn is_granule_due(&self, granule: usize) -> bool
+        ensures { (address : ℕ) → self.now.base ≤ address → (address - self.now.base) / 16 ≡ granule → result ≡ lies_in (due self.now) address }
+    {
+        granule < self.table.granules() && self.table.is_in_due_block(granule)
     }
 
     /// The bytes of the blocks that are due now.

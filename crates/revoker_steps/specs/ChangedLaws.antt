@@ -1,5 +1,5 @@
--- A list in which the elements at some indices are changed, and how many there pass a test.
-use Rattle.std.proofs.Common.{◌≡◌, ◌+◌, ◌<◌, ◌||◌, ◌&&◌, ℕ, zero, suc, Bool, true, false, cond, All, List, [], ◌∷◌, length, get_or, map, refl, sym, ap, arith}
+-- What holds of a list in which the elements at some indices are changed, and of how many there pass a test.
+use Rattle.std.proofs.Common.{◌≡◌, ◌≢◌, ◌+◌, ◌<◌, ◌≤◌, ◌||◌, ◌&&◌, ℕ, zero, suc, Bool, true, false, cond, All, List, [], ◌∷◌, length, drop, get_or, map, set, take, refl, sym, ap, arith}
 use Rattle.std.specs.Prelude.{count_by}
 use Rattle.std.proofs.lemmas.List.Elements.{All-cons, All-head, All-nil, All-tail}
 use Rattle.std.proofs.lemmas.List.Sums.{sum_by-cons}
@@ -69,6 +69,32 @@ changed-same f test other (x ∷ xs) same =
     let rest = changed-same f (λ k. test (suc k)) (λ k. other (suc k)) xs (λ i lt. same (suc i) (omega (arith, lt))) in
     λ j. here j ∷ rest j
 
+-- Where one index passes, its element alone is changed.
+pub changed-one : {X : Type 0} (f : X → X) (d : X) (test : ℕ → Bool) (i : ℕ) (xs : List X) → i < length xs → test i ≡ true → ((k : ℕ) → k ≢ i → test k ≡ false)
+    → changed_where test f xs ≡ set xs i (f (get_or xs i d))
+changed-one f d test i [] lt is other = absurd (omega (arith, lt))
+changed-one f d test zero (x ∷ xs) lt is other =
+    let here : cond (test 0) (f x) x ≡ f x = ap (λ b. cond b (f x) x) is in
+    let rest = changed-within f (λ k. test (suc k)) xs (λ k _. other (suc k) (λ same. absurd (omega (arith, same)))) in
+    λ j. here j ∷ rest j
+changed-one f d test (suc i) (x ∷ xs) lt is other =
+    let here : cond (test 0) (f x) x ≡ x = ap (λ b. cond b (f x) x) (other 0 (λ same. absurd (omega (arith, same)))) in
+    let rest = changed-one f d (λ k. test (suc k)) i xs (omega (arith, lt)) is (λ k apart. other (suc k) (λ same. apart (omega (arith, same)))) in
+    λ j. here j ∷ rest j
+
+-- Nothing is, where f leaves that as it is.
+pub changed-still : {X : Type 0} (f : X → X) (d : X) (test : ℕ → Bool) (i : ℕ) (xs : List X) → f (get_or xs i d) ≡ get_or xs i d → ((k : ℕ) → k ≢ i → test k ≡ false)
+    → changed_where test f xs ≡ xs
+changed-still f d test i [] same other = refl
+changed-still f d test zero (x ∷ xs) same other =
+    let here : cond (test 0) (f x) x ≡ x = either (λ y. y ≡ x) (test 0) (f x) x same refl in
+    let rest = changed-within f (λ k. test (suc k)) xs (λ k _. other (suc k) (λ e. absurd (omega (arith, e)))) in
+    λ j. here j ∷ rest j
+changed-still f d test (suc i) (x ∷ xs) same other =
+    let here : cond (test 0) (f x) x ≡ x = ap (λ b. cond b (f x) x) (other 0 (λ e. absurd (omega (arith, e)))) in
+    let rest = changed-still f d (λ k. test (suc k)) i xs same (λ k apart. other (suc k) (λ e. apart (omega (arith, e)))) in
+    λ j. here j ∷ rest j
+
 -- ---- counts
 
 abbrev weight : Bool → ℕ
@@ -109,3 +135,35 @@ count-changed f p gone test other (x ∷ xs) =
       at true false = omega arith
       at false true = omega arith
       at false false = refl
+
+-- Of one index that passes, its element alone is counted.
+pub count-one : {X : Type 0} (p : X → Bool) (d : X) (test : ℕ → Bool) (i : ℕ) (xs : List X) → i < length xs → test i ≡ true → ((k : ℕ) → k ≢ i → test k ≡ false)
+    → count_where test p xs ≡ cond (p (get_or xs i d)) 1 0
+count-one p d test i [] lt is other = absurd (omega (arith, lt))
+count-one p d test zero (x ∷ xs) lt is other =
+    let here : weight (test 0 && p x) ≡ weight (p x) = ap (λ b. weight (b && p x)) is in
+    let rest = count-within p (λ k. test (suc k)) xs (λ k _. other (suc k) (λ same. absurd (omega (arith, same)))) in
+    omega (arith, here, rest)
+count-one p d test (suc i) (x ∷ xs) lt is other =
+    let here : weight (test 0 && p x) ≡ 0 = ap (λ b. weight (b && p x)) (other 0 (λ same. absurd (omega (arith, same)))) in
+    let rest = count-one p d (λ k. test (suc k)) i xs (omega (arith, lt)) is (λ k apart. other (suc k) (λ same. apart (omega (arith, same)))) in
+    omega (arith, here, rest)
+
+-- Where the indices that pass are those of a part of the list, the elements of that part are counted.
+pub count-part : {X : Type 0} (p : X → Bool) (test : ℕ → Bool) (from n : ℕ) (xs : List X)
+    → ((i : ℕ) → i < from → test i ≡ false) → ((i : ℕ) → from ≤ i → i < from + n → test i ≡ true) → ((i : ℕ) → from + n ≤ i → test i ≡ false)
+    → count_where test p xs ≡ count_by p (take n (drop from xs))
+count-part p test zero zero xs before here past = count-within p test xs (λ i _. past i (omega arith))
+count-part p test zero (suc n) [] before here past = refl
+count-part p test zero (suc n) (x ∷ xs) before here past =
+    let first : weight (test 0 && p x) ≡ weight (p x) = ap (λ b. weight (b && p x)) (here 0 (omega arith) (omega arith)) in
+    let rest : count_where (λ k. test (suc k)) p xs ≡ count_by p (take n xs) =
+    count-part p (λ k. test (suc k)) zero n xs (λ i below. absurd (omega (arith, below))) (λ i from below. here (suc i) (omega arith) (omega (arith, below))) (λ i end. past (suc i) (omega (arith, end))) in
+    omega (arith, first, rest, sum_by-cons (λ y. cond (p y) 1 0) x (take n xs))
+count-part p test (suc from) zero [] before here past = refl
+count-part p test (suc from) (suc n) [] before here past = refl
+count-part p test (suc from) n (x ∷ xs) before here past =
+    let first : weight (test 0 && p x) ≡ 0 = ap (λ b. weight (b && p x)) (before 0 (omega arith)) in
+    let rest : count_where (λ k. test (suc k)) p xs ≡ count_by p (take n (drop from xs)) =
+    count-part p (λ k. test (suc k)) from n xs (λ i below. before (suc i) (omega (arith, below))) (λ i start below. here (suc i) (omega (arith, start)) (omega (arith, below))) (λ i end. past (suc i) (omega (arith, end))) in
+    omega (arith, first, rest)
