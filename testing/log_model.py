@@ -129,6 +129,8 @@ def wrong_with_one(name, due, right, answer):
     kind is told of, they may be told or not."""
     reason = but_said(f"the answer must be {right}", answer)
     right_tags, tags = told_tags(right), told_tags(answer)
+    if right == "trap left":
+        return [(reason, due)]
     if name not in PASSES or not right_tags:
         return [(reason, None)]
     if not tags or tags[1] != right_tags[1]:
@@ -159,7 +161,7 @@ def follow(state, event):
         if not wrong:
             do_malloc(state, event.operands[0], event.answer)
         return wrong
-    due = state.due_in(event.name) if event.name in PASSES else []
+    due = state.due(state.painted) if event.name == "release" else state.due_in(event.name) if event.name in PASSES else []
     right, answer = state.does(event.line, event.name, event.operands), " ".join(event.answer)
     return [] if right == answer else wrong_with_one(event.name, due, right, answer)
 
