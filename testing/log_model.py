@@ -13,7 +13,7 @@ from typing import NamedTuple
 sys.dont_write_bytecode = True
 
 from log_state import NULL, State, is_exact, overlapping, word_of_data
-from log_words import Fault, read_log, read_trace, with_answers
+from log_words import REVOKER, Fault, read_log, read_trace, with_answers
 
 AGREES, FAULTY, WRONG = 0, 3, 5
 # So many of the words that are due are told.
@@ -244,11 +244,13 @@ def told_due(state, due):
 
 def tally(log):
     """What the answers of a log that agrees come to."""
-    answers = [" ".join(it.answer) for it in log.events if it.name != "granule"]
-    blocks = sum(it.startswith("block ") for it in answers)
-    passes = [it for it in answers if re.search("swept|cleared [0-9]", it)]
-    tags = sum(int(re.search("(swept|cleared) ([0-9]+)", it)[2]) for it in passes)
-    told = [counted(len(answers), "command"), counted(blocks, "block") + " handed out", counted(len(passes), "pass", "passes"), counted(tags, "tag") + " taken"]
+    answers = [(it.name, " ".join(it.answer)) for it in log.events if it.name != "granule"]
+    blocks = sum(answer.startswith("block ") for _, answer in answers)
+    took = [(name, int(found[2])) for name, answer in answers if (found := re.search("(swept|cleared) ([0-9]+)", answer))]
+    # A pass in a revoker's own steps is that of its epoch.
+    passes = sum(name not in REVOKER for name, _ in took) + answers.count(("paint", "ok"))
+    tags = sum(count for _, count in took)
+    told = [counted(len(answers), "command"), counted(blocks, "block") + " handed out", counted(passes, "pass", "passes"), counted(tags, "tag") + " taken"]
     return f"agrees {', '.join(told)}\n"
 
 
