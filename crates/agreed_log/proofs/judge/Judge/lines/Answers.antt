@@ -1,6 +1,7 @@
 use Rattle.std.proofs.Common.{arith}
 use Rattle.trace_text.specs.Lines.{lines_of}
-use Rattle.agreed_log.proofs.AgreedLaws.{AreFew-more, HaveAgreed-more}
+use Rattle.agreed_log.proofs.AgreedLaws.{HaveAgreed-more}
+use Rattle.heap_log.specs.CountingLaws.{AreFew-more}
 use Rattle.agreed_log.proofs.judge.Judge.lines.Goals as goal
 
 pub loop-line-preserved : goal.loop-line-preserved
