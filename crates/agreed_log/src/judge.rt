@@ -99,7 +99,7 @@ impl Judge {
         ensures safe { IsSafe self.new.machine.state }
     {
         match asked {
-            Asked::Granule(_) | Asked::Command(Command::Malloc { .. }) => {
+            Asked::Granule(_) | Asked::Revoker(_) | Asked::Command(Command::Malloc { .. }) => {
                 self.read(stepper, alloc, asked, told)
             }
             Asked::Command(command) => self.compare(stepper, alloc, command, told),

@@ -2,9 +2,17 @@
 use Rattle.std.specs.Prelude.{ℕ, ◌≤◌, ◌+◌, ◌*◌, ◌<◌, ◌^◌}
 use Rattle.heap_reply.specs.declared.reply.Reply.{Reply}
 use Rattle.log_text.specs.declared.log.Event.{Event}
-use Rattle.log_text.specs.declared.log.Event.TheVariants.{Done, Seen}
 use Rattle.heap_log.specs.declared.verdict.Tally.{Tally}
-use Rattle.heap_log.specs.Judged.{blocks_of_reply, passes_of_reply, tags_of_reply}
+use Rattle.heap_log.specs.Judged.{blocks_of_reply, passes_of_reply, tags_of_reply, tally_of_event}
+
+-- With what one more event tells.
+abbrev pub tally_plus : Tally → Tally → Tally
+tally_plus tally one = record {
+  tags = tally.tags + one.tags;
+  commands = tally.commands + one.commands;
+  blocks = tally.blocks + one.blocks;
+  passes = tally.passes + one.passes;
+}
 
 -- With one more answer.
 abbrev pub tally_with : Tally → Reply → Tally
@@ -17,8 +25,7 @@ tally_with tally answer = record {
 
 -- With one more event.
 abbrev pub tally_with_event : Tally → Event → Tally
-tally_with_event tally (Done command answer) = tally_with tally answer
-tally_with_event tally (Seen address tag bytes) = tally
+tally_with_event tally event = tally_plus tally (tally_of_event event)
 
 -- One more can be counted.
 pub record HasRoom (tally : Tally) : Type 0 where

@@ -2,12 +2,10 @@
 use Rattle.std.proofs.Common.{◌≡◌, ℕ, ◌+◌, ◌<◌, ◌^◌, List, [], ◌∷◌, ◌++◌, get_or, length, take, sym, ap, ◌∙◌, arith}
 use Rattle.std.proofs.lemmas.List.{take_more}
 use Rattle.std.proofs.lemmas.List.Sums.{sum_by_push}
-use Rattle.heap_reply.specs.declared.reply.Reply.{Reply}
 use Rattle.log_text.specs.declared.log.Event.{Event}
-use Rattle.log_text.specs.declared.log.Event.TheVariants.{Done, Seen}
 use Rattle.heap_log.specs.declared.verdict.Tally.{Tally}
 use Rattle.heap_log.specs.Counting.{AreFew, Grows, HasRoom, tally_with_event}
-use Rattle.heap_log.specs.Judged.{blocks_of_reply, of_event, one_of_reply, passes_of_reply, sum_over, tags_of_reply, tally_of}
+use Rattle.heap_log.specs.Judged.{sum_over, tally_of, tally_of_event}
 
 abbrev with_fields : ℕ → ℕ → ℕ → ℕ → Tally
 with_fields tags commands blocks passes = record { tags = tags; commands = commands; blocks = blocks; passes = passes }
@@ -17,20 +15,14 @@ same_tally a b tags commands blocks passes =
     ap (λ n. with_fields n a.commands a.blocks a.passes) tags ∙ ap (λ n. with_fields b.tags n a.blocks a.passes) commands
     ∙ ap (λ n. with_fields b.tags b.commands n a.passes) blocks ∙ ap (λ n. with_fields b.tags b.commands b.blocks n) passes
 
-told_push : (told : Reply → ℕ) (events : List (ℕ × Event)) (number : ℕ) (event : Event) → sum_over told (events ++ (number, event) ∷ []) ≡ sum_over told events + of_event told event
-told_push told events number event = sum_by_push (λ (one : ℕ × Event). of_event told one.1) events (number, event)
+told_push : (told : Tally → ℕ) (events : List (ℕ × Event)) (number : ℕ) (event : Event) → sum_over told (events ++ (number, event) ∷ []) ≡ sum_over told events + told (tally_of_event event)
+told_push told events number event = sum_by_push (λ (one : ℕ × Event). told (tally_of_event one.1)) events (number, event)
 
 pub tally_push : (events : List (ℕ × Event)) (number : ℕ) (event : Event) → tally_with_event (tally_of events) event ≡ tally_of (events ++ (number, event) ∷ [])
-tally_push events number (Done command answer) =
-    let event = Done command answer in
+tally_push events number event =
     same_tally (tally_with_event (tally_of events) event) (tally_of (events ++ (number, event) ∷ []))
-    (sym (told_push tags_of_reply events number event)) (sym (told_push one_of_reply events number event))
-    (sym (told_push blocks_of_reply events number event)) (sym (told_push passes_of_reply events number event))
-tally_push events number (Seen address tag bytes) =
-    let event = Seen address tag bytes in
-    same_tally (tally_of events) (tally_of (events ++ (number, event) ∷ []))
-    (omega (arith, told_push tags_of_reply events number event)) (omega (arith, told_push one_of_reply events number event))
-    (omega (arith, told_push blocks_of_reply events number event)) (omega (arith, told_push passes_of_reply events number event))
+    (sym (told_push (λ (it : Tally). it.tags) events number event)) (sym (told_push (λ (it : Tally). it.commands) events number event))
+    (sym (told_push (λ (it : Tally). it.blocks) events number event)) (sym (told_push (λ (it : Tally). it.passes) events number event))
 
 -- Of the first events of a list, with one more.
 pub tally_of-more : (events : List (ℕ × Event)) (i : ℕ) (none : ℕ × Event) (before after : Tally) → i < length events → before ≡ tally_of (take i events)

@@ -2,11 +2,13 @@
 
 ghost use Rattle.std.specs.Prelude.{◌≡◌, ◌<◌, ◌≤◌, ◌^◌, length};
 ghost use Rattle.heap_log.specs.Counting.{Grows, HasRoom, tally_with, tally_with_event};
-ghost use Rattle.heap_log.specs.Judged.{blocks_of_reply, passes_of_reply, tags_of_reply, tally_of};
+ghost use Rattle.revoker_steps.specs.Events.{cleared_by};
+ghost use Rattle.heap_log.specs.Judged.{blocks_of_reply, passes_of_reply, passes_of_step, tags_of_reply, tally_of};
 
 use crate::verdict::Tally;
 use heap_reply::Reply;
 use log_text::Event;
+use revoker_steps::{RevokerCommand, RevokerReply};
 
 #[inline(always)]
 fn blocks_in(answer: &Reply) -> u32
@@ -60,14 +62,41 @@ pub fn count(tally: &mut Tally, answer: &Reply)
     tally.passes += passes_in(answer);
 }
 
+// The tags that a revoker's step took.
+fn tags_of_step(answer: RevokerReply) -> u32
+    ensures { result ≡ cleared_by answer }
+{
+    match answer {
+        RevokerReply::Cleared { cleared } => cleared,
+        RevokerReply::Done | RevokerReply::Released { .. } | RevokerReply::Trap(_) => 0,
+    }
+}
+
+// The pass that it begins: that of an epoch.
+fn passes_of_step(command: RevokerCommand, answer: RevokerReply) -> u32
+    ensures value { result ≡ passes_of_step command answer }
+    ensures few { result ≤ 1 }
+{
+    match (command, answer) {
+        (RevokerCommand::Paint, RevokerReply::Done) => 1,
+        _ => 0,
+    }
+}
+
 /// Counts an event: a granule that was read adds nothing.
 pub fn count_event(tally: &mut Tally, event: &Event)
     requires room { HasRoom tally.old }
     ensures value { tally.new ≡ tally_with_event tally.old event.now }
     ensures few { Grows tally.old tally.new }
 {
-    if let Event::Done { answer, .. } = event {
-        count(tally, answer);
+    match *event {
+        Event::Done { ref answer, .. } => count(tally, answer),
+        Event::Revoked { command, answer } => {
+            tally.tags += u64::from(tags_of_step(answer));
+            tally.commands += 1;
+            tally.passes += passes_of_step(command, answer);
+        }
+        Event::Seen { .. } => {}
     }
 }
 

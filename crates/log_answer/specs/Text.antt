@@ -11,8 +11,9 @@ use Rattle.heap_reply.specs.ReplyText.{text_of_reply, block_text}
 use Rattle.heap_reply.specs.Display.{bit_text, hexadecimal_text, join_pieces}
 use Rattle.log_text.specs.declared.fault.LogFault.{LogFault}
 use Rattle.log_text.specs.declared.log.Event.{Event}
-use Rattle.log_text.specs.declared.log.Event.TheVariants.{Done, Seen}
+use Rattle.log_text.specs.declared.log.Event.TheVariants.{Done, Revoked, Seen}
 use Rattle.log_text.specs.Fault.{log_fault_text}
+use Rattle.revoker_steps.specs.RevokerText.{text_of_revoker_reply}
 use Rattle.given_state.specs.declared.fault.Lack.{Lack}
 use Rattle.given_state.specs.declared.fault.Lack.TheVariants as lack
 use Rattle.machine_storage.specs.declared.followed.Why.{Why}
@@ -20,7 +21,7 @@ use Rattle.machine_storage.specs.declared.followed.Why.TheVariants as why
 use Rattle.heap_log.specs.declared.due.DueWord.{DueWord}
 use Rattle.heap_log.specs.declared.due.DueWord.TheVariants as word
 use Rattle.heap_log.specs.declared.verdict.Difference.{Difference}
-use Rattle.heap_log.specs.declared.verdict.Difference.TheVariants.{Answer, Granule, NoGranule}
+use Rattle.heap_log.specs.declared.verdict.Difference.TheVariants.{Answer, Granule, NoGranule, Step}
 use Rattle.heap_log.specs.declared.verdict.Tally.{Tally}
 use Rattle.log_answer.specs.declared.lines.Noun.{Noun}
 use Rattle.log_answer.specs.declared.lines.Noun.TheVariants as noun
@@ -89,6 +90,7 @@ content_text tag bytes = join_pieces (bit_text tag ∷ codes " " ∷ encode_lowe
 -- What the log says: an answer, or what was seen.
 abbrev pub said_text : Event → List ℕ
 said_text (Done command answer) = text_of_reply answer
+said_text (Revoked command answer) = text_of_revoker_reply answer
 said_text (Seen address tag bytes) = content_text tag bytes
 
 -- It stands behind what must be.
@@ -108,6 +110,7 @@ why_text event is_open from (why.Refused reason) = said_block_text event ++ refu
 -- How a log differs.
 abbrev pub difference_text : Event → Bool → Origin → Difference → List ℕ
 difference_text event is_open from (Answer reason) = why_text event is_open from reason
+difference_text event is_open from (Step reply) = join_pieces (codes "the answer must be " ∷ text_of_revoker_reply reply ∷ and_said event)
 difference_text event is_open from NoGranule = codes "no granule of the heap lies at this address"
 difference_text event is_open from (Granule tag bytes) = join_pieces (codes "the granule holds " ∷ content_text tag bytes ∷ and_said event)
 

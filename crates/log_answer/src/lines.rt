@@ -225,6 +225,7 @@ impl fmt::Display for Said {
                 let answer = ReplyText(answer);
                 write!(f, "{answer}")
             }
+            Event::Revoked { answer, .. } => write!(f, "{answer}"),
             Event::Seen { tag, bytes, .. } => {
                 let content = Content { tag, bytes };
                 write!(f, "{content}")
@@ -299,6 +300,10 @@ impl fmt::Display for Differing {
                     why,
                 };
                 write!(f, "{why}")
+            }
+            Difference::Step(reply) => {
+                let said = Said(self.event);
+                write!(f, "the answer must be {reply}, and the log says {said}")
             }
             Difference::NoGranule => write!(f, "no granule of the heap lies at this address"),
             Difference::Granule { tag, bytes } => {

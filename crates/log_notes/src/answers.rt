@@ -19,6 +19,9 @@ const ANSWERS: [&str; 7] = [
     "trap tag",
 ];
 
+// The same of answers to a revoker's commands.
+const REVOKED: [&str; 4] = ["ok", "cleared 0", "released 0", "trap left"];
+
 // What is seen of a granule.
 const SEEN: [&str; 1] = ["0 00000000000000000000000000000000"];
 
@@ -72,6 +75,7 @@ fn begin_answer(
 ) -> Result<bool, AllocError> {
     let forms: &[&str] = match asked {
         Asked::Command(_) => &ANSWERS,
+        Asked::Revoker(_) => &REVOKED,
         Asked::Granule(_) => &SEEN,
     };
     for form in forms {

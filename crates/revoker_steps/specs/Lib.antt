@@ -5,5 +5,6 @@ pub mod Events
 pub mod LeftLaws
 pub mod Revoker
 pub mod RevokerDirty
+pub mod RevokerText
 pub mod Tracked
 pub mod Valid
