@@ -3,4 +3,5 @@ pub mod Followed
 pub mod KeptSizes
 pub mod Passes
 pub mod Revoked
+pub mod RevokerDecision
 pub mod Storage

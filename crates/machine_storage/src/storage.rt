@@ -18,6 +18,7 @@ mod following;
 mod passes;
 mod retry;
 mod revocation;
+mod revoker;
 
 use crate::fault::MachineFault;
 use crate::storage::decision::{Change, Decision};
