@@ -1,12 +1,8 @@
 //! Who makes the passes of a run: threads, or the calling thread alone.
 
-ghost use Rattle.std.specs.Prelude.{◌≡◌, ◌≢◌, IfErr, IfOk, IsOk, OnErr, OnOk};
 ghost use denote.Param.Send.{IsSync};
 ghost use Rattle.trace_text.specs.Command.{IsValid};
-ghost use Rattle.machine_steps.specs.Dirty.{IsDirtied, dirty_after};
-ghost use Rattle.machine_steps.specs.Safety.{IsSafe, IsUnused, LeavesInUse};
-ghost use Rattle.machine_steps.specs.Step.{Step, NeedsNoMemory};
-ghost use Rattle.machine_storage.specs.Followed.{FollowsFreely, IsFollowed};
+ghost use Rattle.heap_machine.specs.Stepping.{IsFollowing, IsStepped};
 
 use crate::machine::Machine;
 use heap_reply::Reply;

@@ -1,12 +1,10 @@
 //! Commands as they were answered: by threads, or by the calling thread alone.
 
-ghost use Rattle.std.specs.Prelude.{◌≡◌, ◌≢◌, IfErr, IfOk, IfSome, IsOk};
+ghost use Rattle.std.specs.Prelude.{IfSome};
 ghost use Rattle.trace_text.specs.Command.{IsValid};
-ghost use Rattle.machine_steps.specs.Dirty.{IsDirtied, dirty_after};
-ghost use Rattle.machine_storage.specs.Followed.{FollowsFreely, IsFollowed};
 ghost use Rattle.machine_storage.specs.Storage.{IsStorage};
 ghost use Rattle.machine_storage.specs.Passes.{FindsTags, IsFound};
-ghost use Rattle.machine_steps.specs.Safety.{IsSafe, IsUnused, LeavesInUse};
+ghost use Rattle.heap_machine.specs.Stepping.{IsFollowing};
 
 use crate::machine::Machine;
 use crate::passes::{found_alone, found_by_workers};
