@@ -11,6 +11,7 @@ ghost use Rattle.machine_steps.specs.State.{first_state};
 
 mod following;
 mod making;
+mod revoking;
 mod stepping;
 
 pub use crate::machine::making::{Flaw, is_guarded};

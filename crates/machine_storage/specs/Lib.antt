@@ -4,4 +4,5 @@ pub mod KeptSizes
 pub mod Passes
 pub mod Revoked
 pub mod RevokerDecision
+pub mod RevokerKept
 pub mod Storage
