@@ -1,12 +1,12 @@
 -- The tags of one page, taken.
-use Rattle.std.proofs.Common.{◌≡◌, ◌≢◌, ◌↔◌, ℕ, ◌*◌, ◌/◌, ◌%◌, ◌^◌, ◌==◌, ◌&&◌, ◌<◌, ◌≤◌, Bool, true, false, not, inl, inr, List, length, get_or, set, sym, refl, ap, ◌∙◌, arith, bit_and, w64, Fits, get_or-set_same, get_or-set_other}
+use Rattle.std.proofs.Common.{◌≡◌, ◌≢◌, ◌↔◌, ℕ, ◌/◌, ◌%◌, ◌^◌, ◌==◌, ◌&&◌, ◌<◌, ◌≤◌, Bool, true, false, not, inl, inr, List, length, get_or, set, sym, refl, ap, ◌∙◌, arith, bit_and, w64, Fits, get_or-set_same, get_or-set_other}
 use native.Mathlib.Decide.{ℕ_discrete}
 use mathlib.Core.Logic.{dite}
 use Rattle.std.specs.Int.{bit_not}
 use Rattle.std.proofs.lemmas.Bool.{cases_lt, eq-eqb, ne_eqb}
 use Rattle.std.proofs.lemmas.List.{get_or_past}
 use Rattle.std.proofs.lemmas.Nat.{and_le_r, mod_below}
-use Rattle.tag_memory.specs.Cells.{Granule, MemoryState, may_hold_at}
+use Rattle.tag_memory.specs.Cells.{MemoryState, may_hold_at}
 use Rattle.tag_memory.specs.Laws.{is_set-cleared}
 use Rattle.tag_memory.specs.Tags.{AreBlank, HasTag, HasWord, IsBlank, granules_of, is_set, is_set_for, without_page_tag}
 use Rattle.tag_memory.specs.declared.memory.Memory.TheInside.{Inside}

@@ -84,6 +84,27 @@ fn a_page_is_dirty_once_a_tagged_word_was_written(rt: HostRuntime) {
 }
 
 #[test]
+fn a_page_loses_tags_and_is_clean(rt: HostRuntime) {
+    let mut memory = Memory::new(rt.alloc(), 0x4000_0000, 2).expect(&rt, "there is memory");
+    for i in [3, 70, 300] {
+        memory.put(i, 7, true);
+    }
+    memory.clear_page_tags(0, &[1 << 3, 0, 0, 0]);
+    assert_eq!(rt; (memory.cell(3), memory.cell(70)), ((7, false), (7, true)));
+    assert!(rt; memory.may_hold_tags(0));
+    memory.clear_page_tags(0, &[0, 1 << 6, 0, 0]);
+    assert_eq!(rt;
+        (memory.cell(70), memory.cell(300)),
+        ((7, false), (7, true))
+    );
+    assert!(rt; !memory.may_hold_tags(0) && memory.may_hold_tags(1));
+    memory.mark_page_clean(0);
+    assert!(rt; !memory.dirty(0) && memory.dirty(1));
+    memory.mark_dirty();
+    assert!(rt; memory.dirty(0) && memory.dirty(1));
+}
+
+#[test]
 fn bases_are_told_by_their_granules(rt: HostRuntime) {
     assert_eq!(rt; FAR, 0xffff_ffff);
     // Where a memory of one page starts, the base of a word in it, whose address lies elsewhere, and the granule of that base:
