@@ -1,7 +1,7 @@
 //! A heap of 1,024 pages in blocks of 16 bytes, of which one or every second one is given back.
 
 use crate::fastest::{Fastest, ROUNDS};
-use crate::whole::{BASE, BLOCKS, full_heap, release_block};
+use crate::heap::whole::{BASE, BLOCKS, full_heap, release_block};
 use heap_core::{Heap, HeapFault};
 use std::alloc::Global;
 use std::io;

@@ -1,7 +1,7 @@
 use Rattle.std.proofs.Common.{length, ap, ◌∙◌}
 use Rattle.std.proofs.lemmas.List.{length-set}
 use Rattle.tag_memory.specs.Cells.{MemoryState}
-use Rattle.speed_sweep.proofs.full_memory.Goals as goal
+use Rattle.speed.proofs.sweep.full_memory.Goals as goal
 
 pub loop-granule-preserved : goal.loop-granule-preserved
 loop-granule-preserved c =

@@ -2,6 +2,7 @@
 
 ghost use Rattle.std.specs.Prelude.{◌<◌, ◌≤◌, ◌^◌};
 
+use crate::draws::next;
 use crate::fastest::{Fastest, ROUNDS};
 use granule_rows::FreeRow;
 use std::alloc::{AllocError, Global};
@@ -23,7 +24,7 @@ pub(crate) fn report_row(rt: &HostRuntime, words: usize) -> io::Result<()>
     let mut firsts = Fastest::NONE;
     let mut nexts = Fastest::NONE;
     let mut first = 0u64;
-    let mut next = 0u64;
+    let mut later = 0u64;
     for _ in 0..ROUNDS {
         let start = rt.thread_cpu_time()?;
         turn_runs(&mut row);
@@ -32,11 +33,11 @@ pub(crate) fn report_row(rt: &HostRuntime, words: usize) -> io::Result<()>
         first = first.wrapping_add(first_runs(&row));
         firsts.take_round(rt, start)?;
         let start = rt.thread_cpu_time()?;
-        next = next.wrapping_add(next_runs(&row));
+        later = later.wrapping_add(next_runs(&row));
         nexts.take_round(rt, start)?;
     }
     println!(rt;
-        "{} granules: first places {first}, next places {next}",
+        "{} granules: first places {first}, next places {later}",
         row.granules()
     )?;
     eprintln!(rt;
@@ -81,7 +82,7 @@ fn turn_runs(row: &mut FreeRow) {
     let runs = (row.granules() / 8 - row.granules() / 256).max(1);
     let mut seed = 1u64;
     for _ in 0..STEPS {
-        seed = stepped(seed);
+        seed = next(seed);
         let k = (seed >> 33) as usize % runs;
         vacate_run(row, k);
         occupy_run(row, k);
@@ -93,7 +94,7 @@ fn first_runs(row: &FreeRow) -> u64 {
     let mut seed = 1u64;
     let mut sum = 0u64;
     for _ in 0..STEPS {
-        seed = stepped(seed);
+        seed = next(seed);
         if let Some(place) = row.first_run(1 + (seed >> 50) as usize % 16) {
             sum = sum.wrapping_add(place as u64);
         }
@@ -107,17 +108,11 @@ fn next_runs(row: &FreeRow) -> u64 {
     let mut seed = 1u64;
     let mut sum = 0u64;
     for _ in 0..STEPS {
-        seed = stepped(seed);
+        seed = next(seed);
         let from = (seed >> 33) as usize % granules;
         if let Some(place) = row.next_run(1 + (seed >> 50) as usize % 16, from) {
             sum = sum.wrapping_add(place as u64);
         }
     }
     sum
-}
-
-// The next of a row of numbers that looks random (the step of Knuth's MMIX).
-fn stepped(seed: u64) -> u64 {
-    seed.wrapping_mul(6_364_136_223_846_793_005)
-        .wrapping_add(1_442_695_040_888_963_407)
 }

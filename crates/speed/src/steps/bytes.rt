@@ -1,7 +1,7 @@
 //! Steps on states as bytes.
 
 use crate::steps::prepared;
-use crate::work::ROUNDS;
+use crate::steps::work::ROUNDS;
 use byte_machine::step;
 use state_bytes::{decode, encode};
 use std::alloc::Global;

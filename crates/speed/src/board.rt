@@ -1,6 +1,4 @@
-//! Work for a stopwatch: ten million marks of one word of a board, and as many steps on a bare atomic
-//! word. The sums go to standard output, and the times to standard error.
-#![tactic(auto)]
+//! Ten million marks of one word of a board, and as many steps on a bare atomic word.
 
 ghost use Rattle.std.specs.Prelude.{◌≡◌};
 ghost use Rattle.mark_board.specs.Board.{IsOf};
@@ -12,7 +10,7 @@ use std::time::{CpuClock, Duration};
 
 const MARKS: u32 = 10_000_000;
 
-fn main(rt: HostRuntime) -> io::Result<()> {
+pub(crate) fn time_marks(rt: &HostRuntime) -> io::Result<()> {
     let Ok((board, seat)) = Board::new(rt.alloc(), u64::BITS, 1) else {
         return println!(rt; "want of memory");
     };
@@ -21,8 +19,8 @@ fn main(rt: HostRuntime) -> io::Result<()> {
     let between = rt.thread_cpu_time()?;
     let steps = sum_of_steps();
     let end = rt.thread_cpu_time()?;
-    report(&rt, "marks", marks, between.saturating_sub(start))?;
-    report(&rt, "bare steps", steps, end.saturating_sub(between))
+    report(rt, "marks", marks, between.saturating_sub(start))?;
+    report(rt, "bare steps", steps, end.saturating_sub(between))
 }
 
 fn report(rt: &HostRuntime, name: &str, sum: u64, time: Duration) -> io::Result<()> {

@@ -1,6 +1,11 @@
-//! Steps of a machine.
+//! Steps of a machine without texts, by the calling thread alone, on one page and on 1,024, each command again and again;
+//! then steps on states as bytes, and what reading and writing such a state takes of them.
 
-use crate::work::{BASE, ROUNDS, Work};
+mod bytes;
+mod work;
+
+use crate::steps::bytes::time_bytes;
+use crate::steps::work::{BASE, ROUNDS, Work, works};
 use heap_machine::Machine;
 use heap_reply::{Reply, Shown};
 use std::alloc::Global;
@@ -16,8 +21,18 @@ struct Done {
     sum: u64,
 }
 
-/// Times this work on a heap of so many pages.
-pub(crate) fn time_steps(rt: &HostRuntime, pages: u32, work: &Work) -> io::Result<()> {
+pub(crate) fn time_all(rt: &HostRuntime) -> io::Result<()> {
+    for pages in [1, 1024] {
+        for work in &works() {
+            time_steps(rt, pages, work)?;
+        }
+    }
+    time_bytes(rt, 1, 100)?;
+    time_bytes(rt, 1024, 3)
+}
+
+// Times this work on a heap of so many pages.
+fn time_steps(rt: &HostRuntime, pages: u32, work: &Work) -> io::Result<()> {
     let Some(mut machine) = prepared(rt.alloc(), pages) else {
         return println!(rt; "no machine");
     };

@@ -1,12 +1,11 @@
-//! Work for a stopwatch: the bounds of a million words of mixed exponents, decoded by `bounds` and by
-//! `plain::bounds` in turn. The sums go to standard output, and the times of the fastest rounds to
-//! standard error.
-#![tactic(auto)]
+//! The bounds of a million words of mixed exponents, decoded by `bounds` and by `plain::bounds` in turn.
 
+use crate::draws::next;
+use crate::fastest::Fastest;
 use cap_codec::{Bounds, Word, bounds, plain};
 use std::alloc::{AllocError, Global};
 use std::io;
-use std::time::{CpuClock, Duration};
+use std::time::CpuClock;
 
 const WORDS: u32 = 1_000_000;
 
@@ -16,22 +15,22 @@ const ROUNDS: u32 = 10;
 #[derive(Clone, Copy)]
 struct Tally {
     sum: u64,
-    least: Duration,
+    fastest: Fastest,
 }
 
-fn main(rt: HostRuntime) -> io::Result<()> {
+pub(crate) fn time_bounds(rt: &HostRuntime) -> io::Result<()> {
     let words = mixed_words(rt.alloc())?;
     let mut corrected = Tally {
         sum: 0,
-        least: Duration::MAX,
+        fastest: Fastest::NONE,
     };
     let mut plain = corrected;
     for _ in 0..ROUNDS {
-        corrected = after_round(&rt, corrected, &words, |w| bounds(w))?;
-        plain = after_round(&rt, plain, &words, |w| plain::bounds(w))?;
+        corrected = after_round(rt, corrected, &words, |w| bounds(w))?;
+        plain = after_round(rt, plain, &words, |w| plain::bounds(w))?;
     }
-    report(&rt, "corrected", corrected)?;
-    report(&rt, "plain", plain)
+    report(rt, "corrected", corrected)?;
+    report(rt, "plain", plain)
 }
 
 fn report(rt: &HostRuntime, name: &str, tally: Tally) -> io::Result<()> {
@@ -39,7 +38,7 @@ fn report(rt: &HostRuntime, name: &str, tally: Tally) -> io::Result<()> {
         "{name}: {ROUNDS} rounds of {WORDS} words, sum {}",
         tally.sum
     )?;
-    eprintln!(rt; "{name}: {} microseconds", tally.least.as_micros())
+    eprintln!(rt; "{name}: {} microseconds", tally.fastest.microseconds())
 }
 
 // The tally after one more round, in which each word is decoded once.
@@ -53,11 +52,9 @@ fn after_round<F: Fn(Word) -> Bounds>(
 {
     let start = rt.thread_cpu_time()?;
     let sum = sum_of_bounds(tally.sum, words, decode);
-    let time = rt.thread_cpu_time()?.saturating_sub(start);
-    Ok(Tally {
-        sum,
-        least: tally.least.min(time),
-    })
+    let mut fastest = tally.fastest;
+    fastest.take_round(rt, start)?;
+    Ok(Tally { sum, fastest })
 }
 
 fn sum_of_bounds<F: Fn(Word) -> Bounds>(start: u64, words: &[Word], decode: F) -> u64
@@ -90,12 +87,6 @@ fn mixed_words(alloc: Global) -> Result<Vec<Word>, AllocError> {
         })?;
     }
     Ok(words)
-}
-
-// The next of a row of numbers that looks random (the step of Knuth's MMIX).
-fn next(seed: u64) -> u64 {
-    seed.wrapping_mul(6_364_136_223_846_793_005)
-        .wrapping_add(1_442_695_040_888_963_407)
 }
 
 // A number of that row with its upper half over its lower, which repeats too soon.

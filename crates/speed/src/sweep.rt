@@ -1,9 +1,8 @@
-//! Work for a stopwatch, in two halves. A memory of 1,024 pages whose granules are all tagged is swept
-//! by the shadow of a heap of which every second block is held, by one worker and by four. Then a
-//! memory of as many pages without a tag is swept by one worker, with 16 pages a task and with one. How
-//! many tags the masks take goes to standard output, and the fastest of each to standard error.
-#![tactic(auto)]
+//! A memory of 1,024 pages whose granules are all tagged, swept by the shadow of a heap of which every second block is
+//! held, by one worker and by four. Then a memory of as many pages without a tag, swept by one worker, with 16 pages a task
+//! and with one.
 
+use crate::draws::next;
 use cap_codec::{Word, with_bounds};
 use heap_core::{Heap, HeapFault, Shadow};
 use std::alloc::Global;
@@ -37,7 +36,7 @@ struct Sweeps {
     taken: u32,
 }
 
-fn main(rt: HostRuntime) -> io::Result<()> {
+pub(crate) fn time_sweeps(rt: &HostRuntime) -> io::Result<()> {
     let Ok(shadow) = half_held_shadow(rt.alloc()) else {
         return println!(rt; "want of memory");
     };
@@ -50,7 +49,7 @@ fn main(rt: HostRuntime) -> io::Result<()> {
             workers,
             pages: 16,
         };
-        let Some(swept) = timed(&rt, rt.alloc(), &full, &shadow, plan) else {
+        let Some(swept) = timed(rt, rt.alloc(), &full, &shadow, plan) else {
             return println!(rt; "no sweep");
         };
         println!(rt; "all tagged: {} tags taken", swept.taken)?;
@@ -68,7 +67,7 @@ fn main(rt: HostRuntime) -> io::Result<()> {
             workers: 1,
             pages,
         };
-        let Some(swept) = timed(&rt, rt.alloc(), &untagged, &shadow, plan) else {
+        let Some(swept) = timed(rt, rt.alloc(), &untagged, &shadow, plan) else {
             return println!(rt; "no sweep");
         };
         println!(rt; "untagged: {} tags taken", swept.taken)?;
@@ -146,10 +145,4 @@ fn ones(masks: &[u64]) -> u32 {
     masks
         .iter()
         .fold(0u32, |sum, mask| sum.wrapping_add(mask.count_ones()))
-}
-
-// The next of a row of numbers that looks random (the step of Knuth's MMIX).
-fn next(seed: u64) -> u64 {
-    seed.wrapping_mul(6_364_136_223_846_793_005)
-        .wrapping_add(1_442_695_040_888_963_407)
 }

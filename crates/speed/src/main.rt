@@ -1,0 +1,39 @@
+//! Work for a stopwatch, in the parts that its words name: `codec`, `board`, `heap`, `sweep`, `steps`; without words all of
+//! them. What was done goes to standard output, and the times of the fastest rounds to standard error.
+#![tactic(auto)]
+
+mod board;
+mod codec;
+mod draws;
+mod fastest;
+mod heap;
+mod steps;
+mod sweep;
+
+use command_line::arguments;
+use std::io;
+
+// The parts, in the order in which they are done.
+const PARTS: [&str; 5] = ["codec", "board", "heap", "sweep", "steps"];
+
+fn main(rt: HostRuntime) -> io::Result<()> {
+    let Ok(words) = arguments(&rt) else {
+        return println!(rt; "no words");
+    };
+    for part in PARTS {
+        if words.len() < 2 || words.iter().skip(1).any(|word| word.as_str() == part) {
+            time_part(&rt, part)?;
+        }
+    }
+    Ok(())
+}
+
+fn time_part(rt: &HostRuntime, part: &str) -> io::Result<()> {
+    match part {
+        "codec" => codec::time_bounds(rt),
+        "board" => board::time_marks(rt),
+        "heap" => heap::time_heaps(rt),
+        "sweep" => sweep::time_sweeps(rt),
+        _ => steps::time_all(rt),
+    }
+}
