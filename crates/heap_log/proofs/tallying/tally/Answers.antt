@@ -4,7 +4,7 @@ use Rattle.heap_log.proofs.tallying.tally.Goals as goal
 
 pub count_event-requires : goal.count_event-requires
 count_event-requires c =
-    HasRoom-few c.loop-event.event-index c.loop-event.tally c.loop-event.invariant.few (omega (arith, c.requires, c.loop-event-test.true))
+    record { room = HasRoom-few c.loop-event.event-index c.loop-event.tally c.loop-event.invariant.few (omega (arith, c.requires, c.loop-event-test.true)) }
 
 pub loop-event-preserved : goal.loop-event-preserved
 loop-event-preserved c =
