@@ -340,13 +340,15 @@ impl fmt::Display for LackText {
                 write!(f, "register c{register} was given at line {line}")
             }
             Lack::GranuleAgain { address, line } => {
-                write!(f, "granule 0x{address:x} was given at line {line}")
+                let address = Hexadecimal(u128::from(address));
+                write!(f, "granule {address} was given at line {line}")
             }
             Lack::NotNull => write!(f, "register c0 is always null"),
             Lack::NoGranule => write!(f, "no granule of the heap lies at this address"),
             Lack::Unguarded { base, top } => {
+                let base = Hexadecimal(u128::from(base));
                 let top = Hexadecimal(top);
-                write!(f, "the word's bounds 0x{base:x} {top} lie in no block")
+                write!(f, "the word's bounds {base} {top} lie in no block")
             }
         }
     }
