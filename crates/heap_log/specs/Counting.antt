@@ -1,5 +1,5 @@
 -- What events come to, one more at a time.
-use Rattle.std.specs.Prelude.{◌≤◌, ◌+◌, ◌<◌, ◌^◌}
+use Rattle.std.specs.Prelude.{ℕ, ◌≤◌, ◌+◌, ◌*◌, ◌<◌, ◌^◌}
 use Rattle.heap_reply.specs.declared.reply.Reply.{Reply}
 use Rattle.log_text.specs.declared.log.Event.{Event}
 use Rattle.log_text.specs.declared.log.Event.TheVariants.{Done, Seen}
@@ -33,3 +33,10 @@ pub record Grows (before after : Tally) : Type 0 where
   pub commands : after.commands ≤ before.commands + 1
   pub blocks : after.blocks ≤ before.blocks + 1
   pub passes : after.passes ≤ before.passes + 1
+
+-- So many lines come to this at most.
+pub record AreFew (lines : ℕ) (tally : Tally) : Type 0 where
+  pub tags : tally.tags ≤ 4294967295 * lines
+  pub commands : tally.commands ≤ lines
+  pub blocks : tally.blocks ≤ lines
+  pub passes : tally.passes ≤ lines
