@@ -6,7 +6,7 @@ mod passes;
 mod running;
 mod stepper;
 
-pub use crate::machine::{Flaw, Machine};
+pub use crate::machine::{Flaw, Machine, is_guarded};
 pub use crate::stepper::{Alone, Stepper, Workers};
 pub use heap_core::{Block, Claim, Kind};
 pub use heap_reply::{BoundedAddress, Hexadecimal, Reply, Shown, Trap, flag_number};

@@ -13,7 +13,7 @@ mod following;
 mod making;
 mod stepping;
 
-pub use crate::machine::making::Flaw;
+pub use crate::machine::making::{Flaw, is_guarded};
 use heap_core::Heap;
 use host_memory::Global;
 use machine_storage::{MachineFault, Storage};

@@ -1,6 +1,6 @@
 //! Tagged memory.
 
-ghost use Rattle.std.specs.Prelude.{◌≡◌, ◌↔◌, ◌<◌, ◌≤◌, ◌+◌, ◌-◌, ◌*◌, ◌/◌, ℕ, IfOk, Some, count_by, false, length, slice_get, slice_index_or, slice_set, true};
+ghost use Rattle.std.specs.Prelude.{◌≡◌, ◌↔◌, ◌<◌, ◌≤◌, ◌+◌, ◌-◌, ◌*◌, ◌/◌, ℕ, IfOk, MatchOption, Some, count_by, false, length, slice_get, slice_index_or, slice_set, true};
 ghost use Rattle.cap_codec.specs.Words.{base_of};
 ghost use Rattle.tag_memory.specs.Bases as bases;
 ghost use Rattle.tag_memory.specs.Cells.{IsMemory, all_clean, cell_of, is_dirty_at, marks_after, may_hold_at, new_memory};
@@ -10,7 +10,7 @@ ghost use Rattle.tag_memory.specs.Tags as tags;
 
 use crate::bases::base_granule;
 use crate::bits::{WORD_GRANULES, bit, with_bit};
-use crate::extent::{PAGE_GRANULES, is_base, is_size};
+use crate::extent::{GRANULE, PAGE_GRANULES, is_base, is_size};
 use crate::pages::take_tags;
 use host_memory::Global;
 use std::alloc::AllocError;
@@ -154,6 +154,26 @@ impl Memory {
         ensures { result ≡ length self.now.granules }
     {
         self.bits.len()
+    }
+
+    /// Which granule begins at this address.
+    pub fn granule_at(&self, address: u64) -> Option<usize>
+        ensures { MatchOption result
+            ((i : ℕ) → address ≡ self.now.base + 16 * i → i < length self.now.granules → ⊥)
+            (λ i. (address ≡ self.now.base + 16 * i) × (i < length self.now.granules)) }
+    {
+        if address < self.base {
+            return None;
+        }
+        let offset = address - self.base;
+        if offset % GRANULE != 0 {
+            return None;
+        }
+        let i = (offset / GRANULE) as usize;
+        if i >= self.granules() {
+            return None;
+        }
+        Some(i)
     }
 
     /// The number that a granule's bytes hold, and its tag. Granules are counted from the base.

@@ -25,6 +25,8 @@ fn granules_are_written(rt: HostRuntime) {
     );
     assert_eq!(rt; (memory.base(), memory.pages()), (0xffff_ffff_ffff_f000, 1));
     assert_eq!(rt; memory.granules(), 256);
+    assert_eq!(rt; memory.granule_at(0xffff_ffff_ffff_fff0), Some(255));
+    assert_eq!(rt; memory.granule_at(0xffff_ffff_ffff_fff8), None);
     memory.put(65, 5, true);
     assert_eq!(rt; memory.cell(65), (5, true));
     assert_eq!(rt; memory.cell(64), (0, false));
