@@ -109,12 +109,12 @@ fn wrong_in<'a>(alloc: Global, line: &Line<'a>) -> Result<Wrong<'a>, AllocError>
 }
 
 /// That a line has no arrow.
-pub fn no_arrow(alloc: Global) -> Result<Vec<u8, Global>, AllocError> {
+pub(crate) fn no_arrow(alloc: Global) -> Result<Vec<u8, Global>, AllocError> {
     joined(alloc, &[b"it has no arrow -> between blanks"])
 }
 
 /// What is wrong with the answer of this line.
-pub fn answer_wanted(alloc: Global, line: &Line<'_>) -> Result<Vec<u8, Global>, AllocError> {
+pub(crate) fn answer_wanted(alloc: Global, line: &Line<'_>) -> Result<Vec<u8, Global>, AllocError> {
     match wrong_in(alloc, line)? {
         Wrong::NoArrow => no_arrow(alloc),
         Wrong::Ends => joined(alloc, &[b"its answer ends too early"]),

@@ -64,7 +64,7 @@ fn first_word<'a>(line: &Line<'a>) -> &'a [u8] {
 }
 
 /// Whether a line says that it gives something.
-pub fn gives(line: &Line<'_>) -> bool {
+pub(crate) fn gives(line: &Line<'_>) -> bool {
     first_word(line) == b"given".as_slice()
 }
 
@@ -177,7 +177,7 @@ fn lacks_arrow(line: &Line<'_>) -> bool {
 }
 
 /// What is wanted of a line that begins with no name, or gives what can't be given there.
-pub fn name_wanted(alloc: Global, line: &Line<'_>) -> Result<Vec<u8, Global>, AllocError> {
+pub(crate) fn name_wanted(alloc: Global, line: &Line<'_>) -> Result<Vec<u8, Global>, AllocError> {
     if gives(line) {
         return joined(alloc, &[if form_of(line).is_some() { LATE } else { KINDS }]);
     }
@@ -186,7 +186,7 @@ pub fn name_wanted(alloc: Global, line: &Line<'_>) -> Result<Vec<u8, Global>, Al
 }
 
 /// What is wanted of a line that has more or fewer words than its form.
-pub fn form_wanted(alloc: Global, line: &Line<'_>) -> Result<Vec<u8, Global>, AllocError> {
+pub(crate) fn form_wanted(alloc: Global, line: &Line<'_>) -> Result<Vec<u8, Global>, AllocError> {
     if lacks_arrow(line) {
         return no_arrow(alloc);
     }
@@ -205,7 +205,7 @@ pub fn form_wanted(alloc: Global, line: &Line<'_>) -> Result<Vec<u8, Global>, Al
 }
 
 /// What is wanted in place of the first word of a line that its form doesn't take.
-pub fn word_wanted(alloc: Global, line: &Line<'_>) -> Result<Vec<u8, Global>, AllocError> {
+pub(crate) fn word_wanted(alloc: Global, line: &Line<'_>) -> Result<Vec<u8, Global>, AllocError> {
     let Some(form) = form_of(line) else {
         return joined(alloc, &[KINDS]);
     };
