@@ -1,0 +1,3 @@
+pub mod DirtyLaws
+pub mod EndingLaws
+pub mod ListLaws
