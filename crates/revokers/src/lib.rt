@@ -25,6 +25,8 @@
 
 mod cornucopia;
 mod ending;
+mod reloaded;
 
 pub use crate::cornucopia::Cornucopia;
 pub use crate::ending::Finished;
+pub use crate::reloaded::{Barrier, Reloaded, Stepped};
