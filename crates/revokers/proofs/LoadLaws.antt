@@ -71,7 +71,7 @@ waits-load r Begin page e = absurd (none_waits r.is_started page e)
 waits-load r End page e = absurd (none_waits r.is_started page e)
 
 load-needs : (s : State) (c : Command) → IsLoad c → NeedsNoMemory s c
-load-needs s _ (load rd ra) = record { }
+load-needs s _ (load rd ra) = record {}
 
 load-unused : (s t : State) (c : Command) (r : Reply) → IsLoad c → IsUnused s c r → IsUnused t c r
 load-unused s t _ r (load rd ra) unused = unused
@@ -108,18 +108,18 @@ loads-passed s seen (LoadCap rd ra) waits = go (first_failed (checks s (LoadCap 
   go : (t : Option Trap) → unseen_page t seen (page_at s ra) ≡ None → t ≡ None → is_seen seen (page_at s ra) ≡ true
   go None e none = seen_is (is_seen seen (page_at s ra)) e
   go (Some t) e none = absurd cc
-loads-passed s seen (Malloc rd size) waits = record { }
-loads-passed s seen (Free rs) waits = record { }
-loads-passed s seen (Copy rd rs) waits = record { }
-loads-passed s seen (SetAddr rd rs address) waits = record { }
-loads-passed s seen (Narrow rd rs n) waits = record { }
-loads-passed s seen (AndPerm rd rs mask) waits = record { }
-loads-passed s seen (StoreCap ra rs) waits = record { }
-loads-passed s seen (Write ra bytes) waits = record { }
-loads-passed s seen (Show rs) waits = record { }
-loads-passed s seen Sweep waits = record { }
-loads-passed s seen Begin waits = record { }
-loads-passed s seen End waits = record { }
+loads-passed s seen (Malloc rd size) waits = record {}
+loads-passed s seen (Free rs) waits = record {}
+loads-passed s seen (Copy rd rs) waits = record {}
+loads-passed s seen (SetAddr rd rs address) waits = record {}
+loads-passed s seen (Narrow rd rs n) waits = record {}
+loads-passed s seen (AndPerm rd rs mask) waits = record {}
+loads-passed s seen (StoreCap ra rs) waits = record {}
+loads-passed s seen (Write ra bytes) waits = record {}
+loads-passed s seen (Show rs) waits = record {}
+loads-passed s seen Sweep waits = record {}
+loads-passed s seen Begin waits = record {}
+loads-passed s seen End waits = record {}
 
 -- After the page was visited for which it waits, so does one that waits.
 pub loads-looked : OpensLoad → (s : State) (seen : List Bool) (command : Command) (page : ℕ) (answer : RevokerReply) (new : State) → IsMachine s → HasPages s seen → s.heap.is_open ≡ true
@@ -137,18 +137,18 @@ loads-looked opens s seen (LoadCap rd ra) page answer new is pages opened waits 
   at_page same =
       subst (λ (k : ℕ). LoadsSeen new (set seen k true) (LoadCap rd ra)) same
       (opens s seen rd ra answer new is pages opened (subst (λ (k : ℕ). RevokerStep s (Visit k) answer new) (sym same) step))
-loads-looked opens s seen (Malloc rd size) page answer new is pages opened waits step = record { }
-loads-looked opens s seen (Free rs) page answer new is pages opened waits step = record { }
-loads-looked opens s seen (Copy rd rs) page answer new is pages opened waits step = record { }
-loads-looked opens s seen (SetAddr rd rs address) page answer new is pages opened waits step = record { }
-loads-looked opens s seen (Narrow rd rs n) page answer new is pages opened waits step = record { }
-loads-looked opens s seen (AndPerm rd rs mask) page answer new is pages opened waits step = record { }
-loads-looked opens s seen (StoreCap ra rs) page answer new is pages opened waits step = record { }
-loads-looked opens s seen (Write ra bytes) page answer new is pages opened waits step = record { }
-loads-looked opens s seen (Show rs) page answer new is pages opened waits step = record { }
-loads-looked opens s seen Sweep page answer new is pages opened waits step = record { }
-loads-looked opens s seen Begin page answer new is pages opened waits step = record { }
-loads-looked opens s seen End page answer new is pages opened waits step = record { }
+loads-looked opens s seen (Malloc rd size) page answer new is pages opened waits step = record {}
+loads-looked opens s seen (Free rs) page answer new is pages opened waits step = record {}
+loads-looked opens s seen (Copy rd rs) page answer new is pages opened waits step = record {}
+loads-looked opens s seen (SetAddr rd rs address) page answer new is pages opened waits step = record {}
+loads-looked opens s seen (Narrow rd rs n) page answer new is pages opened waits step = record {}
+loads-looked opens s seen (AndPerm rd rs mask) page answer new is pages opened waits step = record {}
+loads-looked opens s seen (StoreCap ra rs) page answer new is pages opened waits step = record {}
+loads-looked opens s seen (Write ra bytes) page answer new is pages opened waits step = record {}
+loads-looked opens s seen (Show rs) page answer new is pages opened waits step = record {}
+loads-looked opens s seen Sweep page answer new is pages opened waits step = record {}
+loads-looked opens s seen Begin page answer new is pages opened waits step = record {}
+loads-looked opens s seen End page answer new is pages opened waits step = record {}
 
 -- In an epoch of the revoker it waits as the state and the marks say.
 pub in_epoch : (r : ReloadedState) (command : Command) (waits : Option ℕ) → waits_for r command ≡ waits → r.is_started ≡ true → page_before r.machine.state r.seen command ≡ waits

@@ -224,7 +224,7 @@ finishes_seen seen old visited new cleared bytes first step =
 
 -- After the paint and the untags an epoch has started.
 pub start-after : ((s mid : State) (reply : RevokerReply) (registers : List (ℕ × RevokerReply)) (new : State) → CoverRegisters s registers → s.heap.is_open ≡ false → RevokerStep s Paint reply mid
-        → Runs Follows mid (register_untags registers) new → new ≡ after_start s)
+    → Runs Follows mid (register_untags registers) new → new ≡ after_start s)
     → (s mid : State) (reply : RevokerReply) (cleared : ℕ) (new : State) → length s.registers ≡ 32 → s.heap.is_open ≡ false → RevokerStep s Paint reply mid → Untags mid cleared new → new ≡ after_start s
 start-after law s mid reply cleared new count closed step untags =
     law s mid reply untags.registers new (λ r lt. untags.all r (omega (arith, lt, count))) closed step (untags-follow mid new untags.registers untags.steps)
