@@ -27,7 +27,11 @@ fn what_the_program_stores_again_is_taken_at_the_end(rt: HostRuntime) {
         (Command::StoreCap { ra: 2, rs: 1 }, Reply::Done),
     ] {
         assert!(rt; command.is_valid());
-        assert_eq!(rt; revoker.step(&Alone, alloc, command), Ok(wanted), "{command:?}");
+        assert_eq!(rt;
+            revoker.step(&Alone, alloc, command),
+            Ok(wanted),
+            "{command:?}"
+        );
     }
     // One in granule 2, one in granule 256, one in register 1.
     let finished = Finished {
@@ -37,7 +41,10 @@ fn what_the_program_stores_again_is_taken_at_the_end(rt: HostRuntime) {
     assert_eq!(rt; revoker.finish(), Some(finished));
     assert_eq!(rt; revoker.finish(), None);
     let machine = revoker.machine();
-    assert_eq!(rt; (machine.memory().tagged(), machine.registers().tagged()), (0, 2));
+    assert_eq!(rt;
+        (machine.memory().tagged(), machine.registers().tagged()),
+        (0, 2)
+    );
     assert_eq!(rt; (machine.live_bytes(), machine.held_bytes()), (4096, 0));
 }
 
@@ -51,7 +58,7 @@ fn what_was_visited_and_not_written_since_is_not_looked_at_again(rt: HostRuntime
     assert_eq!(rt; revoker.visit(0), RevokerReply::Cleared { cleared: 1 });
     // The block that is freed now waits for the next epoch.
     let free = Command::Free { rs: 2 };
-    assert_eq!(rt; revoker.step(&Alone, alloc, free), Ok(Reply::Held { bytes: 4096 }));
+    assert_eq!(rt; revoker.step(&Alone, alloc, free), Ok(Reply::Held(4096)));
     let finished = Finished {
         cleared: 1,
         bytes: 32,

@@ -43,7 +43,11 @@ fn a_page_is_visited_before_a_load_from_it(rt: HostRuntime) {
         (load(2), after_a_visit(0, 0)),
     ] {
         assert!(rt; command.is_valid());
-        assert_eq!(rt; revoker.step(&Alone, alloc, command), Ok(wanted), "{command:?}");
+        assert_eq!(rt;
+            revoker.step(&Alone, alloc, command),
+            Ok(wanted),
+            "{command:?}"
+        );
     }
     assert!(rt; revoker.machine().registers().get(3).1);
     let finished = Finished {
@@ -60,18 +64,27 @@ fn pages_that_were_not_seen_are_visited_at_the_end(rt: HostRuntime) {
     let machine = machine_before_an_epoch(alloc).expect(&rt, "there is memory");
     let mut revoker = Reloaded::new(alloc, machine).expect(&rt, "there is memory");
     assert_eq!(rt; revoker.start(), Some(1));
-    assert_eq!(rt; revoker.step(&Alone, alloc, load(2)), Ok(after_a_visit(0, 1)));
+    assert_eq!(rt;
+        revoker.step(&Alone, alloc, load(2)),
+        Ok(after_a_visit(0, 1))
+    );
     let finished = Finished {
         cleared: 1,
         bytes: 32,
     };
     assert_eq!(rt; revoker.finish(), Some(finished));
     let machine = revoker.machine();
-    assert_eq!(rt; (machine.memory().tagged(), machine.registers().tagged()), (0, 2));
+    assert_eq!(rt;
+        (machine.memory().tagged(), machine.registers().tagged()),
+        (0, 2)
+    );
     assert_eq!(rt; machine.held_bytes(), 0);
     // In the next epoch no page was seen.
     assert_eq!(rt; revoker.start(), Some(0));
-    assert_eq!(rt; revoker.step(&Alone, alloc, load(2)), Ok(after_a_visit(0, 0)));
+    assert_eq!(rt;
+        revoker.step(&Alone, alloc, load(2)),
+        Ok(after_a_visit(0, 0))
+    );
 }
 
 #[test]
@@ -84,12 +97,19 @@ fn an_epoch_of_the_program_has_no_barrier(rt: HostRuntime) {
         (load(2), Reply::Done),
     ] {
         assert!(rt; command.is_valid());
-        assert_eq!(rt; revoker.step(&Alone, alloc, command), Ok(at_once(wanted)), "{command:?}");
+        assert_eq!(rt;
+            revoker.step(&Alone, alloc, command),
+            Ok(at_once(wanted)),
+            "{command:?}"
+        );
     }
     assert_eq!(rt; (revoker.start(), revoker.finish()), (None, None));
     let swept = Reply::Swept {
         cleared: 1,
         released: 32,
     };
-    assert_eq!(rt; revoker.step(&Alone, alloc, Command::End), Ok(at_once(swept)));
+    assert_eq!(rt;
+        revoker.step(&Alone, alloc, Command::End),
+        Ok(at_once(swept))
+    );
 }
