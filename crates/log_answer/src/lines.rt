@@ -301,9 +301,9 @@ impl fmt::Display for Differing {
                 };
                 write!(f, "{why}")
             }
-            Difference::Step(reply) => {
+            Difference::Step(must) => {
                 let said = Said(self.event);
-                write!(f, "the answer must be {reply}, and the log says {said}")
+                write!(f, "the answer must be {must}, and the log says {said}")
             }
             Difference::NoGranule => write!(f, "no granule of the heap lies at this address"),
             Difference::Granule { tag, bytes } => {
