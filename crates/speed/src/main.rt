@@ -12,6 +12,8 @@ mod sweep;
 
 use command_line::arguments;
 use std::io;
+use std::thread::Threads;
+use std::time::Clock;
 
 // The parts, in the order in which they are done.
 const PARTS: [&str; 5] = ["codec", "board", "heap", "sweep", "steps"];
@@ -22,18 +24,23 @@ fn main(rt: HostRuntime) -> io::Result<()> {
     };
     for part in PARTS {
         if words.len() < 2 || words.iter().skip(1).any(|word| word.as_str() == part) {
-            time_part(&rt, part)?;
+            time_part(&rt, &rt, part)?;
         }
     }
     Ok(())
 }
 
-fn time_part(rt: &HostRuntime, part: &str) -> io::Result<()> {
+// Times a part; a sweep has workers, whose threads are those of the other handle.
+fn time_part<T: Threads + Sync + Clock>(
+    rt: &HostRuntime,
+    threads: &T,
+    part: &str,
+) -> io::Result<()> {
     match part {
         "codec" => codec::time_bounds(rt),
         "board" => board::time_marks(rt),
         "heap" => heap::time_heaps(rt),
-        "sweep" => sweep::time_sweeps(rt),
+        "sweep" => sweep::time_sweeps(rt, threads),
         _ => steps::time_all(rt),
     }
 }

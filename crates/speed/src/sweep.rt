@@ -36,7 +36,10 @@ struct Sweeps {
     taken: u32,
 }
 
-pub(crate) fn time_sweeps(rt: &HostRuntime) -> io::Result<()> {
+pub(crate) fn time_sweeps<T: Threads + Sync + Clock>(
+    rt: &HostRuntime,
+    threads: &T,
+) -> io::Result<()> {
     let Ok(shadow) = half_held_shadow(rt.alloc()) else {
         return println!(rt; "want of memory");
     };
@@ -49,7 +52,7 @@ pub(crate) fn time_sweeps(rt: &HostRuntime) -> io::Result<()> {
             workers,
             pages: 16,
         };
-        let Some(swept) = timed(rt, rt.alloc(), &full, &shadow, plan) else {
+        let Some(swept) = timed(threads, rt.alloc(), &full, &shadow, plan) else {
             return println!(rt; "no sweep");
         };
         println!(rt; "all tagged: {} tags taken", swept.taken)?;
@@ -67,7 +70,7 @@ pub(crate) fn time_sweeps(rt: &HostRuntime) -> io::Result<()> {
             workers: 1,
             pages,
         };
-        let Some(swept) = timed(rt, rt.alloc(), &untagged, &shadow, plan) else {
+        let Some(swept) = timed(threads, rt.alloc(), &untagged, &shadow, plan) else {
             return println!(rt; "no sweep");
         };
         println!(rt; "untagged: {} tags taken", swept.taken)?;
