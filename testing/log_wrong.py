@@ -187,7 +187,7 @@ def other_lines(event, state, line, chance):
     asked, answer = line.partition(" -> ")[0], " ".join(event.answer)
     answers = malloc_answers(event, state) if event.name == "malloc" else one_answers(event)
     for what, other, is_wrong in (*answers, *number_answers(answer)):
-        if is_answer(other.split()):
+        if is_answer(event.name, other.split()):
             yield what, f"{asked} -> {other}", is_wrong
     if event.name == "malloc" and event.answer[0] == "block":
         length = int(event.answer[2], 16) - int(event.answer[1], 16)

@@ -1,5 +1,5 @@
 -- Blocks whose bounds a capability can hold: what is claimed is one, and what is given up or begins stays one.
-use Rattle.std.proofs.Common.{◌≡◌, ◌∙◌, ◌≤◌, ◌+◌, ◌-◌, ℕ, Bool, Option, Some, None, true, false, if◌then◌else◌, nat_lt, not, List, [], ◌∷◌, refl, sym, ap, subst, arith}
+use Rattle.std.proofs.Common.{◌≡◌, ◌∙◌, ◌≤◌, ◌+◌, ◌-◌, ℕ, Bool, Option, Some, None, Result, Ok, Err, true, false, if◌then◌else◌, nat_lt, not, List, [], ◌∷◌, refl, sym, ap, subst, arith}
 use Rattle.std.specs.Prelude.{All}
 use Rattle.std.proofs.lemmas.Bool.{cond_both}
 use Rattle.std.proofs.lemmas.List.Elements.{All-cons, All-contains, All-filter, All-head, All-nil, All-tail}
@@ -12,8 +12,7 @@ use Rattle.heap_model.specs.Heap.{HeapState}
 use Rattle.heap_model.specs.Laws.{Contains-block, no_reason}
 use Rattle.heap_model.specs.Place.{with_block}
 use Rattle.heap_model.specs.Quarantine.{freed_of, is_held_block, with_epoch, with_waiting, without_epoch, without_waiting}
-use Rattle.heap_model.specs.declared.block.Claim.{Claim}
-use Rattle.heap_model.specs.declared.block.Claim.TheVariants.{Claimed, Empty, Inexact, Outside, OverHeld, OverLive, Uneven}
+use Rattle.heap_model.specs.declared.block.Obstacle.{Obstacle}
 use Rattle.heap_model.specs.declared.block.Freed.{Freed}
 use Rattle.heap_model.specs.declared.block.Freed.TheVariants as after_free
 use Rattle.heap_model.specs.declared.block.Kind.TheVariants.{Live, Painted, Waiting}
@@ -83,24 +82,9 @@ exact_swept s exact = exact_lists (without_waiting s) (exact.each Live) (All-nil
 -- ---- claims
 
 -- What is answered to a claim, and what it leaves.
-pub claim_exact : (s : HeapState) (base top : ℕ) (claim : Claim) (new : HeapState) → IsClaim s s base top claim new → AreExact s → AreExact new
-claim_exact s base top Claimed new is exact = subst AreExact (sym is.1) (exact_claimed s base top is.0 exact)
-claim_exact s base top Uneven new is exact = subst AreExact (sym is.1) exact
-claim_exact s base top Empty new is exact = subst AreExact (sym is.1) exact
-claim_exact s base top Outside new is exact = subst AreExact (sym is.1) exact
-claim_exact s base top Inexact new is exact = subst AreExact (sym is.1) exact
-claim_exact s base top (OverLive block) new is exact = subst AreExact (sym is.1) exact
-claim_exact s base top (OverHeld block) new is exact = subst AreExact (sym is.1) exact
-
--- A claim that could be met is.
-pub claim_met : (s : HeapState) (base top : ℕ) (claim : Claim) (new : HeapState) → IsClaim s s base top claim new → (claim ≡ Claimed → ⊥) → IsClaimable s base top → ⊥
-claim_met s base top Claimed new is other may = other refl
-claim_met s base top Uneven new is other may = no_reason s base top Uneven may is.0
-claim_met s base top Empty new is other may = no_reason s base top Empty may is.0
-claim_met s base top Outside new is other may = no_reason s base top Outside may is.0
-claim_met s base top Inexact new is other may = no_reason s base top Inexact may is.0
-claim_met s base top (OverLive block) new is other may = no_reason s base top (OverLive block) may is.0
-claim_met s base top (OverHeld block) new is other may = no_reason s base top (OverHeld block) may is.0
+pub claim_exact : (s : HeapState) (base top : ℕ) (claim : Result (Unit {0}) Obstacle) (new : HeapState) → IsClaim s s base top claim new → AreExact s → AreExact new
+claim_exact s base top (Ok done) new is exact = subst AreExact (sym is.1) (exact_claimed s base top is.0 exact)
+claim_exact s base top (Err obstacle) new is exact = subst AreExact (sym is.1) exact
 
 -- The heap lies where it did, as open as it was.
 pub record StaysThere (s new : HeapState) : Type 0 where
@@ -110,14 +94,9 @@ pub record StaysThere (s new : HeapState) : Type 0 where
 stays : (s new t : HeapState) → new ≡ t → t.size ≡ s.size → t.is_open ≡ s.is_open → StaysThere s new
 stays s new t is size open_is = record { size = ap (λ (h : HeapState). h.size) is ∙ size; open_is = ap (λ (h : HeapState). h.is_open) is ∙ open_is }
 
-pub claim_stays : (s : HeapState) (base top : ℕ) (claim : Claim) (new : HeapState) → IsClaim s s base top claim new → StaysThere s new
-claim_stays s base top Claimed new is = stays s new (with_block s base (top - base)) is.1 refl refl
-claim_stays s base top Uneven new is = stays s new s is.1 refl refl
-claim_stays s base top Empty new is = stays s new s is.1 refl refl
-claim_stays s base top Outside new is = stays s new s is.1 refl refl
-claim_stays s base top Inexact new is = stays s new s is.1 refl refl
-claim_stays s base top (OverLive block) new is = stays s new s is.1 refl refl
-claim_stays s base top (OverHeld block) new is = stays s new s is.1 refl refl
+pub claim_stays : (s : HeapState) (base top : ℕ) (claim : Result (Unit {0}) Obstacle) (new : HeapState) → IsClaim s s base top claim new → StaysThere s new
+claim_stays s base top (Ok done) new is = stays s new (with_block s base (top - base)) is.1 refl refl
+claim_stays s base top (Err obstacle) new is = stays s new s is.1 refl refl
 
 -- ---- what is released
 
