@@ -75,11 +75,17 @@ fn miscounts(event: Event, difference: Difference) -> Option<bool>
     match (event, difference) {
         (Event::Done { .. }, Difference::Answer(Why::Takes(_))) => Some(true),
         (
-            Event::Done { answer: Reply::Swept { cleared: told, .. }, .. },
+            Event::Done {
+                answer: Reply::Swept { cleared: told, .. },
+                ..
+            },
             Difference::Answer(Why::MustBe(Reply::Swept { cleared, .. })),
         ) => unless_equal(told, cleared, true),
         (
-            Event::Done { answer: Reply::Begun { cleared: told }, .. },
+            Event::Done {
+                answer: Reply::Begun { cleared: told },
+                ..
+            },
             Difference::Answer(Why::MustBe(Reply::Begun { cleared })),
         ) => unless_equal(told, cleared, false),
         (Event::Revoked { .. }, Difference::Step(RevokerReply::Trap(RevokerTrap::Left))) => {

@@ -117,7 +117,10 @@ fn blocks_are_claimed_once_those_that_wait_are_free(rt: HostRuntime) {
     let mut heap = heap_of_three(&rt, rt.alloc());
     assert!(rt; !heap.is_open());
     let refused = heap.give_back_and_claim(0x4000_0230, 0x4000_0310);
-    assert_eq!(rt; (refused, heap.held_bytes()), (Err(Obstacle::OverLive(LATER)), 64));
+    assert_eq!(rt;
+        (refused, heap.held_bytes()),
+        (Err(Obstacle::OverLive(LATER)), 64)
+    );
     assert!(rt; !heap.is_open());
     let uneven = heap.give_back_and_claim(0x4000_0230, 0x4000_0248);
     assert_eq!(rt; (uneven, heap.held_bytes()), (Err(Obstacle::Uneven), 64));
