@@ -7,9 +7,9 @@ import functools
 import hashlib
 import os
 import pathlib
-import re
 
 import limited
+import rests_on
 
 ROOT = pathlib.Path(__file__).resolve().parent.parent
 RECORD = ROOT / "testing" / "refused_edits"
@@ -54,29 +54,15 @@ def own_files(crate):
     return {path for it in ("src", "specs", "proofs") for path in (ROOT / "crates" / crate / it).rglob("*") if path.is_file()}
 
 
-@functools.lru_cache(maxsize=None)
-def named_in(path):
-    """The files of specs/ that a file names, of whatever crate."""
-    found = re.findall(r"\bRattle\.(\w+)\.specs\.(\w+)", text_of(path))
-    return frozenset(it for crate, name in found if (it := ROOT / "crates" / crate / "specs" / f"{name}.antt").is_file())
-
-
-def files_under(crates):
-    """What the crates' contracts say: their own files, and the definitions that these name, and those that these name.
-    Other contracts and the proofs below don't count: a body that breaks its own contract is refused over any of them."""
-    found = set().union(*(own_files(it) for it in crates))
-    left = list(found)
-    while left:
-        more = named_in(left.pop()) - found
-        found |= more
-        left += more
-    return sorted(found)
-
-
 def sum_over(crates, texts):
-    """A sum of these texts, of what the crates' contracts say, and of the toolchain's logic, in 16 digits."""
-    under = [part for it in files_under(crates) for part in (str(it.relative_to(ROOT)), text_of(it))]
+    """A sum of these texts, of all that the crates say, and of the toolchain's logic, in 16 digits."""
+    under = [part for it in sorted(set().union(*map(own_files, crates))) for part in (str(it.relative_to(ROOT)), text_of(it))]
     return sum_of(*(it.encode() for it in (logic(), *crates, *under, *texts)))[:16]
+
+
+def sum_of_edit(crate, changes):
+    """A sum of what the refusal of these changes in a crate rests on (rests_on.py), and of the toolchain's logic, in 16 digits."""
+    return sum_of(*(it.encode() for it in (logic(), crate, *rests_on.parts_of(crate, changes))))[:16]
 
 
 def read():

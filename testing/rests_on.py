@@ -6,6 +6,7 @@ count. Other contracts don't either: a body that breaks its own contract is refu
 import functools
 import pathlib
 import re
+import tempfile
 from typing import NamedTuple
 
 ROOT = pathlib.Path(__file__).resolve().parent.parent
@@ -152,10 +153,6 @@ def statements_of(path):
     return [statement_of(lines) for lines in bodies if any(line.strip() for line in lines)]
 
 
-def has(names, name):
-    return name in names or any("◌" in it and it.strip("◌") == name for it in names)
-
-
 @functools.lru_cache(maxsize=None)
 def reached(path, name):
     """The texts that a name of a file stands for, and the names that these name."""
@@ -168,7 +165,7 @@ def reached(path, name):
         return ((), passed_on) if passed_on else ((read(path),), frozenset())
     text = "\n".join(it.text for it in own)
     named = {*NAMES.findall(text)}
-    beside = {(path, next(iter(sorted(it.names)))) for it in all_of_it if it not in own and any(has(named, each) or "◌" in each and has(named, each.strip("◌")) for each in it.names)}
+    beside = {(path, min(it.names)) for it in all_of_it if it not in own and any(each.strip("◌") in named for each in it.names)}
     return tuple(it.text for it in own), frozenset(beside | brought(read(path), text))
 
 
@@ -212,3 +209,100 @@ def parts_of(crate, changes):
         path = ROOT / "crates" / (crate if of == "crate" else of) / "specs" / f"{file}.antt"
         starts |= {(path, name)} if path.is_file() else set()
     return [*own, *definitions_from(starts), *(text for change in changes for text in change)]
+
+
+# ---- what is tried of this, on a made crate above another one
+
+MADE = {
+    "below/specs/Words.antt": "-- Words.\nuse Rattle.std.specs.Prelude.{ℕ}\n\nabbrev pub twice : ℕ → ℕ\ntwice n = n + n\n\nabbrev pub most : ℕ\nmost = twice 8\n\nabbrev pub other : ℕ\nother = 3\n",
+    "above/src/lib.rt": """//! A crate.
+
+ghost use Rattle.below.specs.Words.{most, other};
+
+mod side;
+
+use crate::side::helped;
+
+/// Some number.
+pub fn number(n: u64) -> u64
+    requires { n < most }
+    ensures { result ≡ n + 1 }
+{
+    helped(n)
+}
+
+/// Another one.
+pub fn another(n: u64) -> u64
+    requires { n < other }
+    ensures { result ≡ n }
+{
+    n
+}
+""",
+    "above/src/side.rt": """//! Help.
+
+pub struct Kept {
+    held: u64,
+}
+
+impl Model for Kept {
+    ghost view = { λ k. k.held };
+}
+
+pub fn helped(n: u64) -> u64
+    ensures { result ≡ 1 + n }
+{
+    1 + n
+}
+
+pub fn unasked() -> u64
+    ensures { result ≡ 7 }
+{
+    7
+}
+""",
+    "above/proofs/number/Answers.antt": "pub returns : goal.returns\nreturns c = cc\n",
+    "above/proofs/another/Answers.antt": "pub returns : goal.returns\nreturns c = refl\n",
+}
+# What is replaced in which file, and whether the refusal of another body of `number` rests on it.
+ROWS = [
+    ("below/specs/Words.antt", "n + n", "n + n + n", True),
+    ("below/specs/Words.antt", "twice n = n + n", "twice k = k + k", False),
+    ("below/specs/Words.antt", "other = 3", "other = 4", False),
+    ("below/specs/Words.antt", "-- Words", "-- Numbers", False),
+    ("above/src/lib.rt", "n < most", "n ≤ most", True),
+    ("above/src/lib.rt", "/// Some number", "/// A number", False),
+    ("above/src/lib.rt", "    n\n", "    n + 0\n", False),
+    ("above/src/side.rt", "result ≡ 1 + n", "result ≡ n + 1", True),
+    ("above/src/side.rt", "    1 + n\n", "    n + 1\n", False),
+    ("above/src/side.rt", "result ≡ 7", "result ≡ 8", False),
+    ("above/src/side.rt", "λ k. k.held", "λ k. k.held + 1", True),
+    ("above/proofs/number/Answers.antt", "cc", "omega", True),
+    ("above/proofs/another/Answers.antt", "refl", "cc", False),
+]
+
+
+def parts_in(folder, texts):
+    """What an edit of the made crate rests on, where its files have these texts."""
+    global ROOT
+    for file, text in texts.items():
+        path = folder / "crates" / file
+        path.parent.mkdir(parents=True, exist_ok=True)
+        path.write_text(text, encoding="utf-8")
+    kept, ROOT = ROOT, folder
+    for cache in (read, source_of, statements_of, reached):
+        cache.cache_clear()
+    try:
+        return parts_of("above", [("src/lib.rt", "    helped(n)", "    helped(n) + 1")])
+    finally:
+        ROOT = kept
+
+
+def wrong_parts():
+    """What is wrong with the texts that are found of the made crate."""
+    with tempfile.TemporaryDirectory() as room:
+        right = parts_in(pathlib.Path(room), MADE)
+        for file, old, new, matters in ROWS:
+            changed = parts_in(pathlib.Path(room), {**MADE, file: MADE[file].replace(old, new)})
+            if (changed != right) != matters:
+                yield f"a refusal {'does not rest' if matters else 'rests'} on {old!r} in {file}"
