@@ -103,9 +103,11 @@ fn a_revoker_works_while_the_program_runs(rt: HostRuntime) {
         assert_eq!(rt; machine.revoke(command), wanted, "{command:?}");
     }
     assert_eq!(rt; (machine.held_bytes(), machine.memory().tagged()), (32, 0));
+    assert!(rt; machine.memory().granules() > 256);
     assert!(rt; !machine.memory().dirty(0) && machine.memory().dirty(1));
     let stored = machine.step_alone(alloc, Command::StoreCap { ra: 2, rs: 1 }, &Open);
     assert_eq!(rt; stored, Ok(Reply::Done));
+    assert!(rt; machine.memory().granules() > 256);
     assert!(rt; machine.memory().dirty(0));
     for (command, wanted) in SECOND {
         assert!(rt; command.is_valid());
