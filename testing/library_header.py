@@ -14,7 +14,10 @@ BEHIND_MACRO = re.compile(r"^#define KERNELSTINT_(\w+) \w+ /\* (.*) \*/$")
 BEHIND_MEMBER = re.compile(r"^    \w+ (\w+); +/\* (.*) \*/$|^    \w+ (\w+); /\* (.*) \*/$")
 ABOVE_MACRO = re.compile(r"^/\* (.*) \*/\n#define KERNELSTINT_(\w+) (?:\d+|0x[0-9a-f]+)u$", re.M)
 BASE = 0x40000000
-# The first number that is no kind of a command or of a step of a revoker.
+# The kinds of replies and the traps, of which the last ones are a revoker's; and the first number that is no kind of a command or of a
+# step of a revoker.
+REPLIES = [it.case for it in language_table.REPLIES] + ["Released"]
+TRAPS = [it.case for it in language_table.TRAPS] + ["Left"]
 NO_KIND = len(language_table.COMMANDS) + len(language_table.STEPS)
 # A state in which every command does something, and what a command doesn't use.
 READY = ("malloc c1 64", "malloc c2 32", "storecap c1 c2", "malloc c4 16", "free c4")
