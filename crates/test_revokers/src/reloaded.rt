@@ -63,11 +63,10 @@ fn pages_that_were_not_seen_are_visited_at_the_end(rt: HostRuntime) {
     let alloc = rt.alloc();
     let machine = machine_before_an_epoch(alloc).expect(&rt, "there is memory");
     let mut revoker = Reloaded::new(alloc, machine).expect(&rt, "there is memory");
+    let load = load(2);
+    assert!(rt; load.is_valid());
     assert_eq!(rt; revoker.start(), Some(1));
-    assert_eq!(rt;
-        revoker.step(&Alone, alloc, load(2)),
-        Ok(after_a_visit(0, 1))
-    );
+    assert_eq!(rt; revoker.step(&Alone, alloc, load), Ok(after_a_visit(0, 1)));
     let finished = Finished {
         cleared: 1,
         bytes: 32,
@@ -81,10 +80,7 @@ fn pages_that_were_not_seen_are_visited_at_the_end(rt: HostRuntime) {
     assert_eq!(rt; machine.held_bytes(), 0);
     // In the next epoch no page was seen.
     assert_eq!(rt; revoker.start(), Some(0));
-    assert_eq!(rt;
-        revoker.step(&Alone, alloc, load(2)),
-        Ok(after_a_visit(0, 0))
-    );
+    assert_eq!(rt; revoker.step(&Alone, alloc, load), Ok(after_a_visit(0, 0)));
 }
 
 #[test]
