@@ -24,6 +24,11 @@ use Rattle.heap_reply.specs.declared.reply.Reply.TheVariants.{Block, BlockAfter,
 use Rattle.heap_reply.specs.declared.reply.Trap.{Trap as TheTrap}
 use Rattle.trace_text.specs.declared.trace.Command.{Command}
 use Rattle.trace_text.specs.declared.trace.Command.TheVariants.{Malloc, Free, Copy, SetAddr, Narrow, AndPerm, StoreCap, LoadCap, Write, Show, Sweep, Begin, End}
+use Rattle.revoker_steps.specs.declared.command.RevokerCommand.{RevokerCommand}
+use Rattle.revoker_steps.specs.declared.command.RevokerCommand.TheVariants.{Paint, Release, UntagGranule, UntagRegister, Visit}
+use Rattle.revoker_steps.specs.declared.command.RevokerReply.{RevokerReply}
+use Rattle.revoker_steps.specs.declared.command.RevokerTrap.{RevokerTrap}
+use Rattle.revoker_steps.specs.Revoker.{RevokerStep, RevokerStepAfter, first_failed_check, revoker_checks}
 use Rattle.state_bytes.specs.State.{AreExact}
 
 -- A block's bounds can be held.
@@ -165,3 +170,16 @@ follows_after (Some trap) old c r new passed follows exact = same_heap new old f
 
 pub follows_exact : (old : State) (c : Command) (r : Reply) (new : State) → AreExact old.heap → Follows old c r new → AreExact new.heap
 follows_exact old c r new exact follows = follows_after (first_failed (checks old c)) old c r new refl follows exact
+
+-- ---- a revoker's steps
+
+revoked_after : (t : Option RevokerTrap) (old : State) (c : RevokerCommand) (r : RevokerReply) (new : State) → RevokerStepAfter t old c r new → AreExact old.heap → AreExact new.heap
+revoked_after (Some trap) old c r new step exact = same_heap new old step.1 exact
+revoked_after None old Paint r new step exact = same_heap new _ step.1 (exact_epoch old.heap exact)
+revoked_after None old (Visit page) r new step exact = same_heap new _ step.1 exact
+revoked_after None old (UntagGranule address) r new step exact = same_heap new _ step.1 exact
+revoked_after None old (UntagRegister register) r new step exact = same_heap new _ step.1 exact
+revoked_after None old Release r new step exact = same_heap new _ step.1 (exact_ended old.heap exact)
+
+pub revoked_exact : (old : State) (c : RevokerCommand) (r : RevokerReply) (new : State) → AreExact old.heap → RevokerStep old c r new → AreExact new.heap
+revoked_exact old c r new exact step = revoked_after (first_failed_check (revoker_checks old c)) old c r new step exact

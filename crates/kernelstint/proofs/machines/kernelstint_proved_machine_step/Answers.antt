@@ -1,8 +1,9 @@
 use Rattle.std.proofs.Common.{rules}
+use Rattle.kernelstint.specs.Machines.IsMachineStep.{does_command}
 use Rattle.kernelstint.proofs.machines.kernelstint_proved_machine_step.Goals as goal
 
 pub returns-in-Ok-clause-step : goal.returns-in-Ok-clause-step
-returns-in-Ok-clause-step c = λ _. record {
+returns-in-Ok-clause-step c = λ _. does_command (record {
   from = c.take-held.result.value;
   to = c.step_alone-answered.new.self;
   command = c.in-Some.command;
@@ -17,4 +18,4 @@ returns-in-Ok-clause-step c = λ _. record {
   revoked = search rules;
   exact = λ exact.
       c.exact_blocks_law.ensures.steps c.take-held.result.value.state c.in-Some.command c.in-Ok.told c.step_alone-answered.new.self.state (search rules) exact (search rules);
-}
+})
