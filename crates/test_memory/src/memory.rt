@@ -88,9 +88,9 @@ fn a_page_is_dirty_once_a_tagged_word_was_written(rt: HostRuntime) {
 #[test]
 fn a_page_loses_tags_and_is_clean(rt: HostRuntime) {
     let mut memory = Memory::new(rt.alloc(), 0x4000_0000, 2).expect(&rt, "there is memory");
-    for i in [3, 70, 300] {
-        memory.put(i, 7, true);
-    }
+    memory.put(3, 7, true);
+    memory.put(70, 7, true);
+    memory.put(300, 7, true);
     memory.clear_page_tags(0, &[1 << 3, 0, 0, 0]);
     assert_eq!(rt; (memory.cell(3), memory.cell(70)), ((7, false), (7, true)));
     assert!(rt; memory.may_hold_tags(0));
