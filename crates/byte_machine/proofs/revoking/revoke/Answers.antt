@@ -6,7 +6,7 @@ use Rattle.byte_machine.proofs.revoking.revoke.Goals as goal
 pub encode_into-requires : goal.encode_into-requires
 encode_into-requires c =
     let after : text_length (length c.revoke-reply.new.self.dirty) ≡ length c.args.state.now =
-        room_revoked c.in_ok-machine.machine.state c.args.command c.in_ok-machine.machine.dirty c.revoke-reply.new.self.dirty (length c.args.state.now) c.revoke-reply.ensures.dirty c.in_ok-machine.ensures.room in
+    room_revoked c.in_ok-machine.machine.state c.args.command c.in_ok-machine.machine.dirty c.revoke-reply.new.self.dirty (length c.args.state.now) c.revoke-reply.ensures.dirty c.in_ok-machine.ensures.room in
     record { room = omega (arith, c.if-out-state.false, after) }
 
 pub returns-clause-step : goal.returns-clause-step
