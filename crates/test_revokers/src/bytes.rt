@@ -215,8 +215,8 @@ fn rooms_and_states_of_a_revoker_are_judged(rt: HostRuntime) {
     let told = revoke(alloc, &none, RevokerCommand::Paint, &mut short);
     assert_eq!(rt; told, Err(CallFault::Room));
     assert!(rt; short.iter().all(|byte| *byte == 0x55));
-    let mut out = room(&rt, alloc);
-    let told = revoke(alloc, &short, RevokerCommand::Paint, &mut out[1..]);
+    let mut out = vec![in alloc; 0x55; LENGTH - 1].expect(&rt, "there is memory");
+    let told = revoke(alloc, &short, RevokerCommand::Paint, &mut out);
     assert_eq!(rt; told, Err(CallFault::State(BytesFault::Length)));
     assert!(rt; out.iter().all(|byte| *byte == 0x55));
 }
