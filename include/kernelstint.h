@@ -77,9 +77,9 @@ uint32_t kernelstint_version(void);
 #define KERNELSTINT_CODE_BAD_LINE 13u
 /* malloc answered null. */
 #define KERNELSTINT_CODE_NO_MEMORY 14u
-/* No kind of command has this number, a register is 32 or more, or a mask has more than 16 bits. */
+/* No kind of command has this number, a register is 32 or more, a mask has more than 16 bits, or a page more than 32. */
 #define KERNELSTINT_CODE_BAD_COMMAND 15u
-/* No kind of reply or no trap has this number, or a tag that is shown is above 1. */
+/* No kind of a command's reply and no trap of one has this number, or a tag that is shown is above 1. */
 #define KERNELSTINT_CODE_BAD_REPLY 16u
 /* The answer is not allowed. */
 #define KERNELSTINT_CODE_DIFFERS 17u
@@ -302,13 +302,19 @@ uint64_t kernelstint_alignment_mask(uint64_t length);
 #define KERNELSTINT_COMMAND_SWEEP 10 /* sweep */
 #define KERNELSTINT_COMMAND_BEGIN 11 /* begin */
 #define KERNELSTINT_COMMAND_END 12 /* end */
+/* The kinds of a revoker's own steps, which kernelstint_step and kernelstint_machine_step make beside commands. */
+#define KERNELSTINT_COMMAND_PAINT 13 /* paint: an epoch is open, and the blocks that waited are painted */
+#define KERNELSTINT_COMMAND_VISIT 14 /* visit number: a page, from 0, loses the tags of words whose base lies in a painted block */
+#define KERNELSTINT_COMMAND_UNTAG 15 /* untag number: the same of the granule at this address */
+#define KERNELSTINT_COMMAND_UNTAG_REGISTER 16 /* untag first: the same of a register */
+#define KERNELSTINT_COMMAND_RELEASE 17 /* release: the epoch is over, and the painted blocks are free */
 
 /* A command. The registers stand in the order of a trace's line; what a kind does not use is not looked at. */
 typedef struct kernelstint_command {
     uint8_t kind;
     uint8_t first;   /* a register */
     uint8_t second;  /* a register */
-    uint64_t number; /* a size, an address, a length or a mask */
+    uint64_t number; /* a size, an address, a length, a mask or a page */
     uint64_t low;    /* the first eight bytes of a write, little endian */
     uint64_t high;   /* the last eight */
 } kernelstint_command;
@@ -322,9 +328,10 @@ typedef struct kernelstint_command {
 #define KERNELSTINT_REPLY_DONE 5 /* done */
 #define KERNELSTINT_REPLY_CLEARED 6 /* done, and the tag was cleared, since this address would change the bounds */
 #define KERNELSTINT_REPLY_SWEPT 7 /* a sweep, or the end of an epoch: cleared, and bytes, how many were released by it */
-#define KERNELSTINT_REPLY_BEGUN 8 /* an epoch is open: cleared */
+#define KERNELSTINT_REPLY_BEGUN 8 /* an epoch is open, or a page, a granule or a register was looked at: cleared */
 #define KERNELSTINT_REPLY_SHOWN 9 /* a register: base, top, address, otype, perms, tag, exponent */
 #define KERNELSTINT_REPLY_TRAP 10 /* a trap: trap */
+#define KERNELSTINT_REPLY_RELEASED 11 /* a release: bytes, how many are free again */
 
 /* The traps. */
 #define KERNELSTINT_TRAP_TAG 0
@@ -337,6 +344,7 @@ typedef struct kernelstint_command {
 #define KERNELSTINT_TRAP_NOT_BLOCK 7
 #define KERNELSTINT_TRAP_OPEN 8
 #define KERNELSTINT_TRAP_NOT_OPEN 9
+#define KERNELSTINT_TRAP_LEFT 10 /* of a release: a tagged word has its base in a painted block */
 
 /* A reply; what its kind does not tell is 0. */
 typedef struct kernelstint_reply {
@@ -405,7 +413,8 @@ size_t kernelstint_state_length(uint32_t pages);
 uint32_t kernelstint_first(uint64_t base, uint32_t pages, uint8_t *out, size_t out_length);
 
 /*
- * Does a command in a state, and writes the state that it leaves to `out`, which is as long, and the reply. A trap is a reply.
+ * Does a command in a state, or makes a revoker's step, and writes the state that it leaves to `out`, which is as long, and the
+ * reply. A trap is a reply.
  * KERNELSTINT_CODE_BAD_COMMAND, KERNELSTINT_CODE_BAD_ROOM or KERNELSTINT_CODE_BAD_STATE.
  */
 uint32_t kernelstint_step(const uint8_t *state, size_t length, kernelstint_command command, uint8_t *out, size_t out_length,
@@ -414,7 +423,7 @@ uint32_t kernelstint_step(const uint8_t *state, size_t length, kernelstint_comma
 /*
  * Judges what an allocator answered to a command, which may place blocks as it likes. Where that is allowed, the state that it
  * leaves is written to `out`, which is as long as the state; else the answer is KERNELSTINT_CODE_DIFFERS, and the reason is
- * written to `why` alone. KERNELSTINT_CODE_BAD_COMMAND, KERNELSTINT_CODE_BAD_REPLY, KERNELSTINT_CODE_BAD_ROOM or
+ * written to `why` alone. KERNELSTINT_CODE_BAD_COMMAND, also for a revoker's step, KERNELSTINT_CODE_BAD_REPLY, KERNELSTINT_CODE_BAD_ROOM or
  * KERNELSTINT_CODE_BAD_STATE.
  */
 uint32_t kernelstint_follow(const uint8_t *state, size_t length, kernelstint_command command, kernelstint_reply answer,

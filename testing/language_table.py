@@ -43,11 +43,18 @@ def many(cell):
     return cell.split(", ") if cell else []
 
 
+def command_of(name, case, operands, traps, replies):
+    return Command(name, case, operands, many(traps), many(replies))
+
+
 # What a row of each section is.
 ROWS = {
-    "commands": lambda name, case, operands, traps, replies: Command(name, case, operands, many(traps), many(replies)),
+    "commands": command_of,
+    "steps": command_of,
     "replies": Reply,
     "traps": Named,
+    "step-replies": Reply,
+    "step-traps": Named,
     "permissions": lambda bit, name, letter: Permission(int(bit), name, letter),
     "faults": Named,
 }
@@ -66,7 +73,7 @@ def sections_of(text):
 
 
 SECTIONS = sections_of((ROOT / "language.txt").read_text(encoding="utf-8"))
-COMMANDS, REPLIES, TRAPS, PERMISSIONS, FAULTS = (SECTIONS[it] for it in ROWS)
+COMMANDS, STEPS, REPLIES, TRAPS, STEP_REPLIES, STEP_TRAPS, PERMISSIONS, FAULTS = (SECTIONS[it] for it in ROWS)
 
 
 def of_c(case):

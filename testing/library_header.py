@@ -14,6 +14,11 @@ BEHIND_MACRO = re.compile(r"^#define KERNELSTINT_(\w+) \w+ /\* (.*) \*/$")
 BEHIND_MEMBER = re.compile(r"^    \w+ (\w+); +/\* (.*) \*/$|^    \w+ (\w+); /\* (.*) \*/$")
 ABOVE_MACRO = re.compile(r"^/\* (.*) \*/\n#define KERNELSTINT_(\w+) (?:\d+|0x[0-9a-f]+)u$", re.M)
 BASE = 0x40000000
+# The kinds of replies and the traps, of which the last ones are a revoker's; and the first number that is no kind of a command or of a
+# step of a revoker.
+REPLIES = [it.case for it in language_table.REPLIES] + ["Released"]
+TRAPS = [it.case for it in language_table.TRAPS] + ["Left"]
+NO_KIND = len(language_table.COMMANDS) + len(language_table.STEPS)
 # A state in which every command does something, and what a command doesn't use.
 READY = ("malloc c1 64", "malloc c2 32", "storecap c1 c2", "malloc c4 16", "free c4")
 UNUSED = {"first": 255, "second": 255, "number": 2**64 - 1, "data": b"\xff" * 16}
@@ -41,7 +46,7 @@ class Rows:
     def __init__(self, library, without_memory):
         self.library, self.rows = library, {}
         self.row("CODE_NO_MEMORY", "malloc answered null.", without_memory, 14)
-        for part in (self.commands, self.replies, self.whys, self.codes, self.faults, self.permissions, self.words, self.members):
+        for part in (self.commands, self.steps, self.replies, self.whys, self.codes, self.faults, self.permissions, self.words, self.members):
             part()
 
     def row(self, name, words, told, wanted):
@@ -77,6 +82,28 @@ class Rows:
             by_line = state.step(line)
             self.row(f"COMMAND_{name}", words, done, [by_line, by_line])
 
+    def steps(self):
+        """A record is a revoker's step, whatever stands in what its kind doesn't use."""
+        it, kinds = self.library, self.library.CommandKind
+        paint, taken = it.Command(kinds.PAINT), it.Reply(it.ReplyKind.BEGUN, cleared=1)
+        # a word of the painted block in a register, and one in the first granule
+        stale = ("malloc c1 64", "malloc c2 32", "storecap c1 c2", "free c2", paint)
+        for name, words, lines, parts, answer in (
+            ("PAINT", "paint: an epoch is open, and the blocks that waited are painted", READY, {}, it.Reply(it.ReplyKind.DONE)),
+            ("VISIT", "visit number: a page, from 0, loses the tags of words whose base lies in a painted block", stale, {"number": 0}, taken),
+            ("UNTAG", "untag number: the same of the granule at this address", stale, {"number": BASE}, taken),
+            ("UNTAG_REGISTER", "untag first: the same of a register", stale, {"first": 2}, taken),
+            ("RELEASE", "release: the epoch is over, and the painted blocks are free", ("malloc c1 64", "free c1", "copy c1 c0", paint), {}, it.Reply(it.ReplyKind.RELEASED, bytes=64)),
+        ):
+            state = self.after(*lines)
+            done = [self.raised(lambda parts=them: state.step(it.Command(kinds[name], **parts))) for them in (parts, {**UNUSED, **parts})]
+            tags = len(state.tags) - len(done[0][0].tags)
+            self.row(f"COMMAND_{name}", words, [done[0] == done[1], done[0][1], tags], [True, answer, answer.cleared])
+        left = self.after(*stale).step(it.Command(kinds.RELEASE))[1]
+        self.row("TRAP_LEFT", "of a release: a tagged word has its base in a painted block", left, it.Reply(it.ReplyKind.TRAP, trap=it.Trap.LEFT))
+        gone = self.after("malloc c1 16", "malloc c2 48", "free c2", "copy c2 c0", paint).step(it.Command(kinds.RELEASE))[1]
+        self.row("REPLY_RELEASED", "a release: bytes, how many are free again", gone, it.Reply(it.ReplyKind.RELEASED, bytes=48))
+
     def replies(self):
         """A command is answered by a record of the kind that tells this, and nothing else."""
         full = ("malloc c1 4096", "copy c2 c1")
@@ -89,7 +116,7 @@ class Rows:
             ("DONE", "done", READY, "copy c3 c1", {}),
             ("CLEARED", "done, and the tag was cleared, since this address would change the bounds", READY, "setaddr c3 c1 0", {}),
             ("SWEPT", "a sweep, or the end of an epoch: cleared, and bytes, how many were released by it", ("malloc c1 16", "free c1", "sweep", "malloc c1 16", "malloc c2 48", "copy c3 c2", "free c2"), "sweep", {"cleared": 2, "bytes": 48}),
-            ("BEGUN", "an epoch is open: cleared", ("malloc c1 16", "storecap c1 c1", "free c1"), "begin", {"cleared": 1}),
+            ("BEGUN", "an epoch is open, or a page, a granule or a register was looked at: cleared", ("malloc c1 16", "storecap c1 c1", "free c1"), "begin", {"cleared": 1}),
             ("SHOWN", "a register: base, top, address, otype, perms, tag, exponent", ("malloc c1 20",), "show c1", SHOWN),
             ("TRAP", "a trap: trap", ("malloc c1 20", "free c1"), "free c1", {"trap": self.library.Trap.FREED}),
         ):
@@ -144,9 +171,9 @@ class Rows:
             ("BAD_ADDRESS", "No granule starts at the address.", lambda: state.granule(BASE + 8), lambda: state.granule(BASE + 4096), lambda: state.granule(BASE - 16)),
             ("PASSED_OVER", "The line has no word, or is a comment.", lambda: state.step(" "), lambda: state.step("# show c0")),
             ("BAD_LINE", "The line is no command.", lambda: state.step("heap 0 1"), lambda: state.step("show c32")),
-            ("BAD_COMMAND", "No kind of command has this number, a register is 32 or more, or a mask has more than 16 bits.",
-             lambda: state.step(it.Command(len(language_table.COMMANDS))), lambda: state.step(it.Command(it.CommandKind.FREE, 32)), lambda: state.step(it.Command(it.CommandKind.ANDPERM, 1, 1, 1 << 16))),
-            ("BAD_REPLY", "No kind of reply or no trap has this number, or a tag that is shown is above 1.",
+            ("BAD_COMMAND", "No kind of command has this number, a register is 32 or more, a mask has more than 16 bits, or a page more than 32.",
+             lambda: state.step(it.Command(NO_KIND)), lambda: state.step(it.Command(it.CommandKind.VISIT, number=1 << 32)), lambda: state.step(it.Command(it.CommandKind.UNTAG_REGISTER, 32)), lambda: state.step(it.Command(it.CommandKind.FREE, 32)), lambda: state.step(it.Command(it.CommandKind.ANDPERM, 1, 1, 1 << 16))),
+            ("BAD_REPLY", "No kind of a command's reply and no trap of one has this number, or a tag that is shown is above 1.",
              lambda: state.follow(malloc, it.Reply(len(language_table.REPLIES))), lambda: state.follow(malloc, it.Reply(it.ReplyKind.TRAP, trap=len(language_table.TRAPS))), lambda: state.follow(malloc, it.Reply(it.ReplyKind.SHOWN, tag=2))),
             ("DIFFERS", "The answer is not allowed.", lambda: state.follow(malloc, block._replace(base=BASE + 8))),
             ("BAD_TRACE", "The text is no trace.", lambda: it.run("show c0"), lambda: it.states("")),
@@ -262,7 +289,7 @@ class Rows:
         halves = it._passed_command(it.Command(it.CommandKind.WRITE, 1, data=DATA))
         self.row("command.first", "a register", self.code_of(first=32), "BadCommand")
         self.row("command.second", "a register", self.code_of(second=32), "BadCommand")
-        self.row("command.number", "a size, an address, a length or a mask", self.code_of(number=1 << 16), "BadCommand")
+        self.row("command.number", "a size, an address, a length, a mask or a page", self.code_of(number=1 << 16), "BadCommand")
         self.row("command.low", "the first eight bytes of a write, little endian", (halves.low, write.granule(BASE).word.address), (int.from_bytes(DATA[:8], "little"),) * 2)
         self.row("command.high", "the last eight", (halves.high, write.granule(BASE).word.bits >> 64), (int.from_bytes(DATA[8:], "little"),) * 2)
 

@@ -12,7 +12,7 @@
 #include <stdlib.h>
 #include <string.h>
 
-enum { MOST_PAGES = 3, MOST_BYTES = 557 + 5377 * MOST_PAGES, GUARD = 64, UNWRITTEN = 0xa5, STEPS = 40, STEPS_A_TURN = 8, REGISTERS = 5, KINDS = 13, REPLIES = 11, TRAPS = 10 };
+enum { MOST_PAGES = 3, MOST_BYTES = 557 + 5377 * MOST_PAGES, GUARD = 64, UNWRITTEN = 0xa5, STEPS = 40, STEPS_A_TURN = 8, REGISTERS = 5, KINDS = 13, REPLIES = 12, TRAPS = 11 };
 
 static unsigned long trace_number, step_number;
 
@@ -197,12 +197,13 @@ static void try_counts(const room *state) {
 
 static const char *const names[KINDS] = {"malloc", "free", "copy", "setaddr", "narrow", "andperm", "storecap", "loadcap", "write", "show", "sweep", "begin", "end"};
 
-/* Kinds of commands, as often as they come. */
+/* Kinds of commands and of a revoker's steps, as often as they come. */
 static const uint8_t often[] = {
     KERNELSTINT_COMMAND_MALLOC, KERNELSTINT_COMMAND_MALLOC, KERNELSTINT_COMMAND_MALLOC, KERNELSTINT_COMMAND_MALLOC, KERNELSTINT_COMMAND_MALLOC, KERNELSTINT_COMMAND_MALLOC, KERNELSTINT_COMMAND_FREE, KERNELSTINT_COMMAND_FREE,
     KERNELSTINT_COMMAND_FREE, KERNELSTINT_COMMAND_FREE, KERNELSTINT_COMMAND_COPY, KERNELSTINT_COMMAND_COPY, KERNELSTINT_COMMAND_SETADDR, KERNELSTINT_COMMAND_SETADDR, KERNELSTINT_COMMAND_NARROW, KERNELSTINT_COMMAND_NARROW, KERNELSTINT_COMMAND_NARROW,
     KERNELSTINT_COMMAND_ANDPERM, KERNELSTINT_COMMAND_STORECAP, KERNELSTINT_COMMAND_STORECAP, KERNELSTINT_COMMAND_STORECAP, KERNELSTINT_COMMAND_STORECAP, KERNELSTINT_COMMAND_LOADCAP, KERNELSTINT_COMMAND_LOADCAP,
-    KERNELSTINT_COMMAND_WRITE, KERNELSTINT_COMMAND_SHOW, KERNELSTINT_COMMAND_SWEEP, KERNELSTINT_COMMAND_BEGIN, KERNELSTINT_COMMAND_END};
+    KERNELSTINT_COMMAND_WRITE, KERNELSTINT_COMMAND_SHOW, KERNELSTINT_COMMAND_SWEEP, KERNELSTINT_COMMAND_BEGIN, KERNELSTINT_COMMAND_END,
+    KERNELSTINT_COMMAND_PAINT, KERNELSTINT_COMMAND_VISIT, KERNELSTINT_COMMAND_UNTAG, KERNELSTINT_COMMAND_UNTAG_REGISTER, KERNELSTINT_COMMAND_RELEASE};
 
 /* Sizes and lengths: small ones, some of none, any within the heap, all of it, and any. */
 static uint64_t random_length(uint32_t pages) {
@@ -219,6 +220,8 @@ static uint64_t random_number(uint8_t kind, uint64_t base, uint32_t pages) {
     case KERNELSTINT_COMMAND_SETADDR: return below(8) == 0 ? any_number() : base + below(below(2) == 0 ? 320 : 4096 * pages) / 8 * 8;
     case KERNELSTINT_COMMAND_ANDPERM: return below(2) == 0 ? below(65536) : 65535 ^ 1u << below(6);
     case KERNELSTINT_COMMAND_NARROW: return below(2) == 0 ? below(4096 * pages) : random_length(pages);
+    case KERNELSTINT_COMMAND_VISIT: return below(8) == 0 ? (uint32_t)any_number() : below(pages);
+    case KERNELSTINT_COMMAND_UNTAG: return below(8) == 0 ? any_number() : base + below(320) / 8 * 8;
     default: return random_length(pages);
     }
 }
@@ -253,12 +256,13 @@ static void write_line(kernelstint_command it, char *line, size_t room_for) {
 
 /* ---- Steps ---- */
 
-/* The command's line leads where the command does. */
+/* The command's line leads where the command does. A revoker's step has none. */
 static void try_line(const room *state, kernelstint_command command, const room *after) {
     static room out;
     char line[100];
     uint8_t text[KERNELSTINT_LONGEST_REPLY];
     size_t count = 0;
+    if (command.kind >= KINDS) return;
     write_line(command, line, sizeof line);
     prepare(&out, state->length);
     uint32_t code = kernelstint_step_line(state->at, state->length, (const uint8_t *)line, strlen(line), out.at, out.length, text, sizeof text, &count);
@@ -273,7 +277,7 @@ static void try_follow(const room *state, kernelstint_command command, kernelsti
     prepare(&out, state->length);
     uint32_t code = kernelstint_follow(state->at, state->length, command, reply, out.at, out.length, &why);
     want_written_well(&out, code);
-    want(code == KERNELSTINT_CODE_DONE && is_same(&out, after), "the machine's own answer isn't allowed");
+    want(command.kind < KINDS ? code == KERNELSTINT_CODE_DONE && is_same(&out, after) : code == KERNELSTINT_CODE_BAD_COMMAND, "the machine's own answer isn't allowed");
 }
 
 /* Does a command in a state, which becomes the state after it. */

@@ -53,7 +53,7 @@ free c3"""
 FALSE_TEXTS = (
     "", " ", "junk", "block", "block 0x1", "block 0x1 0x2 junk", "block 0x1 0x2 swept", "block 0x1 0x2 swept 1 2", "block 1 2", "block 0x01 0x2",
     "block 0x1 0X2", "block 0xA 0xB", "block  0x1 0x2", "block 0x1 0x2 ", "block 0x1 0x2\n", "nospace 1", "nospace swept", "held", "held 0x10", "held 010", "held -1",
-    "held 1 2", "held \u0663", f"held {2**64}", "ok 1", "okay", "cleared 1 2", "cleared 1 released", "cleared x released 2", "trap", "trap none", "trap tag tag",
+    "held 1 2", "held \u0663", f"held {2**64}", "ok 1", "okay", "cleared 1 2", "cleared 1 released", "cleared x released 2", "released", "released 1 2", "trap", "trap none", "trap tag tag",
     "tag 2 address 0x0 base 0x0 top 0x0 perms 0x0 type 0x0 exponent 0", "tag 1", "tag 1 address 0x0", "address 0x0 tag 1",
     "tag 1 address 0x0 base 0x0 top 0x0 perms 0x0 type 0x0 exponent 0 junk 0", "tag 1 address 0x0 base 0x0 top 0x0 perms 0x0 type 0x0",
 )  # fmt: skip
@@ -321,11 +321,13 @@ def raised_by(call, given, is_placed=False):
 
 def read_back(tests, library):
     """Each reply's text is read back as that reply."""
-    state, tried = library.State.first(0x40000000, 1), set()
-    for line in REPLIES.splitlines():
-        state, reply = state.step(line)
-        tests.expect(library.Reply.of_text(reply.text) == reply, f"{reply.text} is read as another reply")
-        tried.add(reply.kind)
+    tried = set()
+    for steps in (REPLIES.splitlines(), [library.Command(library.CommandKind[it]) for it in ("PAINT", "VISIT", "RELEASE", "RELEASE")]):
+        state = library.State.first(0x40000000, 1)
+        for step in steps:
+            state, reply = state.step(step)
+            tests.expect(library.Reply.of_text(reply.text) == reply, f"{reply.text} is read as another reply")
+            tried.add(reply.kind)
     tests.expect(tried == {*library.ReplyKind}, f"only {tried} were read")
 
 

@@ -13,7 +13,7 @@ from typing import NamedTuple
 sys.dont_write_bytecode = True
 
 from log_state import NULL, State, is_exact, overlapping, word_of_data
-from log_words import Fault, read_log, read_trace, with_answers
+from log_words import REVOKER, Fault, read_log, read_trace, with_answers
 
 AGREES, FAULTY, WRONG = 0, 3, 5
 # So many of the words that are due are told.
@@ -129,6 +129,8 @@ def wrong_with_one(name, due, right, answer):
     kind is told of, they may be told or not."""
     reason = but_said(f"the answer must be {right}", answer)
     right_tags, tags = told_tags(right), told_tags(answer)
+    if right == "trap left":
+        return [(reason, due)]
     if name not in PASSES or not right_tags:
         return [(reason, None)]
     if not tags or tags[1] != right_tags[1]:
@@ -159,7 +161,7 @@ def follow(state, event):
         if not wrong:
             do_malloc(state, event.operands[0], event.answer)
         return wrong
-    due = state.due_in(event.name) if event.name in PASSES else []
+    due = state.due(state.painted) if event.name == "release" else state.due_in(event.name) if event.name in PASSES else []
     right, answer = state.does(event.line, event.name, event.operands), " ".join(event.answer)
     return [] if right == answer else wrong_with_one(event.name, due, right, answer)
 
@@ -242,11 +244,13 @@ def told_due(state, due):
 
 def tally(log):
     """What the answers of a log that agrees come to."""
-    answers = [" ".join(it.answer) for it in log.events if it.name != "granule"]
-    blocks = sum(it.startswith("block ") for it in answers)
-    passes = [it for it in answers if re.search("swept|cleared [0-9]", it)]
-    tags = sum(int(re.search("(swept|cleared) ([0-9]+)", it)[2]) for it in passes)
-    told = [counted(len(answers), "command"), counted(blocks, "block") + " handed out", counted(len(passes), "pass", "passes"), counted(tags, "tag") + " taken"]
+    answers = [(it.name, " ".join(it.answer)) for it in log.events if it.name != "granule"]
+    blocks = sum(answer.startswith("block ") for _, answer in answers)
+    took = [(name, int(found[2])) for name, answer in answers if (found := re.search("(swept|cleared) ([0-9]+)", answer))]
+    # A pass in a revoker's own steps is that of its epoch.
+    passes = sum(name not in REVOKER for name, _ in took) + answers.count(("paint", "ok"))
+    tags = sum(count for _, count in took)
+    told = [counted(len(answers), "command"), counted(blocks, "block") + " handed out", counted(passes, "pass", "passes"), counted(tags, "tag") + " taken"]
     return f"agrees {', '.join(told)}\n"
 
 

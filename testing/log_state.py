@@ -198,6 +198,44 @@ class State:
         self.painted, self.is_open = {}, False
         return f"cleared {taken} released {released}"
 
+    # ---- a revoker's own steps
+
+    def paint(self):
+        if self.is_open:
+            return "trap open"
+        self.painted, self.waiting, self.is_open = self.waiting, {}, True
+        return "ok"
+
+    def untagged(self, is_meant):
+        """Takes the tags that are due in the granules and registers that are meant."""
+        return f"cleared {self.take([it for it in self.due(self.painted) if is_meant(it)])}"
+
+    def visit(self, page):
+        first = self.base + 4096 * page
+        if not self.is_open:
+            return "trap notopen"
+        if first >= self.top:
+            return "trap bounds"
+        return self.untagged(lambda place: place[0] == "granule" and first <= place[1] < first + 4096)
+
+    def untag(self, meant):
+        kind, number = meant
+        if not self.is_open:
+            return "trap notopen"
+        if kind == "granule" and not self.base <= number < self.top:
+            return "trap bounds"
+        if kind == "granule" and number % 16:
+            return "trap align"
+        return self.untagged(lambda place: place == meant)
+
+    def release(self):
+        if not self.is_open:
+            return "trap notopen"
+        if self.due(self.painted):
+            return "trap left"
+        released, self.painted, self.is_open = bytes_in(self.painted), {}, False
+        return f"released {released}"
+
     # ---- blocks
 
     def hand_out(self, register, base, top):

@@ -89,6 +89,18 @@ def mask_in(word):
     raise Lack("bad-number")
 
 
+def page_in(word):
+    page = number_in(word)
+    if page < 2**32:
+        return page
+    raise Lack("bad-number")
+
+
+def place_in(word):
+    """What a revoker takes a tag of: a register or the granule at an address."""
+    return ("register", register_in(word)) if word.startswith("c") else ("granule", number_in(word))
+
+
 def data_in(word):
     if re.fullmatch("[0-9a-fA-F]{32}", word):
         return bytes.fromhex(word)
@@ -122,7 +134,9 @@ COMMANDS = {
     "begin": (),
     "end": (),
 }
-ASKED = {**COMMANDS, "granule": (number_in,)}
+# A revoker's own steps, which no trace has.
+REVOKER = {"paint": (), "visit": (page_in,), "untag": (place_in,), "release": ()}
+ASKED = {**COMMANDS, **REVOKER, "granule": (number_in,)}
 GIVEN = {
     "live": (number_in, top_in),
     "waiting": (number_in, top_in),
@@ -146,6 +160,8 @@ ANSWERS = [
 ]
 TRAPS = ["tag", "perm", "bounds", "align", "empty", "inexact", "freed", "notblock", "open", "notopen"]
 FORMS = [it.split() for it in ANSWERS] + [["trap", it] for it in TRAPS]
+REVOKER_TRAPS = ["open", "notopen", "bounds", "align", "left"]
+REVOKER_FORMS = [["ok"], ["cleared", "D32"], ["released", "D64"]] + [["trap", it] for it in REVOKER_TRAPS]
 HEXADECIMAL, DECIMAL = re.compile("0x(0|[1-9a-f][0-9a-f]{0,31})"), re.compile("0|[1-9][0-9]{0,19}")
 NUMBERS = {f"X{bits}": (HEXADECIMAL, 16, 2**bits) for bits in (16, 32, 64, 128)}
 NUMBERS |= {f"D{bits}": (DECIMAL, 10, 2**bits) for bits in (1, 8, 32, 64)}
@@ -159,8 +175,9 @@ def is_written(word, form):
     return bool(digits.fullmatch(word)) and int(word, radix) < limit
 
 
-def is_answer(words):
-    return any(len(words) == len(form) and words[0] == form[0] and all(map(is_written, words, form)) for form in FORMS)
+def is_answer(name, words):
+    forms = REVOKER_FORMS if name in REVOKER else FORMS
+    return any(len(words) == len(form) and words[0] == form[0] and all(map(is_written, words, form)) for form in forms)
 
 
 def read(words, forms):
@@ -188,7 +205,7 @@ def read_event(words):
             return words[0], operands, [tag_in(told[0]), data_in(told[1])]
         except Lack:
             pass
-    elif words[0] != "granule" and is_answer(told):
+    elif words[0] != "granule" and is_answer(words[0], told):
         return words[0], operands, told
     raise Lack("bad-answer")
 

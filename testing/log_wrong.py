@@ -29,6 +29,8 @@ FAULTY_LINES = [
     ("sweep 1", "bad-count"), ("sweep 1 -> nothing", "bad-count"), ("sweeps ->", "bad-command"), ("heap 0x40000000 1 -> ok", "bad-command"),
     ("granule c1 -> 2", "bad-number"), ("granule -> 0", "bad-count"), ("granule 0x40000000 1 ->", "bad-count"), ("-> ok", "bad-command"), ("-> ->", "bad-command"),
     ("andperm c1 c1 65536 -> ok", "bad-number"), ("setaddr c1 c01 0 -> ok", "bad-register"), ("free c1->held 16", "bad-count"), ("free c1 -> held 16 -> ok", "bad-answer"),
+    ("paint 1 -> ok", "bad-count"), ("visit c1 -> ok", "bad-number"), ("visit 4294967296 -> cleared 0", "bad-number"), ("untag c32 -> cleared 0", "bad-register"),
+    ("untag x -> cleared 0", "bad-number"), ("release -> cleared 0 released 0", "bad-answer"), ("free c1 -> trap left", "bad-answer"), ("paint -> trap tag", "bad-answer"),
     ("sweep", "bad-answer"), ("sweep ->", "bad-answer"), ("granule 0x40000000", "bad-answer"), ("given epoch", "bad-command"),
 ]  # fmt: skip
 # What no granule holds, and first lines that are no heap.
@@ -149,10 +151,10 @@ def shown_answers(words):
 def one_answers(event):
     """Other answers of a command that has one."""
     answer = " ".join(event.answer)
-    for name in TRAPS:
+    for name in (*TRAPS, "left"):
         if answer != f"trap {name}":
             yield "another trap" if event.answer[0] == "trap" else "a trap", f"trap {name}", True
-    for other in ("ok", "cleared", "held 32", "nospace", "cleared 1 released 16", "cleared 1", "block 0x40000000 0x40000010"):
+    for other in ("ok", "cleared", "held 32", "nospace", "cleared 1 released 16", "cleared 1", "released 16", "block 0x40000000 0x40000010"):
         if other != answer:
             yield "the answer of another command", other, True
     if event.answer[0] == "tag":
@@ -187,7 +189,7 @@ def other_lines(event, state, line, chance):
     asked, answer = line.partition(" -> ")[0], " ".join(event.answer)
     answers = malloc_answers(event, state) if event.name == "malloc" else one_answers(event)
     for what, other, is_wrong in (*answers, *number_answers(answer)):
-        if is_answer(other.split()):
+        if is_answer(event.name, other.split()):
             yield what, f"{asked} -> {other}", is_wrong
     if event.name == "malloc" and event.answer[0] == "block":
         length = int(event.answer[2], 16) - int(event.answer[1], 16)

@@ -67,7 +67,7 @@ class Tests(page_long.LongTests):
         return subprocess.run([self.root / "heap_states"], input=raw, stdout=subprocess.PIPE, check=True).stdout.decode()
 
     def lessons(self):
-        return sorted(path for path in (self.root / "examples").glob("lesson_*") if not (path / "status").exists())
+        return sorted(path for path in (self.root / "examples").glob("lesson_*") if not (path / "program").exists())
 
     def open(self, path, **more):
         self.browser.open(path, **more)

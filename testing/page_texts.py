@@ -74,7 +74,7 @@ def sources(root, examples):
     for name in ("page.html", "viewer.html", "playground.html"):
         texts[name] = Markup((page / name).read_text()).texts
     texts["../heap_page"] = of_heap_page((root / "heap_page").read_text())
-    lessons = sorted(path.name.removeprefix("lesson_") for path in examples.glob("lesson_*") if not (path / "status").exists())
+    lessons = sorted(path.name.removeprefix("lesson_") for path in examples.glob("lesson_*") if not (path / "program").exists())
     texts["../examples"] = [name[0].upper() + name[1:].replace("_", " ") for name in lessons]
     texts["playground/tasks.txt"] = [text for row in (page / "playground/tasks.txt").read_text().splitlines() for text in row.split("\t")[1:]]
     # The third field is a goal, whose conditions stay as they are.

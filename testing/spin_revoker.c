@@ -1,5 +1,5 @@
-/* Holds the steps of examples/spin/revoker.h to the proved library, by what is proved of both: a paint and visits of all pages, in any order
- * and more than once, are a `begin` but for the marks of pages; visits of all pages, untags of all registers and a release are an `end`; a
+/* Holds the library's steps of a revoker, as examples/spin/revoker.h calls them, to what is proved of them together: a paint and visits of all pages, in any order
+ * and more than once, are a `begin`, and visits of all pages, untags of all registers and a release are an `end`, both but for the marks of pages; a
  * visit is the untags of its granules. Random states, from the seed that is given; the last line says how many, and how many tags were taken. */
 #include "revoker.h"
 
@@ -67,10 +67,11 @@ int main(int count, char **words) {
             } else {
                 revoker_paint(kept);
                 visit_all(kept);
-                memset(kept + HEAP_KEPT - HEAP_PAGES, 0, HEAP_PAGES);
                 if (!heap_step(proved, KERNELSTINT_COMMAND_BEGIN, 0, 0, 0)) return 4;
                 begins++;
             }
+            memset(kept + HEAP_KEPT - HEAP_PAGES, 0, HEAP_PAGES);
+            memset(proved + HEAP_KEPT - HEAP_PAGES, 0, HEAP_PAGES);
             taken -= tags_in(kept);
             if (!is_same(kept, proved)) {
                 printf("run %u, step %u: another state than that of the library\n", run, step);

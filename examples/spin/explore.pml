@@ -1,7 +1,7 @@
 /*
  * What the commands of an alphabet can do to a heap of one page: SPIN chooses each next command, the proved library does it, and
- * safe reuse is asserted of every block that is handed out. How deep, `pan -m` says. ALPHABET is one of 1 to 7; 7 is 4 with blocks
- * of which two fill the heap, so that memory runs out.
+ * safe reuse is asserted of every block that is handed out. How deep, `pan -m` says. ALPHABET is one of 1 to 8; 7 is 4 with blocks
+ * of which two fill the heap, so that memory runs out, and 8 has a revoker's own steps in place of the sweep.
  */
 #ifndef ALPHABET
 #define ALPHABET 1
@@ -28,7 +28,14 @@ active proctype program() {
     do
     :: COMMAND(KERNELSTINT_COMMAND_MALLOC, 1, 0, SIZE)
     :: COMMAND(KERNELSTINT_COMMAND_FREE, 1, 0, 0)
+#if ALPHABET == 8
+    :: COMMAND(KERNELSTINT_COMMAND_PAINT, 0, 0, 0)
+    :: COMMAND(KERNELSTINT_COMMAND_VISIT, 0, 0, 0)
+    :: COMMAND(KERNELSTINT_COMMAND_UNTAG_REGISTER, 1, 0, 0)
+    :: COMMAND(KERNELSTINT_COMMAND_RELEASE, 0, 0, 0)
+#else
     :: COMMAND(KERNELSTINT_COMMAND_SWEEP, 0, 0, 0)
+#endif
 #if ALPHABET == 2 || ALPHABET >= 4
     :: COMMAND(KERNELSTINT_COMMAND_COPY, 2, 1, 0)
 #endif

@@ -55,6 +55,12 @@ static void heap_print(kernelstint_command it) {
     case KERNELSTINT_COMMAND_SWEEP: printf("trace: sweep\n"); break;
     case KERNELSTINT_COMMAND_BEGIN: printf("trace: begin\n"); break;
     case KERNELSTINT_COMMAND_END: printf("trace: end\n"); break;
+    /* A trace has no revoker: its steps are comments there. */
+    case KERNELSTINT_COMMAND_PAINT: printf("trace: # paint\n"); break;
+    case KERNELSTINT_COMMAND_VISIT: printf("trace: # visit %" PRIu64 "\n", it.number); break;
+    case KERNELSTINT_COMMAND_UNTAG: printf("trace: # untag 0x%" PRIx64 "\n", it.number); break;
+    case KERNELSTINT_COMMAND_UNTAG_REGISTER: printf("trace: # untag c%d\n", it.first); break;
+    case KERNELSTINT_COMMAND_RELEASE: printf("trace: # release\n"); break;
     default:
         fflush(stdout);
         fprintf(stderr, "heap.h: a command of the kind %d has no line of a trace\n", it.kind);

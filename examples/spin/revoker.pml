@@ -8,7 +8,7 @@
  * granule by granule, with commands of the program between. -DWRONG=N, a revoker that is wrong:
  * 1 a page is made clean after it was looked at; 2 registers are taken first and never again; 3 the page is looked at after the load;
  * 4 the page of the capability's base is looked at, and not the one that is read; 5 a page into which nothing was stored is forgotten.
- * Asserted is that what is released leaves a state, and of Reloaded that no register is tagged with its base in a painted block.
+ * Asserted is that the release is done, and of Reloaded that no register is tagged with its base in a painted block.
  */
 c_decl {
 \#include "revoker.h"

@@ -180,21 +180,23 @@ class Permission(_enum.IntFlag, metaclass=_OwnMembers):
 
 
 class CommandKind(_enum.IntEnum, metaclass=_OwnMembers):
-    """The kinds of commands."""
+    """The kinds of commands, and those of a revoker's own steps: a page is visited, or a granule or a register loses its tag, where
+    the word's base lies in a painted block."""
 
     MALLOC, FREE, COPY, SETADDR, NARROW, ANDPERM, STORECAP, LOADCAP, WRITE, SHOW, SWEEP, BEGIN, END = range(13)
+    PAINT, VISIT, UNTAG, UNTAG_REGISTER, RELEASE = range(13, 18)
 
 
 class ReplyKind(_enum.IntEnum, metaclass=_OwnMembers):
     """The kinds of replies."""
 
-    BLOCK, BLOCK_AFTER, NO_SPACE, NO_SPACE_AFTER, HELD, DONE, CLEARED, SWEPT, BEGUN, SHOWN, TRAP = range(11)
+    BLOCK, BLOCK_AFTER, NO_SPACE, NO_SPACE_AFTER, HELD, DONE, CLEARED, SWEPT, BEGUN, SHOWN, TRAP, RELEASED = range(12)
 
 
 class Trap(_enum.IntEnum, metaclass=_OwnMembers):
     """The traps."""
 
-    TAG, PERM, BOUNDS, ALIGN, EMPTY, INEXACT, FREED, NOT_BLOCK, OPEN, NOT_OPEN = range(10)
+    TAG, PERM, BOUNDS, ALIGN, EMPTY, INEXACT, FREED, NOT_BLOCK, OPEN, NOT_OPEN, LEFT = range(11)
 
 
 class WhyKind(_enum.IntEnum, metaclass=_OwnMembers):
@@ -216,8 +218,8 @@ class BlockKind(_enum.IntEnum, metaclass=_OwnMembers):
 
 
 class Command(_NamedTuple):
-    """A command: registers in the order of a trace's line, `number` as its size, address, length or mask, and the 16 bytes of a
-    write. What a kind does not use may have any value of its type."""
+    """A command: registers in the order of a trace's line, `number` as its size, address, length, mask or page, and the 16
+    bytes of a write. What a kind does not use may have any value of its type."""
 
     kind: CommandKind
     first: int = 0
@@ -255,7 +257,7 @@ class Reply(_NamedTuple):
             ReplyKind.BLOCK: block, ReplyKind.BLOCK_AFTER: f"{block} swept {self.cleared}", ReplyKind.NO_SPACE: "nospace",
             ReplyKind.NO_SPACE_AFTER: f"nospace swept {self.cleared}", ReplyKind.HELD: f"held {self.bytes}", ReplyKind.DONE: "ok",
             ReplyKind.CLEARED: "cleared", ReplyKind.SWEPT: f"cleared {self.cleared} released {self.bytes}",
-            ReplyKind.BEGUN: f"cleared {self.cleared}", ReplyKind.SHOWN: shown,
+            ReplyKind.BEGUN: f"cleared {self.cleared}", ReplyKind.SHOWN: shown, ReplyKind.RELEASED: f"released {self.bytes}",
         }[self.kind]  # fmt: skip
 
     @classmethod
@@ -295,12 +297,12 @@ _TRAP_NAMES = [it.name.lower().replace("_", "") for it in Trap]
 _KINDS = {
     ("block", 2): ReplyKind.BLOCK, ("block", 3): ReplyKind.BLOCK_AFTER, ("nospace", 0): ReplyKind.NO_SPACE,
     ("nospace", 1): ReplyKind.NO_SPACE_AFTER, ("held", 1): ReplyKind.HELD, ("ok", 0): ReplyKind.DONE,
-    ("cleared", 0): ReplyKind.CLEARED, ("cleared", 2): ReplyKind.SWEPT, ("cleared", 1): ReplyKind.BEGUN,
+    ("cleared", 0): ReplyKind.CLEARED, ("cleared", 2): ReplyKind.SWEPT, ("cleared", 1): ReplyKind.BEGUN, ("released", 1): ReplyKind.RELEASED,
 }  # fmt: skip
 _TOLD: dict[ReplyKind, tuple[str, ...]] = {
     ReplyKind.BLOCK: ("base", "top"), ReplyKind.BLOCK_AFTER: ("base", "top", "cleared"), ReplyKind.NO_SPACE: (),
     ReplyKind.NO_SPACE_AFTER: ("cleared",), ReplyKind.HELD: ("bytes",), ReplyKind.DONE: (), ReplyKind.CLEARED: (),
-    ReplyKind.SWEPT: ("cleared", "bytes"), ReplyKind.BEGUN: ("cleared",),
+    ReplyKind.SWEPT: ("cleared", "bytes"), ReplyKind.BEGUN: ("cleared",), ReplyKind.RELEASED: ("bytes",),
 }  # fmt: skip
 
 

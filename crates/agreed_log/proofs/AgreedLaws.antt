@@ -1,8 +1,7 @@
 -- Lines that agree, one after another.
-use Rattle.std.proofs.Common.{◌≡◌, ℕ, ◌+◌, ◌<◌, ◌^◌, List, [], ◌∷◌, ◌++◌, Option, None, Some, Result, Ok, Err, refl, sym, ap, subst, ◌∙◌, append_assoc, arith, IfSome, bytes_eq, true}
+use Rattle.std.proofs.Common.{◌≡◌, ℕ, ◌+◌, List, [], ◌∷◌, ◌++◌, Option, None, Some, Result, Ok, Err, refl, sym, ap, subst, ◌∙◌, append_assoc, IfSome, bytes_eq, true}
 use Rattle.std.specs.Option.{option_map}
 use Rattle.std.proofs.lemmas.List.{append-nil}
-use Rattle.std.proofs.lemmas.List.Sums.{sum_by_push}
 use Rattle.std.proofs.lemmas.Slice.Eq.{bytes_eq-Decides}
 use Rattle.trace_text.specs.declared.trace.Command.{Command}
 use Rattle.trace_text.specs.Lines.{lines_of, words_of}
@@ -13,7 +12,7 @@ use Rattle.log_text.specs.declared.event.Asked.{Asked}
 use Rattle.log_text.specs.declared.event.Asked.TheVariants as asked
 use Rattle.log_text.specs.declared.fault.LogFault.{LogFault}
 use Rattle.log_text.specs.declared.log.Event.{Event}
-use Rattle.log_text.specs.declared.log.Event.TheVariants.{Done, Seen}
+use Rattle.log_text.specs.declared.log.Event.TheVariants.{Done}
 use Rattle.log_text.specs.ReplyText.{FitsReply, IsReplyText, reply_in}
 use Rattle.log_text.specs.declared.log.Given.{Given}
 use Rattle.log_text.specs.declared.text.Start.{Start}
@@ -23,9 +22,10 @@ use Rattle.log_text.specs.Log.{Record, event_at, events_from, listed_event, log_
 use Rattle.machine_steps.specs.Follow.{Follows}
 use Rattle.machine_steps.specs.State.{State}
 use Rattle.heap_log.specs.declared.verdict.Tally.{Tally}
-use Rattle.heap_log.specs.Judged.{AllFollow, EventFollows, blocks_of_reply, of_event, one_of_reply, passes_of_reply, sum_over, tags_of_reply, tally_of}
-use Rattle.agreed_log.specs.Agreed.{AreFew, HaveAgreed, IsAgreed, IsAgreedLine, IsAnsweredEvent, LineFollows, after_events}
-use Rattle.agreed_log.specs.Counting.{Grows, HasRoom, tally_with, tally_with_event}
+use Rattle.heap_log.specs.Judged.{AllFollow, EventFollows, tally_of}
+use Rattle.agreed_log.specs.Agreed.{HaveAgreed, IsAgreed, IsAgreedLine, IsAnsweredEvent, LineFollows, after_events}
+use Rattle.heap_log.specs.Counting.{tally_with, tally_with_event}
+use Rattle.heap_log.specs.CountingLaws.{tally_push}
 
 -- ---- a line
 
@@ -60,47 +60,6 @@ IsAgreedLine-told line asked told old new before after (Some done) asks is = rec
   follows = (is.follows, is.tally_is);
 }
 IsAgreedLine-told line asked told old new before after None asks is = tt
-
--- ---- sums
-
-abbrev with_fields : ℕ → ℕ → ℕ → ℕ → Tally
-with_fields tags commands blocks passes = record { tags = tags; commands = commands; blocks = blocks; passes = passes }
-
-same_tally : (a b : Tally) → a.tags ≡ b.tags → a.commands ≡ b.commands → a.blocks ≡ b.blocks → a.passes ≡ b.passes → a ≡ b
-same_tally a b tags commands blocks passes =
-    ap (λ n. with_fields n a.commands a.blocks a.passes) tags ∙ ap (λ n. with_fields b.tags n a.blocks a.passes) commands
-    ∙ ap (λ n. with_fields b.tags b.commands n a.passes) blocks ∙ ap (λ n. with_fields b.tags b.commands b.blocks n) passes
-
-told_push : (told : Reply → ℕ) (events : List (ℕ × Event)) (number : ℕ) (event : Event) → sum_over told (events ++ (number, event) ∷ []) ≡ sum_over told events + of_event told event
-told_push told events number event = sum_by_push (λ (one : ℕ × Event). of_event told one.1) events (number, event)
-
-tally_push : (events : List (ℕ × Event)) (number : ℕ) (event : Event) → tally_with_event (tally_of events) event ≡ tally_of (events ++ (number, event) ∷ [])
-tally_push events number (Done command answer) =
-    let event = Done command answer in
-    same_tally (tally_with_event (tally_of events) event) (tally_of (events ++ (number, event) ∷ []))
-    (sym (told_push tags_of_reply events number event)) (sym (told_push one_of_reply events number event))
-    (sym (told_push blocks_of_reply events number event)) (sym (told_push passes_of_reply events number event))
-tally_push events number (Seen address tag bytes) =
-    let event = Seen address tag bytes in
-    same_tally (tally_of events) (tally_of (events ++ (number, event) ∷ []))
-    (omega (arith, told_push tags_of_reply events number event)) (omega (arith, told_push one_of_reply events number event))
-    (omega (arith, told_push blocks_of_reply events number event)) (omega (arith, told_push passes_of_reply events number event))
-
-pub HasRoom-few : (number : ℕ) (tally : Tally) → AreFew number tally → number + 1 < 2 ^ 32 → HasRoom tally
-HasRoom-few number tally few small = record {
-  tags = omega (arith, few.tags, small);
-  commands = omega (arith, few.commands, small);
-  blocks = omega (arith, few.blocks, small);
-  passes = omega (arith, few.passes, small);
-}
-
-pub AreFew-more : (number : ℕ) (before after : Tally) → AreFew number before → Grows before after → AreFew (number + 1) after
-AreFew-more number before after few grows = record {
-  tags = omega (arith, few.tags, grows.tags);
-  commands = omega (arith, few.commands, grows.commands);
-  blocks = omega (arith, few.blocks, grows.blocks);
-  passes = omega (arith, few.passes, grows.passes);
-}
 
 -- ---- lines
 

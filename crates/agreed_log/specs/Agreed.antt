@@ -1,5 +1,5 @@
 -- Which texts agree: they are logs whose given lines are safe and whose events all follow. And so of parts of a text.
-use Rattle.std.specs.Prelude.{◌≡◌, ℕ, ◌≤◌, ◌*◌, List, ◌++◌, Option, None, Some, Result, Ok}
+use Rattle.std.specs.Prelude.{◌≡◌, ℕ, List, ◌++◌, Option, None, Some, Result, Ok}
 use Rattle.trace_text.specs.Lines.{words_of}
 use Rattle.trace_text.specs.Reading.{◌>>=◌}
 use Rattle.log_text.specs.declared.event.Asked.{Asked}
@@ -10,7 +10,7 @@ use Rattle.given_state.specs.Given.{AreSafe, given_state}
 use Rattle.machine_steps.specs.State.{State}
 use Rattle.heap_log.specs.declared.verdict.Tally.{Tally}
 use Rattle.heap_log.specs.Judged.{AllFollow, EventFollows, tally_of}
-use Rattle.agreed_log.specs.Counting.{tally_with_event}
+use Rattle.heap_log.specs.Counting.{tally_with_event}
 
 -- ---- a whole text
 
@@ -55,10 +55,3 @@ pub record HaveAgreed (first : ℕ) (lines : List (List ℕ)) (next : ℕ) (rest
   pub reads : events_from first lines ≡ after_events events (events_from next rest)
   pub follow : AllFollow old events new
   pub tally_is : tally ≡ tally_of events
-
--- So many lines come to this at most.
-pub record AreFew (lines : ℕ) (tally : Tally) : Type 0 where
-  pub tags : tally.tags ≤ 4294967295 * lines
-  pub commands : tally.commands ≤ lines
-  pub blocks : tally.blocks ≤ lines
-  pub passes : tally.passes ≤ lines

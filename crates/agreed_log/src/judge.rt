@@ -6,13 +6,12 @@ ghost use Rattle.trace_text.specs.Lines.{lines_of};
 ghost use Rattle.log_text.specs.declared.event.Asked.TheVariants as told_asked;
 ghost use Rattle.log_text.specs.Log.{IsValidAsked};
 ghost use Rattle.machine_steps.specs.Safety.{IsSafe};
+ghost use Rattle.heap_log.specs.Counting.{Grows, HasRoom};
 ghost use Rattle.heap_log.specs.Judged.{tally_of};
 ghost use Rattle.agreed_log.specs.Agreed.{HaveAgreed, IsAgreedLine, IsAnsweredEvent};
-ghost use Rattle.agreed_log.specs.Counting.{Grows, HasRoom};
 
 use crate::comparing::says_reply;
-use crate::counting::{count, count_event};
-use heap_log::{Tally, follow_event};
+use heap_log::{Tally, count, count_event, follow_event};
 use heap_machine::{Machine, Stepper, any_placement_law};
 use heap_reply::ShortText;
 use host_memory::Global;
@@ -100,7 +99,7 @@ impl Judge {
         ensures safe { IsSafe self.new.machine.state }
     {
         match asked {
-            Asked::Granule(_) | Asked::Command(Command::Malloc { .. }) => {
+            Asked::Granule(_) | Asked::Revoker(_) | Asked::Command(Command::Malloc { .. }) => {
                 self.read(stepper, alloc, asked, told)
             }
             Asked::Command(command) => self.compare(stepper, alloc, command, told),

@@ -2,7 +2,6 @@
 #![tactic(auto)]
 
 mod comparing;
-mod counting;
 mod judge;
 mod text;
 

@@ -1,8 +1,8 @@
 -- Records of plain numbers, and what they tell.
 use Rattle.std.specs.Prelude.{◌≡◌, ◌+◌, ◌*◌, ◌/◌, ◌%◌, ◌^◌, ◌==◌, ℕ, Bool, true, false, Option, Some, None, nat_lt, if◌then◌else◌}
 use Rattle.cap_codec.specs.Bytes.{bits_of_bytes, bytes_of}
-use Rattle.heap_model.specs.declared.block.Claim.{Claim}
-use Rattle.heap_model.specs.declared.block.Claim.TheVariants as claim
+use Rattle.heap_model.specs.declared.block.Obstacle.{Obstacle}
+use Rattle.heap_model.specs.declared.block.Obstacle.TheVariants as obstacle
 use Rattle.machine_storage.specs.declared.followed.Why.{Why}
 use Rattle.machine_storage.specs.declared.followed.Why.TheVariants as why
 use Rattle.heap_reply.specs.declared.reply.Reply.{Reply}
@@ -221,15 +221,14 @@ refused_record claim = record (reason_record 5) { claim = claim }
 abbrev pub block_record : ℕ → ℕ → ℕ → WhyRecord
 block_record claim base top = record (refused_record claim) { base = base; top = low_half top; top_high = high_half top }
 
--- The record of a claim, with the block in the way where one is.
-abbrev pub record_of_claim : Claim → WhyRecord
-record_of_claim claim.Claimed = refused_record 0
-record_of_claim claim.Uneven = refused_record 1
-record_of_claim claim.Empty = refused_record 2
-record_of_claim claim.Outside = refused_record 3
-record_of_claim claim.Inexact = refused_record 4
-record_of_claim (claim.OverLive block) = block_record 5 block.base block.top
-record_of_claim (claim.OverHeld block) = block_record 6 block.base block.top
+-- The record of an obstacle, with the block in the way where one is.
+abbrev pub record_of_obstacle : Obstacle → WhyRecord
+record_of_obstacle obstacle.Uneven = refused_record 1
+record_of_obstacle obstacle.Empty = refused_record 2
+record_of_obstacle obstacle.Outside = refused_record 3
+record_of_obstacle obstacle.Inexact = refused_record 4
+record_of_obstacle (obstacle.OverLive block) = block_record 5 block.base block.top
+record_of_obstacle (obstacle.OverHeld block) = block_record 6 block.base block.top
 
 -- The record of a reason.
 abbrev pub record_of_why : Why → WhyRecord
@@ -238,7 +237,7 @@ record_of_why why.NotOfMalloc = reason_record 1
 record_of_why why.TooShort = reason_record 2
 record_of_why why.MayNotSweep = reason_record 3
 record_of_why (why.Takes count) = record (reason_record 4) { count = count }
-record_of_why (why.Refused claim) = record_of_claim claim
+record_of_why (why.Refused it) = record_of_obstacle it
 
 -- ---- faults of texts
 

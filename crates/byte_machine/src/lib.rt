@@ -11,6 +11,7 @@ mod looking;
 mod machines;
 mod reasons;
 mod replies;
+mod revoking;
 mod runs;
 mod stepping;
 
@@ -23,5 +24,6 @@ pub use crate::looking::{CountRecord, WordRecord, counts, granule, register};
 pub use crate::machines::{machine_in, put_state};
 pub use crate::reasons::{WhyRecord, why_record};
 pub use crate::replies::{ReplyRecord, reply_of, reply_record};
-pub use crate::runs::{put_all, run_report, run_states};
+pub use crate::revoking::{revoke, revoker_command_of, revoker_reply_record};
+pub use crate::runs::{run_report, run_states};
 pub use crate::stepping::{first, state_length, step};

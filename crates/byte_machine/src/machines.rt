@@ -11,17 +11,6 @@ use host_memory::Global;
 use state_bytes::{BytesFault, decode, encode_into, one_text_law, text_length};
 use sweep_pool::Cutting;
 
-// The most pages that a task has: a pass over up to 256 pages is one task.
-const TASK: u32 = 256;
-
-// One worker, which is the caller.
-pub fn alone() -> Cutting {
-    match Cutting::new(1, TASK) {
-        Ok(cutting) => cutting,
-        Err(_) => unreachable!(),
-    }
-}
-
 /// The machine of these bytes. Its passes are made by the calling thread.
 pub fn machine_in(alloc: Global, state: &[u8]) -> Result<Machine, CallFault>
     ensures told { IfOk result (λ machine. IsTextOf state.now machine) }
@@ -29,7 +18,7 @@ pub fn machine_in(alloc: Global, state: &[u8]) -> Result<Machine, CallFault>
     ensures fault { IfErr result (IsUnreadable state.now) }
 {
     one_text_law();
-    match decode(alloc, alone(), state) {
+    match decode(alloc, Cutting::alone(), state) {
         Ok(machine) => Ok(machine),
         Err(BytesFault::Memory) => Err(CallFault::Memory),
         Err(why) => Err(CallFault::State(why)),

@@ -5,7 +5,7 @@ ghost use Rattle.byte_machine.specs.Records as records;
 
 use crate::halves::{high_half, low_half};
 use crate::replies::{ReplyRecord, bare, reply_record};
-use heap_core::{Block, Claim};
+use heap_core::{Block, Obstacle};
 use heap_machine::Why;
 
 /// A reason in plain numbers. Kinds count from 0: must be `reply`, not of malloc, too short, may not sweep, takes `count`
@@ -54,17 +54,16 @@ fn in_the_way(claim: u8, block: Block) -> WhyRecord
     }
 }
 
-fn claim_record(claim: Claim) -> WhyRecord
-    ensures { result ≡ records.record_of_claim claim }
+fn obstacle_record(obstacle: Obstacle) -> WhyRecord
+    ensures { result ≡ records.record_of_obstacle obstacle }
 {
-    match claim {
-        Claim::Claimed => refusal_reason(0),
-        Claim::Uneven => refusal_reason(1),
-        Claim::Empty => refusal_reason(2),
-        Claim::Outside => refusal_reason(3),
-        Claim::Inexact => refusal_reason(4),
-        Claim::OverLive(block) => in_the_way(5, block),
-        Claim::OverHeld(block) => in_the_way(6, block),
+    match obstacle {
+        Obstacle::Uneven => refusal_reason(1),
+        Obstacle::Empty => refusal_reason(2),
+        Obstacle::Outside => refusal_reason(3),
+        Obstacle::Inexact => refusal_reason(4),
+        Obstacle::OverLive(block) => in_the_way(5, block),
+        Obstacle::OverHeld(block) => in_the_way(6, block),
     }
 }
 
@@ -81,6 +80,6 @@ pub fn why_record(why: Why) -> WhyRecord
         Why::TooShort => reason(2),
         Why::MayNotSweep => reason(3),
         Why::Takes(count) => WhyRecord { count, ..reason(4) },
-        Why::Refused(claim) => claim_record(claim),
+        Why::Refused(claim) => obstacle_record(claim),
     }
 }

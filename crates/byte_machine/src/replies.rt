@@ -57,13 +57,13 @@ fn with_bounds(kind: u8, base: u64, top: u128) -> ReplyRecord
     }
 }
 
-fn with_cleared(given: ReplyRecord, cleared: u32) -> ReplyRecord
+pub fn with_cleared(given: ReplyRecord, cleared: u32) -> ReplyRecord
     ensures { result ≡ records.with_cleared given cleared }
 {
     ReplyRecord { cleared, ..given }
 }
 
-fn with_bytes(given: ReplyRecord, bytes: u64) -> ReplyRecord
+pub fn with_bytes(given: ReplyRecord, bytes: u64) -> ReplyRecord
     ensures { result ≡ records.with_bytes given bytes }
 {
     ReplyRecord { bytes, ..given }

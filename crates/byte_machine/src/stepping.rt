@@ -12,11 +12,11 @@ ghost use Rattle.byte_machine.specs.Calls as calls;
 ghost use Rattle.byte_machine.specs.Calls.{IsFirst, IsJudged, IsNotFirst, IsStep, IsUnreadable, LeadsTo};
 
 use crate::fault::CallFault;
-use crate::machines::{alone, machine_in};
+use crate::machines::machine_in;
 use heap_machine::{Followed, Machine, Reply};
 use host_memory::Global;
 use state_bytes::{encode_into, encode_registers_into, exact_blocks_law, text_length};
-use sweep_pool::Open;
+use sweep_pool::{Cutting, Open};
 use tag_memory::{is_base, is_size};
 use trace_text::Command;
 
@@ -47,7 +47,7 @@ pub fn first(alloc: Global, base: u64, pages: u32, out: &mut [u8]) -> Result<(),
     if out.len() != length {
         return Err(CallFault::Room);
     }
-    let Ok(machine) = Machine::new(alloc, base, pages, alone()) else {
+    let Ok(machine) = Machine::new(alloc, base, pages, Cutting::alone()) else {
         return Err(CallFault::Memory);
     };
     encode_into(&machine, out);

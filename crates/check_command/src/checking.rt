@@ -8,10 +8,9 @@ use command_line::{Options, Refusal};
 use heap_machine::Workers;
 use host_memory::Global;
 use log_answer::log_answer;
-use program_devices::Answer;
+use program_devices::{Answer, cutting_of};
 use std::alloc::AllocError;
 use std::thread::Threads;
-use sweep_pool::Cutting;
 
 /// The answer for the text of a log, or the line of its fault.
 pub fn check_answer<R: Threads + Sync>(
@@ -31,12 +30,4 @@ pub fn check_answer<R: Threads + Sync>(
         }),
         Err(AllocError) => Err(Refusal::Memory),
     }
-}
-
-// How the options cut the sweeps.
-fn cutting_of(options: Options) -> Cutting
-    requires { AreWithinLimits options }
-    ensures { result ≡ record { workers = options.workers; pages_per_task = options.pages_per_task } }
-{
-    Cutting::new(options.workers, options.pages_per_task).unwrap()
 }

@@ -6,7 +6,7 @@ use Rattle.std.proofs.lemmas.List.Elements.{All-contains, Contains-append_right}
 use Rattle.tag_memory.specs.Cells.{Cell}
 use Rattle.heap_model.specs.Heap.{HeapState, empty_heap}
 use Rattle.heap_model.specs.Laws.{no_reason}
-use Rattle.heap_model.specs.declared.block.Claim.{Claim}
+use Rattle.heap_model.specs.declared.block.Obstacle.{Obstacle}
 use Rattle.log_text.specs.declared.log.Given.{Given}
 use Rattle.log_text.specs.declared.log.Given.TheVariants.{Epoch, Granule, Live, Painted, Register, Waiting}
 use Rattle.machine_steps.specs.Safety.{IsGuarded}
@@ -17,7 +17,7 @@ use Rattle.given_state.specs.Given.{AreGivenOnce, AreNewAfter, AreSafe, HasGranu
 
 -- ---- blocks
 
-no_place : (s : HeapState) (o : Option (ℕ × ℕ)) (reason : Claim) → MayLie s o → LacksPlace s o reason → ⊥
+no_place : (s : HeapState) (o : Option (ℕ × ℕ)) (reason : Obstacle) → MayLie s o → LacksPlace s o reason → ⊥
 no_place s None reason may lacks = lacks
 no_place s (Some b) reason may lacks = no_reason s b.0 b.1 reason may lacks
 
@@ -27,7 +27,7 @@ MayLie-at : (s : HeapState) (before : List (ℕ × Given)) (line : ℕ × Given)
 MayLie-at s [] line after may = may.0
 MayLie-at s (first ∷ before) line after may = MayLie-at (with_claimed s (block_in first.1)) before line after may.1
 
-no_place_first : (s : HeapState) (lines : List (ℕ × Given)) (line : ℕ) (reason : Claim) → MayAllLie s lines → LacksPlaceFirst s lines line reason → ⊥
+no_place_first : (s : HeapState) (lines : List (ℕ × Given)) (line : ℕ) (reason : Obstacle) → MayAllLie s lines → LacksPlaceFirst s lines line reason → ⊥
 no_place_first s lines line reason may first =
     no_place (all_claimed s first.before) (block_in first.given) reason
     (MayLie-at s first.before (line, first.given) first.after (subst (MayAllLie s) first.parts may)) first.lacks

@@ -5,7 +5,7 @@ use Rattle.std.proofs.Math.Seq.{split_at}
 use Rattle.std.proofs.lemmas.List.{take_more}
 use Rattle.std.proofs.lemmas.List.Sums.{fold_more}
 use Rattle.heap_model.specs.Heap.{HeapState}
-use Rattle.heap_model.specs.declared.block.Claim.{Claim}
+use Rattle.heap_model.specs.declared.block.Obstacle.{Obstacle}
 use Rattle.log_text.specs.declared.log.Given.{Given}
 use Rattle.given_state.specs.declared.fault.Lack.{Lack}
 use Rattle.given_state.specs.Given.{LacksHold, LacksHoldFirst, LacksPlace, LacksPlaceFirst, MayAllHold, MayAllLie, MayLie, all_claimed, block_in, with_claimed}
@@ -27,7 +27,7 @@ MayAllLie-more s lines i none now here may is next =
     MayAllLie-push s (take i lines) (get_or lines i none) may (subst (λ (h : HeapState). MayLie h (block_in (get_or lines i none).1)) is next)
     )
 
-pub LacksPlaceFirst-at : (s : HeapState) (lines : List (ℕ × Given)) (i : ℕ) (none : ℕ × Given) (now : HeapState) (reason : Claim) → i < length lines → MayAllLie s (take i lines)
+pub LacksPlaceFirst-at : (s : HeapState) (lines : List (ℕ × Given)) (i : ℕ) (none : ℕ × Given) (now : HeapState) (reason : Obstacle) → i < length lines → MayAllLie s (take i lines)
     → now ≡ all_claimed s (take i lines) → LacksPlace now (block_in (get_or lines i none).1) reason → LacksPlaceFirst s lines (get_or lines i none).0 reason
 LacksPlaceFirst-at s lines i none now reason here may is lacks = record {
   before = take i lines;

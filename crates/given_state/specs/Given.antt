@@ -10,7 +10,7 @@ use Rattle.heap_model.specs.Claim.{IsClaimable, IsReason}
 use Rattle.heap_model.specs.Heap.{HeapState, empty_heap}
 use Rattle.heap_model.specs.Place.{with_block}
 use Rattle.heap_model.specs.Quarantine.{with_epoch, with_waiting}
-use Rattle.heap_model.specs.declared.block.Claim.{Claim}
+use Rattle.heap_model.specs.declared.block.Obstacle.{Obstacle}
 use Rattle.heap_model.specs.declared.block.Kind.{Kind}
 use Rattle.heap_model.specs.declared.block.Kind.TheVariants as kind
 use Rattle.log_text.specs.declared.log.Given.{Given}
@@ -165,7 +165,7 @@ pub record AreSafe (base pages : ℕ) (lines : List (ℕ × Given)) : Type 0 whe
 -- ---- lines that aren't
 
 -- Why a block with these bounds may not lie there.
-abbrev pub LacksPlace : HeapState → Option (ℕ × ℕ) → Claim → Type 0
+abbrev pub LacksPlace : HeapState → Option (ℕ × ℕ) → Obstacle → Type 0
 LacksPlace s None reason = ⊥
 LacksPlace s (Some bounds) reason = IsReason s bounds.0 bounds.1 reason
 
@@ -197,7 +197,7 @@ LacksHold s (Granule address tag bytes) lack = LacksGranule s address (cell_with
 LacksHold s given lack = ⊥
 
 -- The first block that may not lie in the heap is this line's, for this reason.
-pub record LacksPlaceFirst (s : HeapState) (lines : List (ℕ × Given)) (line : ℕ) (reason : Claim) : Type 0 where
+pub record LacksPlaceFirst (s : HeapState) (lines : List (ℕ × Given)) (line : ℕ) (reason : Obstacle) : Type 0 where
   pub before : List (ℕ × Given)
   pub given : Given
   pub after : List (ℕ × Given)

@@ -8,7 +8,7 @@ ghost use Rattle.given_state.specs.Given.{IsFault, LacksPlace, LacksPlaceFirst, 
 ghost use Rattle.given_state.specs.Giving.{AreLiveInTurn, IsLive};
 
 use crate::fault::{Lack, StartFault};
-use heap_core::{Claim, Heap, Kind};
+use heap_core::{Heap, Kind, Obstacle};
 use host_memory::Global;
 use log_text::Given;
 
@@ -37,7 +37,7 @@ fn bounds_of_kind(kind: Kind, given: Given) -> Option<(u64, u128)>
 }
 
 // Hands out the block that a line gives.
-fn claim_given(heap: &mut Heap, given: Given) -> Result<(), Claim>
+fn claim_given(heap: &mut Heap, given: Given) -> Result<(), Obstacle>
     ensures may { OnOk result (MayLie heap.old (block_in given)) }
     ensures claimed { OnOk result (heap.new ≡ with_claimed heap.old (block_in given)) }
     ensures reason { IfErr result (LacksPlace heap.old (block_in given)) }
@@ -45,14 +45,11 @@ fn claim_given(heap: &mut Heap, given: Given) -> Result<(), Claim>
     let Some((base, top)) = bounds_given(given) else {
         return Ok(());
     };
-    match heap.claim(base, top) {
-        Claim::Claimed => Ok(()),
-        reason => Err(reason),
-    }
+    heap.claim(base, top)
 }
 
 // Hands out all blocks that lines give, or answers the first line whose block may not lie there.
-fn claim_all(heap: &mut Heap, givens: &[(u32, Given)]) -> Result<(), (u32, Claim)>
+fn claim_all(heap: &mut Heap, givens: &[(u32, Given)]) -> Result<(), (u32, Obstacle)>
     ensures may { OnOk result (MayAllLie heap.old givens.now) }
     ensures claimed { OnOk result (heap.new ≡ all_claimed heap.old givens.now) }
     ensures first { IfErr result (λ flaw. LacksPlaceFirst heap.old givens.now flaw.0 flaw.1) }
@@ -71,7 +68,7 @@ fn release_given(heap: &mut Heap, kind: Kind, given: Given)
     ensures { heap.new ≡ with_released heap.old (block_of_kind kind given) }
 {
     if let Some((base, top)) = bounds_of_kind(kind, given) {
-        heap.give_up(base, top);
+        heap.release(base, top).unwrap();
     }
 }
 

@@ -1,12 +1,12 @@
 //! What given lines lack.
 
-use heap_machine::Claim;
+use heap_machine::Obstacle;
 
 /// What a given line lacks.
 #[derive(Debug, Clone, Copy, PartialEq, Eq)]
 pub enum Lack {
     /// The block may not lie there, beside those of the lines before it, for this reason.
-    Block(Claim),
+    Block(Obstacle),
     /// The register was given already, first at this line.
     RegisterAgain { register: u8, line: u32 },
     /// The granule was given already, first at this line.

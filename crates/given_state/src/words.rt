@@ -1,6 +1,6 @@
 //! The registers and granules that lines give.
 
-ghost use Rattle.std.specs.Prelude.{◌≡◌, ◌<◌, ◌+◌, ◌*◌, ℕ, All, IfErr, MatchOption, OnOk, length};
+ghost use Rattle.std.specs.Prelude.{◌≡◌, ◌<◌, All, IfErr, OnOk};
 ghost use Rattle.log_text.specs.Log.{IsListedGiven, IsValidGiven};
 ghost use Rattle.tag_memory.specs.Cells.{register_count, registers_with};
 ghost use Rattle.heap_machine.specs.Making.{LieTogether};
@@ -11,32 +11,23 @@ ghost use Rattle.given_state.specs.Giving.{FitHeap, memory_with, with_given_memo
 use crate::fault::Lack;
 use cap_codec::{Word, bounds, from_bytes};
 use heap_core::Heap;
+use heap_machine::is_guarded;
 use log_text::Given;
-use tag_memory::{GRANULE, Memory, Registers};
+use tag_memory::{Memory, Registers};
 
 // Refuses a word with this tag that isn't guarded.
 fn guard(heap: &Heap, word: Word, tag: bool) -> Result<(), Lack>
     ensures ok { OnOk result (IsGuarded heap.now (word, tag)) }
     ensures err { IfErr result (LacksGuard heap.now (word, tag)) }
 {
-    if !tag {
+    if is_guarded(heap, word, tag) {
         return Ok(());
     }
     let range = bounds(word);
-    let lack = Lack::Unguarded {
+    Err(Lack::Unguarded {
         base: range.base,
         top: range.top,
-    };
-    let Some((block, _)) = heap.block_of(range.base) else {
-        return Err(lack);
-    };
-    if range.top <= u128::from(range.base) {
-        return Err(lack);
-    }
-    if block.top < range.top {
-        return Err(lack);
-    }
-    Ok(())
+    })
 }
 
 // Writes a register, where its word is guarded.
@@ -62,27 +53,6 @@ fn hold_register(
     Ok(())
 }
 
-// Which granule lies at this address, counted from the base.
-fn granule_index(memory: &Memory, address: u64) -> Option<usize>
-    ensures { MatchOption result
-        ((i : ℕ) → address ≡ memory.now.base + 16 * i → i < length memory.now.granules → ⊥)
-        (λ i. (address ≡ memory.now.base + 16 * i) × (i < length memory.now.granules)) }
-{
-    let base = memory.base();
-    if address < base {
-        return None;
-    }
-    let offset = address - base;
-    if offset % GRANULE != 0 {
-        return None;
-    }
-    let i = (offset / GRANULE) as usize;
-    if i >= memory.granules() {
-        return None;
-    }
-    Some(i)
-}
-
 // Writes the granule at this address, where there is one and its word is guarded.
 fn hold_granule(
     heap: &Heap,
@@ -97,7 +67,7 @@ fn hold_granule(
     ensures put { OnOk result (memory.new ≡ memory_with memory.old address tag bytes) }
     ensures err { IfErr result (LacksGranule heap.now address (cell_with tag bytes)) }
 {
-    let Some(i) = granule_index(memory, address) else {
+    let Some(i) = memory.granule_at(address) else {
         return Err(Lack::NoGranule);
     };
     let word = from_bytes(bytes);

@@ -8,9 +8,8 @@ ghost use Rattle.trace_report.specs.Image.{image_of};
 use command_line::{Options, Refusal};
 use heap_trace::{Outcome, RunFault, image_text, run};
 use host_memory::Global;
-use program_devices::{Answer, fault_answer};
+use program_devices::{Answer, cutting_of, fault_answer};
 use std::thread::Threads;
-use sweep_pool::Cutting;
 
 /// The report of the trace that this text is, and the image if asked for, or the line of its fault.
 pub fn run_answer<R: Threads + Sync>(
@@ -46,12 +45,4 @@ fn outcome_answer(alloc: Global, outcome: Outcome, options: Options) -> Result<A
         };
     }
     Ok(Answer { status: 0, text })
-}
-
-// How the options cut the sweeps.
-fn cutting_of(options: Options) -> Cutting
-    requires { AreWithinLimits options }
-    ensures { result ≡ record { workers = options.workers; pages_per_task = options.pages_per_task } }
-{
-    Cutting::new(options.workers, options.pages_per_task).unwrap()
 }

@@ -1,6 +1,6 @@
 -- Bounds that become those of a block: they are free granules of the table.
 use Rattle.std.proofs.Common.{◌≡◌, ◌<◌, ◌+◌, ◌-◌, ◌*◌, ℕ, Bool, List, false, length, set, refl, arith}
-use Rattle.std.specs.Prelude.{All, ◌++◌, Option, Some, None, IsSome}
+use Rattle.std.specs.Prelude.{All, ◌++◌, Option, Some, None, IsSome, Result, Ok, Err}
 use Rattle.std.specs.List.{Contains}
 use Rattle.std.proofs.lemmas.List.Elements.{All-contains, All-contains_itself, All-nil, All-weaker, Contains-append_left, Contains-append_right}
 use Rattle.cap_codec.specs.Rounding.{IsExact}
@@ -13,8 +13,7 @@ use Rattle.heap_model.specs.Quarantine.{without_waiting}
 use Rattle.heap_core.specs.Table.{IsGap, IsTable}
 use Rattle.heap_model.specs.Blocks.{IsApart, Span}
 use Rattle.heap_model.specs.declared.block.Block.{Block}
-use Rattle.heap_model.specs.declared.block.Claim.{Claim}
-use Rattle.heap_model.specs.declared.block.Claim.TheVariants.{Claimed, Empty, Inexact, Outside, OverHeld, OverLive, Uneven}
+use Rattle.heap_model.specs.declared.block.Obstacle.{Obstacle}
 use Rattle.heap_core.proofs.HeapLaws.{heap_state-set}
 use Rattle.heap_core.proofs.PlaceLaws.{IsFreeBlock-from_run, IsGap-from_block}
 
@@ -75,29 +74,10 @@ some_due s start top (Some block) could refused live found = refl
 some_due s start top None could refused live found = absurd (refused (IsClaimable-unused could live found))
 
 -- Where bounds may be claimed, the claim is not refused, whatever was before.
-pub IsClaim-again : (before now : HeapState) (start top : ℕ) (claim : Claim) (new : HeapState) → IsClaimable now start top → IsClaim now now start top claim new
+pub IsClaim-again : (before now : HeapState) (start top : ℕ) (claim : Result (Unit {0}) Obstacle) (new : HeapState) → IsClaimable now start top → IsClaim now now start top claim new
     → IsClaim before now start top claim new
-IsClaim-again before now start top Claimed new may is = is
-IsClaim-again before now start top Uneven new may is = absurd (no_reason now start top Uneven may is.0)
-IsClaim-again before now start top Empty new may is = absurd (no_reason now start top Empty may is.0)
-IsClaim-again before now start top Outside new may is = absurd (no_reason now start top Outside may is.0)
-IsClaim-again before now start top Inexact new may is = absurd (no_reason now start top Inexact may is.0)
-IsClaim-again before now start top (OverLive block) new may is = absurd (no_reason now start top (OverLive block) may is.0)
-IsClaim-again before now start top (OverHeld block) new may is = absurd (no_reason now start top (OverHeld block) may is.0)
-
--- They may not, for this reason.
-pub record IsRefused (now : HeapState) (start top : ℕ) (reason : Claim) : Type 0 where
-  pub is : IsReason now start top reason
-
--- A refused claim changes nothing.
-pub IsClaim-refused : (before : HeapState) {now : HeapState} {start top : ℕ} {reason : Claim} → IsRefused now start top reason → IsClaim before now start top reason before
-IsClaim-refused before {reason = Claimed} refused = absurd refused.is
-IsClaim-refused before {reason = Uneven} refused = (refused.is, refl)
-IsClaim-refused before {reason = Empty} refused = (refused.is, refl)
-IsClaim-refused before {reason = Outside} refused = (refused.is, refl)
-IsClaim-refused before {reason = Inexact} refused = (refused.is, refl)
-IsClaim-refused before {reason = OverLive block} refused = (refused.is, refl)
-IsClaim-refused before {reason = OverHeld block} refused = (refused.is, refl)
+IsClaim-again before now start top (Ok done) new may is = is
+IsClaim-again before now start top (Err obstacle) new may is = absurd (no_reason now start top obstacle may is.0)
 
 -- Once the blocks that wait are free, where no live block is in the way and no epoch is open.
 pub IsClaimable-dropped : {s : HeapState} {start top p n : ℕ} → s.is_open ≡ false → IsSound s → AreFitting s start top p n

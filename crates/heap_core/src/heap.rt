@@ -142,8 +142,8 @@ impl Heap {
         Ok(self.hand_out(size))
     }
 
-    /// `reserve`, as it never errs.
-    pub fn hand_out(&mut self, size: u64) -> Option<Block>
+    // `reserve`, as it never errs.
+    fn hand_out(&mut self, size: u64) -> Option<Block>
         ensures none { (result ≡ None) ↔ ((a : ℕ) → ¬ IsFree self.old size a) }
         ensures unchanged { result ≡ None → self.new ≡ self.old }
 

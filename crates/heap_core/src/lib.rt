@@ -12,4 +12,4 @@ mod table;
 pub use crate::fault::HeapFault;
 pub use crate::heap::Heap;
 pub use crate::registers::due_registers;
-pub use heap_model::{Block, Claim, Freed, Kind, Shadow, sound_heap_law};
+pub use heap_model::{Block, Freed, Kind, Obstacle, Shadow, sound_heap_law};

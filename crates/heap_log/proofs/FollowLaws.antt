@@ -7,8 +7,11 @@ use Rattle.std.proofs.lemmas.List.Elements.{All-head, All-push, All-tail}
 use Rattle.trace_text.specs.declared.trace.Command.{Command}
 use Rattle.heap_reply.specs.declared.reply.Reply.{Reply}
 use Rattle.log_text.specs.declared.log.Event.{Event}
-use Rattle.log_text.specs.declared.log.Event.TheVariants.{Done, Seen}
+use Rattle.log_text.specs.declared.log.Event.TheVariants.{Done, Revoked, Seen}
 use Rattle.machine_steps.specs.Follow.{Follows}
+use Rattle.revoker_steps.specs.Revoker.{RevokerStep}
+use Rattle.revoker_steps.specs.declared.command.RevokerCommand.{RevokerCommand}
+use Rattle.revoker_steps.specs.declared.command.RevokerReply.{RevokerReply}
 use Rattle.machine_steps.specs.Safety.{FitsTypes, IsSafe, IsUnused}
 use Rattle.machine_steps.specs.State.{State}
 use Rattle.heap_log.specs.declared.verdict.Difference.{Difference}
@@ -72,9 +75,12 @@ pub record Laws : Type 0 where
   pub one : (old : State) (command : Command) (reply : Reply) (new left : State) → Follows old command reply new → Follows old command reply left → new ≡ left
   pub safe : (old : State) (command : Command) (reply : Reply) (new : State) → IsSafe old → FitsTypes command → Follows old command reply new → IsSafe new
   pub unused : (old : State) (command : Command) (reply : Reply) (new : State) → IsSafe old → Follows old command reply new → IsUnused old command reply
+  pub only : (old : State) (command : RevokerCommand) (reply other : RevokerReply) (new left : State) → RevokerStep old command reply new → RevokerStep old command other left → (reply ≡ other) × (new ≡ left)
+  pub step_safe : (old : State) (command : RevokerCommand) (reply : RevokerReply) (new : State) → IsSafe old → RevokerStep old command reply new → IsSafe new
 
 EventFollows-one : Laws → (old : State) (event : Event) (new left : State) → EventFollows old event new → EventFollows old event left → new ≡ left
 EventFollows-one laws old (Done command answer) new left p q = laws.one old command answer new left p q
+EventFollows-one laws old (Revoked command answer) new left p q = (laws.only old command answer answer new left p q).1
 EventFollows-one laws old (Seen address tag bytes) new left p q = p.1 ∙ sym q.1
 
 pub AllFollow-one : Laws → (old : State) (events : List (ℕ × Event)) (new left : State) → AllFollow old events new → AllFollow old events left → new ≡ left
@@ -85,6 +91,7 @@ AllFollow-one laws old (event ∷ events) new left p q =
 
 EventFollows-safe : Laws → (old : State) (event : Event) (new : State) → IsSafe old → FitsEvent event → EventFollows old event new → IsSafe new
 EventFollows-safe laws old (Done command answer) new safe fits p = laws.safe old command answer new safe fits p
+EventFollows-safe laws old (Revoked command answer) new safe fits p = laws.step_safe old command answer new safe p
 EventFollows-safe laws old (Seen address tag bytes) new safe fits p = subst IsSafe (sym p.1) safe
 
 pub AllFollow-safe : Laws → (old : State) (events : List (ℕ × Event)) (new : State) → IsSafe old → All FitsListed events → AllFollow old events new → IsSafe new

@@ -2,4 +2,3 @@ mod DueLaws
 mod FollowLaws
 mod OriginLaws
 mod SeenLaws
-mod TallyLaws

@@ -1,18 +1,24 @@
 -- Which logs an allocator may leave: what it was asked and what it answered, one event after another. The definition knows
 -- the answers that may be given (heap_machine's Follow), and not how a log is judged.
-use Rattle.std.specs.Prelude.{◌≡◌, ◌<◌, ◌+◌, ◌*◌, ℕ, Bool, List, [], ◌∷◌, ◌++◌, Option, None, Some, length, slice_get, sum_by}
+use Rattle.std.specs.Prelude.{◌≡◌, ◌≢◌, ◌<◌, ◌+◌, ◌*◌, ℕ, Bool, List, [], ◌∷◌, ◌++◌, Option, None, Some, length, slice_get, sum_by}
 use Rattle.cap_codec.specs.Bytes.{bits_of_bytes}
 use Rattle.trace_text.specs.declared.trace.Command.{Command}
 use Rattle.heap_reply.specs.declared.reply.Reply.{Reply}
 use Rattle.heap_reply.specs.declared.reply.Reply.TheVariants as reply
 use Rattle.log_text.specs.declared.log.Event.{Event}
-use Rattle.log_text.specs.declared.log.Event.TheVariants.{Done, Seen}
+use Rattle.log_text.specs.declared.log.Event.TheVariants.{Done, Revoked, Seen}
 use Rattle.machine_steps.specs.Follow.{Follows}
 use Rattle.machine_storage.specs.Followed.{IsWhy}
 use Rattle.machine_steps.specs.Safety.{FitsTypes, IsSafe, IsUnused}
 use Rattle.machine_steps.specs.State.{State}
+use Rattle.revoker_steps.specs.Events.{cleared_by}
+use Rattle.revoker_steps.specs.Revoker.{RevokerStep}
+use Rattle.revoker_steps.specs.declared.command.RevokerCommand.{RevokerCommand}
+use Rattle.revoker_steps.specs.declared.command.RevokerReply.{RevokerReply}
+use Rattle.revoker_steps.specs.declared.command.RevokerCommand.TheVariants as step
+use Rattle.revoker_steps.specs.declared.command.RevokerReply.TheVariants as told
 use Rattle.heap_log.specs.declared.verdict.Difference.{Difference}
-use Rattle.heap_log.specs.declared.verdict.Difference.TheVariants.{Answer, Granule, NoGranule}
+use Rattle.heap_log.specs.declared.verdict.Difference.TheVariants.{Answer, Granule, NoGranule, Step}
 use Rattle.heap_log.specs.declared.verdict.Tally.{Tally}
 use Rattle.heap_log.specs.declared.verdict.Verdict.{Verdict}
 use Rattle.heap_log.specs.declared.verdict.Verdict.TheVariants.{Agrees, Differs}
@@ -37,6 +43,7 @@ pub record IsSeen (s : State) (address : ℕ) (tag : Bool) (bytes : List ℕ) : 
 -- From the state old the event may happen, and then leaves the state new.
 abbrev pub EventFollows : State → Event → State → Type 0
 EventFollows old (Done command answer) new = Follows old command answer new
+EventFollows old (Revoked command answer) new = RevokerStep old command answer new
 EventFollows old (Seen address tag bytes) new = IsSeen old address tag bytes × (new ≡ old)
 
 -- From the state old the events may happen, one after another, and then leave the state new.
@@ -47,6 +54,7 @@ AllFollow old (event ∷ events) new = (mid : State) × EventFollows old event.1
 -- The numbers of an event's command fit their types.
 abbrev pub FitsEvent : Event → Type 0
 FitsEvent (Done command answer) = FitsTypes command
+FitsEvent (Revoked command answer) = Unit {0}
 FitsEvent (Seen address tag bytes) = Unit {0}
 
 abbrev pub FitsListed : ℕ × Event → Type 0
@@ -67,6 +75,7 @@ IsRefusedEvent old event = (left : State) → EventFollows old event left → �
 -- What the state says instead: why the answer may not be given, or what the granule holds that lies there.
 abbrev pub SaysInstead : State → Event → Difference → Type 0
 SaysInstead s (Done command answer) (Answer why) = IsWhy s command answer why
+SaysInstead s (Revoked command answer) (Step reply) = ((left : State) × RevokerStep s command reply left) × (answer ≢ reply)
 SaysInstead s (Seen address tag bytes) NoGranule = ¬ HasGranule s address
 SaysInstead s (Seen address tag bytes) (Granule held there) = IsSeen s address held there
 SaysInstead s event difference = ⊥
@@ -119,26 +128,28 @@ tags_of_reply (reply.Swept cleared released) = cleared
 tags_of_reply (reply.Begun cleared) = cleared
 tags_of_reply answer = 0
 
--- What an event adds to a sum over the commands' answers.
-abbrev pub of_event : (Reply → ℕ) → Event → ℕ
-of_event told (Done command answer) = told answer
-of_event told (Seen address tag bytes) = 0
+-- A pass in steps of a revoker's own is that of the epoch that it opens.
+abbrev pub passes_of_step : RevokerCommand → RevokerReply → ℕ
+passes_of_step step.Paint told.Done = 1
+passes_of_step command answer = 0
 
--- Such a sum.
-abbrev pub sum_over : (Reply → ℕ) → List (ℕ × Event) → ℕ
-sum_over told events = sum_by (λ event. of_event told event.1) events
+-- What an event tells: commands, a revoker's too, blocks handed out, passes, and tags that these took.
+abbrev pub tally_of_event : Event → Tally
+tally_of_event (Done command answer) = record { tags = tags_of_reply answer; commands = 1; blocks = blocks_of_reply answer; passes = passes_of_reply answer }
+tally_of_event (Revoked command answer) = record { tags = cleared_by answer; commands = 1; blocks = 0; passes = passes_of_step command answer }
+tally_of_event (Seen address tag bytes) = record { tags = 0; commands = 0; blocks = 0; passes = 0 }
 
--- Each command is one.
-abbrev pub one_of_reply : Reply → ℕ
-one_of_reply answer = 1
+-- A sum over such numbers.
+abbrev pub sum_over : (Tally → ℕ) → List (ℕ × Event) → ℕ
+sum_over number events = sum_by (λ event. number (tally_of_event event.1)) events
 
--- Commands, blocks handed out, passes, and tags that these took.
+-- What they all tell.
 abbrev pub tally_of : List (ℕ × Event) → Tally
 tally_of events = record {
-  tags = sum_over tags_of_reply events;
-  commands = sum_over one_of_reply events;
-  blocks = sum_over blocks_of_reply events;
-  passes = sum_over passes_of_reply events;
+  tags = sum_over (λ it. it.tags) events;
+  commands = sum_over (λ it. it.commands) events;
+  blocks = sum_over (λ it. it.blocks) events;
+  passes = sum_over (λ it. it.passes) events;
 }
 
 -- ---- verdicts

@@ -10,7 +10,7 @@ use crate::laws::safe_log_law;
 use crate::seeing::see;
 use crate::tallying::tally;
 use crate::verdict::{Difference, Verdict};
-use heap_machine::{Followed, Machine, MachineFault, Stepper};
+use heap_machine::{Followed, Machine, MachineFault, RevokerFollowed, Stepper};
 use host_memory::Global;
 use log_text::Event;
 use trace_text::Command;
@@ -52,6 +52,10 @@ pub fn follow_event<S: Stepper>(
                 Followed::Differs(why) => Ok(Some(Difference::Answer(why))),
             }
         }
+        Event::Revoked { command, answer } => match machine.revoke_as(command, answer) {
+            RevokerFollowed::Agrees => Ok(None),
+            RevokerFollowed::MustBe(reply) => Ok(Some(Difference::Step(reply))),
+        },
         Event::Seen {
             address,
             tag,

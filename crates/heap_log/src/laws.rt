@@ -8,6 +8,7 @@ ghost use Rattle.heap_log.specs.declared.verdict.Difference.{Difference as TheDi
 ghost use Rattle.heap_log.specs.Judged.{AllFollow, DiffersAt, FitsListed, HandOutUnused};
 
 use heap_machine::any_placement_law;
+use revoker_steps::revoker_law;
 
 /// A log's events leave one last state at most, and none where one of them differs. Where they all follow from a safe
 /// state, each state on the way is safe, and what a command hands out is unused in the state before it: no register
@@ -23,4 +24,5 @@ pub fn safe_log_law()
         IsSafe first → All FitsListed events → AllFollow first events last → HandOutUnused first events }
 {
     any_placement_law();
+    revoker_law();
 }

@@ -13,4 +13,5 @@ pub use crate::due::{DueWord, due_words};
 pub use crate::judging::{follow_event, judge};
 pub use crate::laws::safe_log_law;
 pub use crate::origin::{freed_line, given_line, handed_out_line};
+pub use crate::tallying::{count, count_event};
 pub use crate::verdict::{Difference, Tally, Verdict};

@@ -41,7 +41,7 @@ fn hands_out(block: Block, event: Event) -> bool
             }
             _ => false,
         },
-        Event::Seen { .. } => false,
+        Event::Revoked { .. } | Event::Seen { .. } => false,
     }
 }
 

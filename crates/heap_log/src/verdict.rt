@@ -1,12 +1,15 @@
 //! What is said of a log.
 
 use heap_machine::Why;
+use revoker_steps::RevokerReply;
 
 /// How a log differs from what may be.
 #[derive(Debug, Clone, Copy, PartialEq, Eq)]
 pub enum Difference {
     /// An answer isn't allowed, for this reason.
     Answer(Why),
+    /// A revoker's step has this answer alone.
+    Step(RevokerReply),
     /// No granule of the heap lies at an address that was read.
     NoGranule,
     /// A granule that was read has another content, which is this.

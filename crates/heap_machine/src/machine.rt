@@ -11,9 +11,10 @@ ghost use Rattle.machine_steps.specs.State.{first_state};
 
 mod following;
 mod making;
+mod revoking;
 mod stepping;
 
-pub use crate::machine::making::Flaw;
+pub use crate::machine::making::{Flaw, is_guarded};
 use heap_core::Heap;
 use host_memory::Global;
 use machine_storage::{MachineFault, Storage};

@@ -1,12 +1,8 @@
 //! Who makes the passes of a run: threads, or the calling thread alone.
 
-ghost use Rattle.std.specs.Prelude.{◌≡◌, ◌≢◌, IfErr, IfOk, IsOk, OnErr, OnOk};
 ghost use denote.Param.Send.{IsSync};
 ghost use Rattle.trace_text.specs.Command.{IsValid};
-ghost use Rattle.machine_steps.specs.Dirty.{IsDirtied, dirty_after};
-ghost use Rattle.machine_steps.specs.Safety.{IsSafe, IsUnused, LeavesInUse};
-ghost use Rattle.machine_steps.specs.Step.{Step, NeedsNoMemory};
-ghost use Rattle.machine_storage.specs.Followed.{FollowsFreely, IsFollowed};
+ghost use Rattle.heap_machine.specs.Stepping.{IsFollowing, IsStepped};
 
 use crate::machine::Machine;
 use heap_reply::Reply;
@@ -30,16 +26,7 @@ pub trait Stepper {
     ) -> Result<Reply, MachineFault>
         requires ready { ready }
         requires valid { IsValid command }
-        ensures step { IfOk result (λ reply. Step machine.old.state command reply machine.new.state) }
-        ensures err { OnErr result (machine.new ≡ machine.old) }
-        ensures memory { IfErr result (λ fault. fault ≡ MachineFault.Memory) }
-        ensures ok { NeedsNoMemory machine.old.state command → IsOk result }
-        ensures cutting { machine.new.cutting ≡ machine.old.cutting }
-        ensures safe { IsSafe machine.new.state }
-        ensures unused { IfOk result (λ reply. IsUnused machine.old.state command reply) }
-        ensures revoked { IfOk result (λ reply. LeavesInUse command reply machine.new.state) }
-        ensures dirty { OnOk result (machine.new.dirty ≡ dirty_after machine.old.state command machine.old.dirty) }
-        ensures dirtied { IsDirtied machine.new.state machine.new.dirty };
+        ensures { IsStepped machine.old command result machine.new };
 
     /// Does one command as it was answered, as the machine's own `follow` does.
     fn follow(
@@ -51,16 +38,7 @@ pub trait Stepper {
     ) -> Result<Followed, MachineFault>
         requires ready { ready }
         requires valid { IsValid command }
-        ensures followed { IfOk result (λ followed. IsFollowed machine.old.state command answer followed machine.new.state) }
-        ensures still { result ≢ Ok Followed.Agrees → machine.new ≡ machine.old }
-        ensures memory { IfErr result (λ fault. fault ≡ MachineFault.Memory) }
-        ensures ok { FollowsFreely machine.old.state command answer → IsOk result }
-        ensures cutting { machine.new.cutting ≡ machine.old.cutting }
-        ensures safe { IsSafe machine.new.state }
-        ensures unused { result ≡ Ok Followed.Agrees → IsUnused machine.old.state command answer }
-        ensures revoked { result ≡ Ok Followed.Agrees → LeavesInUse command answer machine.new.state }
-        ensures dirty { result ≡ Ok Followed.Agrees → machine.new.dirty ≡ dirty_after machine.old.state command machine.old.dirty }
-        ensures dirtied { IsDirtied machine.new.state machine.new.dirty };
+        ensures { IsFollowing machine.old command answer result machine.new };
 }
 
 /// The threads of a runtime, by its handle.

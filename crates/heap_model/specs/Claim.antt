@@ -1,13 +1,13 @@
 -- Blocks whose place a caller names: what they must be, and why they are refused.
-use Rattle.std.specs.Prelude.{◌≡◌, ◌<◌, ◌≤◌, ◌+◌, ◌-◌, ◌*◌, ◌%◌, ◌++◌, ℕ, All, List, MatchOption, Option}
+use Rattle.std.specs.Prelude.{◌≡◌, ◌<◌, ◌≤◌, ◌+◌, ◌-◌, ◌*◌, ◌%◌, ◌++◌, ℕ, All, List, MatchOption, Option, Result, Ok, Err}
 use Rattle.std.specs.List.{Contains}
 use Rattle.cap_codec.specs.Rounding.{IsExact}
 use Rattle.heap_model.specs.Blocks.{IsApart, Span, end_of, start_of}
 use Rattle.heap_model.specs.Heap.{HeapState}
 use Rattle.heap_model.specs.Place.{IsFreeBlock, with_block}
 use Rattle.heap_model.specs.declared.block.Block.{Block}
-use Rattle.heap_model.specs.declared.block.Claim.{Claim}
-use Rattle.heap_model.specs.declared.block.Claim.TheVariants.{Claimed, Empty, Inexact, Outside, OverHeld, OverLive, Uneven}
+use Rattle.heap_model.specs.declared.block.Obstacle.{Obstacle}
+use Rattle.heap_model.specs.declared.block.Obstacle.TheVariants.{Empty, Inexact, Outside, OverHeld, OverLive, Uneven}
 
 -- The bytes from base to top may become a block: they are free, and a capability can hold their bounds.
 pub record IsClaimable (s : HeapState) (base top : ℕ) : Type 0 where
@@ -47,8 +47,7 @@ abbrev pub FindsOver : List Span → ℕ → ℕ → Option Block → Type 0
 FindsOver blocks base top found = MatchOption found (All (IsApart (base, top - base)) blocks) (IsFirstOver blocks base top)
 
 -- Why they may not: the first of these that is true.
-abbrev pub IsReason : HeapState → ℕ → ℕ → Claim → Type 0
-IsReason s base top Claimed = ⊥
+abbrev pub IsReason : HeapState → ℕ → ℕ → Obstacle → Type 0
 IsReason s base top Uneven = ¬ AreEven base top
 IsReason s base top Empty = AreEven base top × (top ≤ base)
 IsReason s base top Outside = AreEven base top × (base < top) × (¬ AreInside s base top)
@@ -58,6 +57,6 @@ IsReason s base top (OverHeld block) =
     CouldBeClaimed s base top × All (IsApart (base, top - base)) s.live × IsFirstOver (s.waiting ++ s.painted) base top block
 
 -- A claim of them, in the state `now`, is answered so, and leaves the state `new`: what was before where it is refused.
-abbrev pub IsClaim : HeapState → HeapState → ℕ → ℕ → Claim → HeapState → Type 0
-IsClaim before now base top Claimed new = IsClaimable now base top × (new ≡ with_block now base (top - base))
-IsClaim before now base top reason new = IsReason now base top reason × (new ≡ before)
+abbrev pub IsClaim : HeapState → HeapState → ℕ → ℕ → Result (Unit {0}) Obstacle → HeapState → Type 0
+IsClaim before now base top (Ok done) new = IsClaimable now base top × (new ≡ with_block now base (top - base))
+IsClaim before now base top (Err obstacle) new = IsReason now base top obstacle × (new ≡ before)

@@ -12,8 +12,8 @@ use Rattle.heap_model.specs.Claim.{IsClaimable, IsFirstOver, IsReason}
 use Rattle.heap_model.specs.Heap.{HeapState, IsInside, IsSound, due}
 use Rattle.heap_model.specs.Quarantine.{without_due, without_epoch, without_waiting}
 use Rattle.heap_model.specs.declared.block.Block.{Block}
-use Rattle.heap_model.specs.declared.block.Claim.{Claim}
-use Rattle.heap_model.specs.declared.block.Claim.TheVariants.{Claimed, Empty, Inexact, Outside, OverHeld, OverLive, Uneven}
+use Rattle.heap_model.specs.declared.block.Obstacle.{Obstacle}
+use Rattle.heap_model.specs.declared.block.Obstacle.TheVariants.{Empty, Inexact, Outside, OverHeld, OverLive, Uneven}
 
 -- An address within a block, before it and after it.
 pub has_address-within : (a : ℕ) (block : Span) → start_of block ≤ a → a < end_of block → has_address a block ≡ true
@@ -92,8 +92,7 @@ not_over blocks start top block order is apart =
     not_apart start top (block.base, block.top - block.base) order is.over.0 (omega (arith, is.over.1)) (All-contains (IsApart (start, top - start)) blocks (block.base, block.top - block.base) apart is.there)
 
 -- Where they may be a block's there is no reason against it.
-pub no_reason : (s : HeapState) (start top : ℕ) (why : Claim) → IsClaimable s start top → IsReason s start top why → ⊥
-no_reason s start top Claimed may reason = reason
+pub no_reason : (s : HeapState) (start top : ℕ) (why : Obstacle) → IsClaimable s start top → IsReason s start top why → ⊥
 no_reason s start top Uneven may reason = reason (may.free.start, omega (arith, may.free.start, may.free.whole, may.order))
 no_reason s start top Empty may reason = absurd (omega (arith, may.order, reason.1))
 no_reason s start top Outside may reason = reason.2 (may.free.from, omega (arith, may.free.end, may.order))

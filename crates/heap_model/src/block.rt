@@ -26,11 +26,9 @@ pub enum Freed {
     NotBlock,
 }
 
-/// What became of bounds that were claimed for a block.
+/// Why bounds can't be those of a new block.
 #[derive(Debug, Clone, Copy, PartialEq, Eq, Hash)]
-pub enum Claim {
-    /// They are those of a live block now.
-    Claimed,
+pub enum Obstacle {
     /// One of them is no multiple of 16.
     Uneven,
     /// The top is not above the base.

@@ -5,6 +5,6 @@ mod block;
 mod laws;
 mod shadow;
 
-pub use crate::block::{Block, Claim, Freed, Kind};
+pub use crate::block::{Block, Freed, Kind, Obstacle};
 pub use crate::laws::sound_heap_law;
 pub use crate::shadow::Shadow;

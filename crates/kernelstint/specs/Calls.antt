@@ -1,8 +1,11 @@
 -- Calls on the bytes of states, whose commands, replies and reasons are records, and which answer codes.
-use Rattle.std.specs.Prelude.{◌≡◌, ◌<◌, ◌++◌, ℕ, List, Some, Ok, Err, drop, length}
+use Rattle.std.specs.Prelude.{◌≡◌, ◌<◌, ◌++◌, ℕ, List, None, Some, Ok, Err, drop, length}
 use Rattle.byte_machine.specs.Calls.{IsStep, Leads, Refuses}
 use Rattle.byte_machine.specs.LineCalls.{IsCommandOf, IsNoCommand}
 use Rattle.byte_machine.specs.Records.{IsRead, record_of_fault, reply_of_record, record_of_reply, record_of_why}
+use Rattle.byte_machine.specs.Revoking.{IsRevoked, record_of_revoker_reply, revoker_of_record}
+use Rattle.revoker_steps.specs.declared.command.RevokerCommand.{RevokerCommand}
+use Rattle.revoker_steps.specs.declared.command.RevokerReply.{RevokerReply}
 use Rattle.byte_machine.specs.declared.commands.CommandRecord.{CommandRecord}
 use Rattle.byte_machine.specs.declared.fault.CallFault.{CallFault}
 use Rattle.byte_machine.specs.declared.fault.CallFault.TheVariants as fault
@@ -37,13 +40,17 @@ pub record HasFault (Holds : CallFault → Type 0) (code : ℕ) : Type 0 where
   pub holds : Holds fault
   pub code_is : code ≡ call_code fault
 
--- The command of a record leads from the old bytes to the new ones, with the reply of a record.
-pub record IsHostStep (old : List ℕ) (given : CommandRecord) (told : ReplyRecord) (new : List ℕ) : Type 0 where
-  pub command : Command
-  pub reply : Reply
-  pub command_is : IsRead given (Some command)
-  pub reply_is : told ≡ record_of_reply reply
-  pub step : IsStep old command reply new
+-- The command of a record leads from the old bytes to the new ones, with the reply of a record; or the revoker's step does that the
+-- record is.
+pub data IsHostStep (old : List ℕ) (given : CommandRecord) (told : ReplyRecord) (new : List ℕ) : Type 0 where
+  does_command : (command : Command) (reply : Reply) → IsRead given (Some command) → told ≡ record_of_reply reply
+      → IsStep old command reply new → IsHostStep old given told new
+  does_revoker : (command : RevokerCommand) (reply : RevokerReply) → revoker_of_record given ≡ Some command → told ≡ record_of_revoker_reply reply
+      → IsRevoked old command reply new → IsHostStep old given told new
+
+-- A record is no command's and no step of a revoker.
+abbrev pub IsNoStep : CommandRecord → Type 0
+IsNoStep given = IsRead given None × (revoker_of_record given ≡ None)
 
 -- The command and the answer of two records.
 pub record AreRead (given : CommandRecord) (answered : ReplyRecord) (command : Command) (answer : Reply) : Type 0 where

@@ -6,15 +6,19 @@ ghost use Rattle.byte_machine.specs.LineCalls.{IsLineStep, IsNoLineStep};
 ghost use Rattle.byte_machine.specs.Records.{IsRead, reply_of_record};
 ghost use Rattle.state_bytes.specs.Text.{text_length};
 ghost use Rattle.tag_memory.specs.Extent.{is_size};
-ghost use Rattle.kernelstint.specs.Calls.{HasFault, IsHostFollow, IsHostRefusal, IsHostStep};
+ghost use Rattle.byte_machine.specs.Revoking.{IsRevoked, record_of_revoker_reply, revoker_of_record};
+ghost use Rattle.revoker_steps.specs.declared.command.RevokerReply.{RevokerReply};
+ghost use Rattle.revoker_steps.specs.Valid as revoker;
+ghost use Rattle.kernelstint.specs.Calls.{HasFault, IsHostFollow, IsHostRefusal, IsHostStep, IsNoStep};
 ghost use Rattle.kernelstint.specs.Codes.{bad_command, bad_reply, bad_room, differs, done};
 
 use crate::codes::{BAD_COMMAND, BAD_REPLY, DIFFERS, DONE, code_of_fault};
 use byte_machine::{
     CallFault, CommandRecord, ReplyRecord, WhyRecord, command_of, first, follow, reply_of,
-    reply_record, state_length, step, step_line, why_record,
+    reply_record, revoke, revoker_command_of, revoker_reply_record, state_length, step, step_line,
+    why_record,
 };
-use heap_machine::Followed;
+use heap_machine::{Followed, RevokerCommand};
 use host_memory::Global;
 
 /// How many bytes a state of so many pages has: 0 where no heap has so many.
@@ -47,8 +51,35 @@ pub extern "C" fn kernelstint_proved_first(
     }
 }
 
-/// Does the command of a record in the state that these bytes tell of, and writes the bytes of the state that it leaves into
-/// a room that is as long, and the reply.
+// Makes a revoker's step in the state that these bytes tell of.
+fn revoke_told(
+    alloc: Global,
+    state: &[u8],
+    command: RevokerCommand,
+    out: &mut [u8],
+    reply: &mut ReplyRecord,
+) -> u32
+    requires { revoker.IsValid command }
+    ensures step { result ≡ done → (answer : RevokerReply) × (reply.new ≡ record_of_revoker_reply answer) × IsRevoked state.now command answer out.new }
+    ensures still { result ≢ done → out.new ≡ out.old }
+    ensures untold { result ≢ done → reply.new ≡ reply.old }
+    ensures command { result ≢ bad_command }
+    ensures room { result ≡ bad_room → length out.old ≢ length state.now }
+    ensures measured { length out.old ≢ length state.now → result ≡ bad_room }
+    ensures fits { result ≡ done → length out.old ≡ length state.now }
+    ensures fault { result ≢ done → HasFault (λ fault. fault ≢ CallFault.Room → IsUnreadable state.now fault) result }
+{
+    match revoke(alloc, state, command, out) {
+        Ok(told) => {
+            *reply = revoker_reply_record(told);
+            DONE
+        }
+        Err(fault) => code_of_fault(fault),
+    }
+}
+
+/// Does the command of a record, or makes the revoker's step that it is, in the state that these bytes tell of, and writes the
+/// bytes of the state that it leaves into a room that is as long, and the reply.
 #[unsafe(no_mangle)]
 pub extern "C" fn kernelstint_proved_step(
     alloc: Global,
@@ -60,12 +91,15 @@ pub extern "C" fn kernelstint_proved_step(
     ensures step { result ≡ done → IsHostStep state.now command reply.new out.new }
     ensures still { result ≢ done → out.new ≡ out.old }
     ensures untold { result ≢ done → reply.new ≡ reply.old }
-    ensures command { (result ≡ bad_command) ↔ IsRead command None }
+    ensures command { (result ≡ bad_command) ↔ IsNoStep command }
     ensures room { result ≡ bad_room → length out.old ≢ length state.now }
     ensures measured { length out.old ≢ length state.now → result ≢ bad_command → result ≡ bad_room }
     ensures fits { result ≡ done → length out.old ≡ length state.now }
     ensures fault { result ≢ done → result ≢ bad_command → HasFault (λ fault. fault ≢ CallFault.Room → IsUnreadable state.now fault) result }
 {
+    if let Some(command) = revoker_command_of(command) {
+        return revoke_told(alloc, state, command, out, reply);
+    }
     let Some(command) = command_of(command) else {
         return BAD_COMMAND;
     };

@@ -1,15 +1,21 @@
 //! Machines that C holds, for runs in which no state is wanted after each command.
 
-ghost use Rattle.std.specs.Prelude.{◌≡◌, ◌≢◌, ◌↔◌, None};
+ghost use Rattle.std.specs.Prelude.{◌≡◌, ◌≢◌, ◌↔◌, None, Some};
 ghost use Rattle.byte_machine.specs.Calls.{IsUnreadable};
-ghost use Rattle.byte_machine.specs.Records.{IsRead};
-ghost use Rattle.kernelstint.specs.Calls.{HasFault};
+ghost use Rattle.byte_machine.specs.Revoking.{revoker_of_record};
+ghost use Rattle.byte_machine.specs.declared.commands.CommandRecord.{CommandRecord as TheCommandRecord};
+ghost use Rattle.revoker_steps.specs.Valid as revoker;
+ghost use Rattle.kernelstint.specs.Calls.{HasFault, IsNoStep};
 ghost use Rattle.kernelstint.specs.Codes.{bad_command, bad_room, done, no_memory};
-ghost use Rattle.kernelstint.specs.Machines.{HasText, IsCopied, IsMachineStep, IsOpened};
+ghost use Rattle.kernelstint.specs.Machines.{HasText, IsCopied, IsMachineRevoked, IsMachineStep, IsOpened};
 
 use crate::codes::{BAD_COMMAND, BAD_ROOM, DONE, NO_MEMORY, code_of_fault};
 use crate::handle::MachineHandle;
-use byte_machine::{CommandRecord, ReplyRecord, command_of, machine_in, put_state, reply_record};
+use byte_machine::{
+    CommandRecord, ReplyRecord, command_of, machine_in, put_state, reply_record,
+    revoker_command_of, revoker_reply_record,
+};
+use heap_machine::RevokerCommand;
 use host_memory::Global;
 use state_bytes::exact_blocks_law;
 use sweep_pool::Open;
@@ -37,7 +43,25 @@ pub extern "C" fn kernelstint_proved_machine_open(
     DONE
 }
 
-/// Does the command of a record, and writes the reply.
+// Makes a revoker's step, and writes the reply.
+fn revoke_held(
+    alloc: Global,
+    machine: &mut MachineHandle,
+    command: RevokerCommand,
+    reply: &mut ReplyRecord,
+)
+    requires held { machine.old.value ≢ None }
+    requires valid { revoker.IsValid command }
+    ensures { (given : TheCommandRecord) → revoker_of_record given ≡ Some command → IsMachineRevoked machine.old.value given reply.new machine.new.value }
+{
+    exact_blocks_law();
+    let mut held = machine.take(alloc);
+    let told = held.revoke(command);
+    machine.put(held);
+    *reply = revoker_reply_record(told);
+}
+
+/// Does the command of a record, or makes the revoker's step that it is, and writes the reply.
 #[unsafe(no_mangle)]
 pub extern "C" fn kernelstint_proved_machine_step(
     alloc: Global,
@@ -49,10 +73,14 @@ pub extern "C" fn kernelstint_proved_machine_step(
     ensures step { result ≡ done → IsMachineStep machine.old.value command reply.new machine.new.value }
     ensures still { result ≢ done → machine.new.value ≡ machine.old.value }
     ensures untold { result ≢ done → reply.new ≡ reply.old }
-    ensures command { (result ≡ bad_command) ↔ IsRead command None }
+    ensures command { (result ≡ bad_command) ↔ IsNoStep command }
     ensures memory { result ≢ done → result ≢ bad_command → result ≡ no_memory }
 {
     exact_blocks_law();
+    if let Some(command) = revoker_command_of(command) {
+        revoke_held(alloc, machine, command, reply);
+        return DONE;
+    }
     let Some(command) = command_of(command) else {
         return BAD_COMMAND;
     };

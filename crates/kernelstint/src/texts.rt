@@ -7,9 +7,10 @@ ghost use Rattle.kernelstint.specs.Calls.{IsFaulty, IsTooLong, IsWritten};
 ghost use Rattle.kernelstint.specs.Codes.{bad_trace, done, no_memory, short_text};
 
 use crate::codes::{BAD_TRACE, DONE, NO_MEMORY, SHORT_TEXT};
-use byte_machine::{put_all, run_report, run_states};
+use byte_machine::{run_report, run_states};
 use heap_trace::RunFault;
 use host_memory::Global;
+use trace_report::put_all;
 
 /// Writes the report of the trace that a text is where a room begins, and how long it is; the length alone where the room is
 /// shorter.

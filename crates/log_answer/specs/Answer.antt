@@ -1,13 +1,13 @@
 -- What is answered for a log: a status, and the text that goes with it.
 use Rattle.std.specs.Prelude.{◌≡◌, ◌==◌, ◌<◌, ◌^◌, ℕ, All, length, Bool, false, true, List, [], ◌++◌, Option, None, Some, Ok, Err, take, if◌then◌else◌}
 use Rattle.heap_model.specs.declared.block.Block.{Block as BlockBounds}
-use Rattle.heap_model.specs.declared.block.Claim.TheVariants.{OverHeld, OverLive}
+use Rattle.heap_model.specs.declared.block.Obstacle.TheVariants.{OverHeld, OverLive}
 use Rattle.heap_reply.specs.declared.reply.Reply.TheVariants.{Begun, Swept}
 use Rattle.log_text.specs.declared.fault.LogFault.{LogFault}
 use Rattle.log_text.specs.declared.fault.LogFault.TheVariants.{Trace}
 use Rattle.trace_text.specs.declared.fault.TraceFault.TheVariants.{Memory}
 use Rattle.log_text.specs.declared.log.Event.{Event}
-use Rattle.log_text.specs.declared.log.Event.TheVariants.{Done}
+use Rattle.log_text.specs.declared.log.Event.TheVariants.{Done, Revoked}
 use Rattle.log_text.specs.declared.log.Given.{Given}
 use Rattle.log_text.specs.declared.log.Log.{Log}
 use Rattle.log_text.specs.Log.{IsListedEvent, IsListedGiven, Record, first_line, log_of}
@@ -16,9 +16,11 @@ use Rattle.given_state.specs.declared.fault.Lack.{Lack}
 use Rattle.given_state.specs.declared.fault.Lack.TheVariants.{Block}
 use Rattle.given_state.specs.Given.{AreSafe, IsFirstFlaw, given_state}
 use Rattle.machine_storage.specs.declared.followed.Why.TheVariants.{MustBe, Refused, Takes}
+use Rattle.revoker_steps.specs.declared.command.RevokerReply.TheVariants as told
+use Rattle.revoker_steps.specs.declared.command.RevokerTrap.TheVariants.{Left}
 use Rattle.machine_steps.specs.State.{State}
 use Rattle.heap_log.specs.declared.verdict.Difference.{Difference}
-use Rattle.heap_log.specs.declared.verdict.Difference.TheVariants.{Answer}
+use Rattle.heap_log.specs.declared.verdict.Difference.TheVariants.{Answer, Step}
 use Rattle.heap_log.specs.Due.{due_words}
 use Rattle.heap_log.specs.Judged.{AllFollow, DiffersAt, tally_of}
 use Rattle.heap_log.specs.Origin.{IsLastFree, gives, hands_out, last_line}
@@ -78,11 +80,12 @@ given_from givens lack = Unknown
 abbrev pub unless_equal : ℕ → ℕ → Bool → Option Bool
 unless_equal told is registers_too = if told == is then None else Some registers_too
 
--- Whether a pass took another number of tags than it was said to, and whether it takes those of registers too.
+-- Whether a pass took another number of tags than it was said to, or a revoker left some, and whether those of registers count too.
 abbrev pub miscounts : Event → Difference → Option Bool
 miscounts (Done command answer) (Answer (Takes count)) = Some true
 miscounts (Done command (Swept told released)) (Answer (MustBe (Swept is due))) = unless_equal told is true
 miscounts (Done command (Begun told)) (Answer (MustBe (Begun is))) = unless_equal told is false
+miscounts (Revoked command answer) (Step (told.Trap Left)) = Some true
 miscounts event difference = None
 
 abbrev pub due_shown : Option Bool → State → List ℕ

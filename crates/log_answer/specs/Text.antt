@@ -4,15 +4,16 @@ use Rattle.std.specs.Fmt.{decimal}
 use Rattle.std.specs.List.{concat}
 use Rattle.hex.specs.Hex.{encode_lower}
 use Rattle.heap_model.specs.declared.block.Block.{Block}
-use Rattle.heap_model.specs.declared.block.Claim.{Claim}
-use Rattle.heap_model.specs.declared.block.Claim.TheVariants.{Claimed, Empty, Inexact, Outside, OverHeld, OverLive, Uneven}
+use Rattle.heap_model.specs.declared.block.Obstacle.{Obstacle}
+use Rattle.heap_model.specs.declared.block.Obstacle.TheVariants.{Empty, Inexact, Outside, OverHeld, OverLive, Uneven}
 use Rattle.heap_reply.specs.declared.reply.Reply.TheVariants.{Block as HandsOut, BlockAfter as HandsOutAfter}
 use Rattle.heap_reply.specs.ReplyText.{text_of_reply, block_text}
 use Rattle.heap_reply.specs.Display.{bit_text, hexadecimal_text, join_pieces}
 use Rattle.log_text.specs.declared.fault.LogFault.{LogFault}
 use Rattle.log_text.specs.declared.log.Event.{Event}
-use Rattle.log_text.specs.declared.log.Event.TheVariants.{Done, Seen}
+use Rattle.log_text.specs.declared.log.Event.TheVariants.{Done, Revoked, Seen}
 use Rattle.log_text.specs.Fault.{log_fault_text}
+use Rattle.revoker_steps.specs.RevokerText.{text_of_revoker_reply}
 use Rattle.given_state.specs.declared.fault.Lack.{Lack}
 use Rattle.given_state.specs.declared.fault.Lack.TheVariants as lack
 use Rattle.machine_storage.specs.declared.followed.Why.{Why}
@@ -20,7 +21,7 @@ use Rattle.machine_storage.specs.declared.followed.Why.TheVariants as why
 use Rattle.heap_log.specs.declared.due.DueWord.{DueWord}
 use Rattle.heap_log.specs.declared.due.DueWord.TheVariants as word
 use Rattle.heap_log.specs.declared.verdict.Difference.{Difference}
-use Rattle.heap_log.specs.declared.verdict.Difference.TheVariants.{Answer, Granule, NoGranule}
+use Rattle.heap_log.specs.declared.verdict.Difference.TheVariants.{Answer, Granule, NoGranule, Step}
 use Rattle.heap_log.specs.declared.verdict.Tally.{Tally}
 use Rattle.log_answer.specs.declared.lines.Noun.{Noun}
 use Rattle.log_answer.specs.declared.lines.Noun.TheVariants as noun
@@ -68,8 +69,7 @@ abbrev pub way_text : Block → Origin → List ℕ
 way_text block from = join_pieces (hexadecimal_text block.base ∷ codes " " ∷ hexadecimal_text block.top ∷ origin_text from ∷ [])
 
 -- Why a block may not lie where it is told to.
-abbrev pub refused_text : Claim → Origin → List ℕ
-refused_text Claimed from = []
+abbrev pub refused_text : Obstacle → Origin → List ℕ
 refused_text Uneven from = codes " is not whole granules"
 refused_text Empty from = codes " is empty"
 refused_text Outside from = codes " lies outside the heap"
@@ -90,6 +90,7 @@ content_text tag bytes = join_pieces (bit_text tag ∷ codes " " ∷ encode_lowe
 -- What the log says: an answer, or what was seen.
 abbrev pub said_text : Event → List ℕ
 said_text (Done command answer) = text_of_reply answer
+said_text (Revoked command answer) = text_of_revoker_reply answer
 said_text (Seen address tag bytes) = content_text tag bytes
 
 -- It stands behind what must be.
@@ -109,6 +110,7 @@ why_text event is_open from (why.Refused reason) = said_block_text event ++ refu
 -- How a log differs.
 abbrev pub difference_text : Event → Bool → Origin → Difference → List ℕ
 difference_text event is_open from (Answer reason) = why_text event is_open from reason
+difference_text event is_open from (Step reply) = join_pieces (codes "the answer must be " ∷ text_of_revoker_reply reply ∷ and_said event)
 difference_text event is_open from NoGranule = codes "no granule of the heap lies at this address"
 difference_text event is_open from (Granule tag bytes) = join_pieces (codes "the granule holds " ∷ content_text tag bytes ∷ and_said event)
 

@@ -10,6 +10,7 @@ use heap_machine::{Machine, Why};
 use heap_reply::Reply;
 use host_memory::Global;
 use log_text::Event;
+use revoker_steps::{RevokerReply, RevokerTrap};
 use std::alloc::AllocError;
 
 // The most of them that are told.
@@ -67,28 +68,34 @@ fn unless_equal(told: u32, is: u32, registers_too: bool) -> Option<bool>
     }
 }
 
-// Whether a pass took another number of tags than it was said to, and whether it takes those of registers too.
+// Whether a pass took another number of tags than it was said to, or a revoker left some, and whether those of registers count too.
 fn miscounts(event: Event, difference: Difference) -> Option<bool>
     ensures { result ≡ miscounts event difference }
 {
-    let Event::Done { answer, .. } = event else {
-        return None;
-    };
-    match (answer, difference) {
-        (_, Difference::Answer(Why::Takes(_))) => Some(true),
+    match (event, difference) {
+        (Event::Done { .. }, Difference::Answer(Why::Takes(_))) => Some(true),
         (
-            Reply::Swept { cleared: told, .. },
+            Event::Done {
+                answer: Reply::Swept { cleared: told, .. },
+                ..
+            },
             Difference::Answer(Why::MustBe(Reply::Swept { cleared, .. })),
         ) => unless_equal(told, cleared, true),
         (
-            Reply::Begun { cleared: told },
+            Event::Done {
+                answer: Reply::Begun { cleared: told },
+                ..
+            },
             Difference::Answer(Why::MustBe(Reply::Begun { cleared })),
         ) => unless_equal(told, cleared, false),
+        (Event::Revoked { .. }, Difference::Step(RevokerReply::Trap(RevokerTrap::Left))) => {
+            Some(true)
+        }
         _ => None,
     }
 }
 
-/// The words that are due, after what stands, where a pass was said to take another number of tags.
+/// The words that are due, after what stands, where a pass was said to take another number of tags, or a revoker left some.
 pub fn push_due_shown(
     alloc: Global,
     text: &mut Vec<u8, Global>,

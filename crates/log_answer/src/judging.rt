@@ -14,7 +14,7 @@ use crate::due_lines::push_due_shown;
 use crate::lines::{Differing, Origin, agrees_text, differs_text, fault_text, unsafe_text};
 use agreed_log::agreed;
 use given_state::{Lack, StartFault, start};
-use heap_core::{Block, Claim};
+use heap_core::{Block, Obstacle};
 use heap_log::{Difference, Verdict, freed_line, given_line, handed_out_line, judge};
 use heap_machine::{Machine, Stepper, Why};
 use host_memory::Global;
@@ -87,10 +87,10 @@ fn origin_of<S: Stepper>(
     ensures { IfOk result (ComesFrom (record_of log.now) before.now difference) }
 {
     match difference {
-        Difference::Answer(Why::Refused(Claim::OverLive(block))) => {
+        Difference::Answer(Why::Refused(Obstacle::OverLive(block))) => {
             Ok(live_origin(log, before, block))
         }
-        Difference::Answer(Why::Refused(Claim::OverHeld(block))) => {
+        Difference::Answer(Why::Refused(Obstacle::OverHeld(block))) => {
             held_origin(stepper, alloc, log, cutting, before, block)
         }
         _ => Ok(Origin::Unknown),
@@ -179,7 +179,7 @@ fn lacking_origin(givens: &[(u32, Given)], lack: Lack) -> Origin
     ensures { result ≡ given_from givens.now lack }
 {
     match lack {
-        Lack::Block(Claim::OverLive(block)) => given_origin(givens, block),
+        Lack::Block(Obstacle::OverLive(block)) => given_origin(givens, block),
         _ => Origin::Unknown,
     }
 }

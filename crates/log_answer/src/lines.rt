@@ -5,7 +5,7 @@ ghost use Rattle.heap_reply.specs.ReplyText.{text_of_reply};
 ghost use Rattle.log_answer.specs.Text.{agrees_line, content_text, counted_text, differs_line, difference_text, lack_text, line_of_fault, noun_text, origin_text, plural_text, refused_text, said_text, said_block_text, unsafe_line, way_text, why_text};
 
 use given_state::Lack;
-use heap_core::{Block, Claim};
+use heap_core::{Block, Obstacle};
 use heap_log::{Difference, Tally};
 use heap_machine::Why;
 use heap_reply::{Hexadecimal, Reply, ShortText, flag_number, put_reply};
@@ -132,26 +132,25 @@ impl fmt::Display for InTheWay {
 /// Why a block may not lie where it is told to.
 #[derive(Clone, Copy)]
 struct RefusedBlock {
-    reason: Claim,
+    obstacle: Obstacle,
     from: Origin,
 }
 
 impl fmt::Display for RefusedBlock {
-    ghost output = { λ refused. Some (refused_text refused.reason refused.from) };
+    ghost output = { λ refused. Some (refused_text refused.obstacle refused.from) };
 
     fn fmt<W: fmt::Write>(&self, f: &mut fmt::Formatter<W>) -> fmt::Result {
         let from = self.from;
-        match self.reason {
-            Claim::Claimed => Ok(()),
-            Claim::Uneven => write!(f, " is not whole granules"),
-            Claim::Empty => write!(f, " is empty"),
-            Claim::Outside => write!(f, " lies outside the heap"),
-            Claim::Inexact => write!(f, " has bounds that no capability holds"),
-            Claim::OverLive(block) => {
+        match self.obstacle {
+            Obstacle::Uneven => write!(f, " is not whole granules"),
+            Obstacle::Empty => write!(f, " is empty"),
+            Obstacle::Outside => write!(f, " lies outside the heap"),
+            Obstacle::Inexact => write!(f, " has bounds that no capability holds"),
+            Obstacle::OverLive(block) => {
                 let way = InTheWay { block, from };
                 write!(f, " lies over the live block {way}")
             }
-            Claim::OverHeld(block) => {
+            Obstacle::OverHeld(block) => {
                 let way = InTheWay { block, from };
                 write!(f, " lies over the held block {way}")
             }
@@ -226,6 +225,7 @@ impl fmt::Display for Said {
                 let answer = ReplyText(answer);
                 write!(f, "{answer}")
             }
+            Event::Revoked { answer, .. } => write!(f, "{answer}"),
             Event::Seen { tag, bytes, .. } => {
                 let content = Content { tag, bytes };
                 write!(f, "{content}")
@@ -278,9 +278,9 @@ impl fmt::Display for WhyText {
                 let tags = so_many(count, Noun::Tag);
                 write!(f, "the sweep takes {tags}, and the log says {said}")
             }
-            Why::Refused(reason) => {
+            Why::Refused(obstacle) => {
                 let from = self.from;
-                let refused = RefusedBlock { reason, from };
+                let refused = RefusedBlock { obstacle, from };
                 write!(f, "{told}{refused}")
             }
         }
@@ -300,6 +300,10 @@ impl fmt::Display for Differing {
                     why,
                 };
                 write!(f, "{why}")
+            }
+            Difference::Step(must) => {
+                let said = Said(self.event);
+                write!(f, "the answer must be {must}, and the log says {said}")
             }
             Difference::NoGranule => write!(f, "no granule of the heap lies at this address"),
             Difference::Granule { tag, bytes } => {
@@ -324,25 +328,27 @@ impl fmt::Display for LackText {
     fn fmt<W: fmt::Write>(&self, f: &mut fmt::Formatter<W>) -> fmt::Result {
         let from = self.from;
         match self.lack {
-            Lack::Block(Claim::OverLive(block)) => {
+            Lack::Block(Obstacle::OverLive(block)) => {
                 let way = InTheWay { block, from };
                 write!(f, "the block lies over the block {way}")
             }
-            Lack::Block(reason) => {
-                let refused = RefusedBlock { reason, from };
+            Lack::Block(obstacle) => {
+                let refused = RefusedBlock { obstacle, from };
                 write!(f, "the block{refused}")
             }
             Lack::RegisterAgain { register, line } => {
                 write!(f, "register c{register} was given at line {line}")
             }
             Lack::GranuleAgain { address, line } => {
-                write!(f, "granule 0x{address:x} was given at line {line}")
+                let address = Hexadecimal(u128::from(address));
+                write!(f, "granule {address} was given at line {line}")
             }
             Lack::NotNull => write!(f, "register c0 is always null"),
             Lack::NoGranule => write!(f, "no granule of the heap lies at this address"),
             Lack::Unguarded { base, top } => {
+                let base = Hexadecimal(u128::from(base));
                 let top = Hexadecimal(top);
-                write!(f, "the word's bounds 0x{base:x} {top} lie in no block")
+                write!(f, "the word's bounds {base} {top} lie in no block")
             }
         }
     }

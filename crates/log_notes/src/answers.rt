@@ -19,6 +19,9 @@ const ANSWERS: [&str; 7] = [
     "trap tag",
 ];
 
+// The same of answers to a revoker's commands.
+const REVOKED: [&str; 4] = ["ok", "cleared 0", "released 0", "trap left"];
+
 // What is seen of a granule.
 const SEEN: [&str; 1] = ["0 00000000000000000000000000000000"];
 
@@ -72,6 +75,7 @@ fn begin_answer(
 ) -> Result<bool, AllocError> {
     let forms: &[&str] = match asked {
         Asked::Command(_) => &ANSWERS,
+        Asked::Revoker(_) => &REVOKED,
         Asked::Granule(_) => &SEEN,
     };
     for form in forms {
@@ -109,12 +113,12 @@ fn wrong_in<'a>(alloc: Global, line: &Line<'a>) -> Result<Wrong<'a>, AllocError>
 }
 
 /// That a line has no arrow.
-pub fn no_arrow(alloc: Global) -> Result<Vec<u8, Global>, AllocError> {
+pub(crate) fn no_arrow(alloc: Global) -> Result<Vec<u8, Global>, AllocError> {
     joined(alloc, &[b"it has no arrow -> between blanks"])
 }
 
 /// What is wrong with the answer of this line.
-pub fn answer_wanted(alloc: Global, line: &Line<'_>) -> Result<Vec<u8, Global>, AllocError> {
+pub(crate) fn answer_wanted(alloc: Global, line: &Line<'_>) -> Result<Vec<u8, Global>, AllocError> {
     match wrong_in(alloc, line)? {
         Wrong::NoArrow => no_arrow(alloc),
         Wrong::Ends => joined(alloc, &[b"its answer ends too early"]),

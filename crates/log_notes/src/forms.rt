@@ -6,9 +6,9 @@ use host_memory::Global;
 use std::alloc::AllocError;
 use trace_text::{Line, data, number, register};
 
-// Each command, what is seen, and what may be given. A place for a register has two letters, and one for another word is in
+// Each command, a revoker's too, what is seen, and what may be given. A place for a register has two letters, and one for another word is in
 // capitals.
-const FORMS: [&[u8]; 20] = [
+const FORMS: [&[u8]; 24] = [
     b"malloc cD SIZE",
     b"free cS",
     b"copy cD cS",
@@ -22,6 +22,10 @@ const FORMS: [&[u8]; 20] = [
     b"sweep",
     b"begin",
     b"end",
+    b"paint",
+    b"visit PAGE",
+    b"untag WHERE",
+    b"release",
     b"granule ADDRESS",
     b"given live BASE TOP",
     b"given waiting BASE TOP",
@@ -35,7 +39,7 @@ const FORMS: [&[u8]; 20] = [
 const MOST_WORDS: usize = 8;
 
 const NAMES: &[u8] =
-    b" there: it begins with malloc, free, copy, setaddr, narrow, andperm, storecap, loadcap, write, show, sweep, begin, end, granule or #, or with given before all commands and granules";
+    b" there: it begins with malloc, free, copy, setaddr, narrow, andperm, storecap, loadcap, write, show, sweep, begin, end, paint, visit, untag, release, granule or #, or with given before all commands and granules";
 
 const KINDS: &[u8] = b"after given stands live, waiting, painted, epoch, register or granule";
 
@@ -49,6 +53,9 @@ enum Place {
     Register,
     Number,
     Mask,
+    Page,
+    /// What a revoker takes a tag of: a granule or a register.
+    Where,
     Tag,
     /// An address, or the end of all addresses.
     Top,
@@ -64,7 +71,7 @@ fn first_word<'a>(line: &Line<'a>) -> &'a [u8] {
 }
 
 /// Whether a line says that it gives something.
-pub fn gives(line: &Line<'_>) -> bool {
+pub(crate) fn gives(line: &Line<'_>) -> bool {
     first_word(line) == b"given".as_slice()
 }
 
@@ -97,6 +104,12 @@ fn place_of(word: &[u8]) -> Place {
     if word == b"MASK".as_slice() {
         return Place::Mask;
     }
+    if word == b"PAGE".as_slice() {
+        return Place::Page;
+    }
+    if word == b"WHERE".as_slice() {
+        return Place::Where;
+    }
     if word == b"TAG".as_slice() {
         return Place::Tag;
     }
@@ -120,6 +133,14 @@ fn is_mask(word: &[u8]) -> bool {
     }
 }
 
+// Whether a word is the number of a page, whatever the heap.
+fn is_page(word: &[u8]) -> bool {
+    match number(word) {
+        Some(page) => page <= u64::from(u32::MAX),
+        None => false,
+    }
+}
+
 impl Place {
     // Whether a word may stand there.
     fn takes(self, word: &[u8]) -> bool {
@@ -128,6 +149,8 @@ impl Place {
             Place::Register => register(word).is_ok(),
             Place::Number => number(word).is_some(),
             Place::Mask => is_mask(word),
+            Place::Page => is_page(word),
+            Place::Where => register(word).is_ok() || number(word).is_some(),
             Place::Tag => word == b"0".as_slice() || word == b"1".as_slice(),
             Place::Top => word == b"0x10000000000000000".as_slice() || number(word).is_some(),
             Place::Data => data(word).is_ok(),
@@ -141,6 +164,8 @@ impl Place {
             Place::Register => b"a register, c0 to c31",
             Place::Number => b"a number, decimal or hexadecimal with 0x, below 2^64",
             Place::Mask => b"a mask, a number below 65536",
+            Place::Page => b"the number of a page, from 0",
+            Place::Where => b"the address of a granule, or a register, c0 to c31",
             Place::Tag => b"a tag, 0 or 1",
             Place::Top =>
                 b"a number, decimal or hexadecimal with 0x, below 2^64, or 0x10000000000000000",
@@ -177,7 +202,7 @@ fn lacks_arrow(line: &Line<'_>) -> bool {
 }
 
 /// What is wanted of a line that begins with no name, or gives what can't be given there.
-pub fn name_wanted(alloc: Global, line: &Line<'_>) -> Result<Vec<u8, Global>, AllocError> {
+pub(crate) fn name_wanted(alloc: Global, line: &Line<'_>) -> Result<Vec<u8, Global>, AllocError> {
     if gives(line) {
         return joined(alloc, &[if form_of(line).is_some() { LATE } else { KINDS }]);
     }
@@ -186,7 +211,7 @@ pub fn name_wanted(alloc: Global, line: &Line<'_>) -> Result<Vec<u8, Global>, Al
 }
 
 /// What is wanted of a line that has more or fewer words than its form.
-pub fn form_wanted(alloc: Global, line: &Line<'_>) -> Result<Vec<u8, Global>, AllocError> {
+pub(crate) fn form_wanted(alloc: Global, line: &Line<'_>) -> Result<Vec<u8, Global>, AllocError> {
     if lacks_arrow(line) {
         return no_arrow(alloc);
     }
@@ -205,7 +230,7 @@ pub fn form_wanted(alloc: Global, line: &Line<'_>) -> Result<Vec<u8, Global>, Al
 }
 
 /// What is wanted in place of the first word of a line that its form doesn't take.
-pub fn word_wanted(alloc: Global, line: &Line<'_>) -> Result<Vec<u8, Global>, AllocError> {
+pub(crate) fn word_wanted(alloc: Global, line: &Line<'_>) -> Result<Vec<u8, Global>, AllocError> {
     let Some(form) = form_of(line) else {
         return joined(alloc, &[KINDS]);
     };

@@ -90,7 +90,7 @@ pub fn part_line(alloc: Global, comment: &[u8]) -> Result<Vec<u8, Global>, Alloc
 }
 
 /// The line that tells of the part of a run that a log has, and nothing where it has a whole one. An error is want of memory.
-pub fn part_note(alloc: Global, log: &[u8]) -> Result<Vec<u8, Global>, AllocError>
+pub(crate) fn part_note(alloc: Global, log: &[u8]) -> Result<Vec<u8, Global>, AllocError>
     ensures { IfOk result (λ text. text.items ≡ line_of_part (part_comment log.now)) }
 {
     match part_comment(log) {

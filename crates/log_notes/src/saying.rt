@@ -9,7 +9,7 @@ use std::alloc::AllocError;
 const MOST_TOLD: usize = 60;
 
 /// These texts, one behind the other.
-pub fn joined(alloc: Global, parts: &[&[u8]]) -> Result<Vec<u8, Global>, AllocError> {
+pub(crate) fn joined(alloc: Global, parts: &[&[u8]]) -> Result<Vec<u8, Global>, AllocError> {
     let mut text = Vec::new(alloc);
     for part in parts {
         text.extend_from_slice(part)?;
@@ -18,7 +18,7 @@ pub fn joined(alloc: Global, parts: &[&[u8]]) -> Result<Vec<u8, Global>, AllocEr
 }
 
 /// A word as it may be told: its first bytes, and a `?` for each that isn't printed.
-pub fn shown(alloc: Global, word: &[u8]) -> Result<Vec<u8, Global>, AllocError> {
+pub(crate) fn shown(alloc: Global, word: &[u8]) -> Result<Vec<u8, Global>, AllocError> {
     let mut text = Vec::new(alloc);
     for byte in &word[..word.len().min(MOST_TOLD)] {
         text.push(if byte.is_ascii_graphic() { *byte } else { b'?' })?;

@@ -1,3 +1,4 @@
 pub mod ReplyWords
+pub mod RevokerWords
 pub mod Numerals
 pub mod Texts

@@ -66,10 +66,10 @@ hexadecimal_plain n =
 hexadecimal_some : (n : ℕ) → 0 < length (hexadecimal_text n)
 hexadecimal_some n = omega arith
 
-decimal_is : (limit n : ℕ) → n < limit → limit ≤ 2 ^ 64 → decimal_in limit (decimal n) ≡ Some n
+pub decimal_is : (limit n : ℕ) → n < limit → limit ≤ 2 ^ 64 → decimal_in limit (decimal n) ≡ Some n
 decimal_is limit n lt room = written-is 10 (omega arith) (omega arith) limit n (decimal n) lt (omega arith) refl
 
-decimal_read : (limit n : ℕ) (word : List ℕ) → decimal_in limit word ≡ Some n → (n < limit) × (word ≡ decimal n)
+pub decimal_read : (limit n : ℕ) (word : List ℕ) → decimal_in limit word ≡ Some n → (n < limit) × (word ≡ decimal n)
 decimal_read limit n word e = written-read 10 (omega arith) (omega arith) limit n word e
 
 hexadecimal_is : (limit n : ℕ) → n < limit → limit ≤ 2 ^ 128 → hexadecimal_in limit (hexadecimal_text n) ≡ Some n
@@ -131,10 +131,10 @@ hexadecimal_last n = word_last (hexadecimal_text n) (hexadecimal_some n) (hexade
 decimal_then : (n : ℕ) (rest : List ℕ) → n < 2 ^ 64 → words_of (decimal n ++ (32 ∷ rest)) ≡ decimal n ∷ words_of rest
 decimal_then n rest small = word_then (decimal n) rest (decimal_some n small) (decimal_plain n)
 
-decimal_last : (n : ℕ) → n < 2 ^ 64 → words_of (decimal n) ≡ decimal n ∷ []
+pub decimal_last : (n : ℕ) → n < 2 ^ 64 → words_of (decimal n) ≡ decimal n ∷ []
 decimal_last n small = word_last (decimal n) (decimal_some n small) (decimal_plain n)
 
-abbrev after : List ℕ → List (List ℕ) → List (List ℕ)
+abbrev pub after : List ℕ → List (List ℕ) → List (List ℕ)
 after word words = word ∷ words
 
 regroup : (a b c d e f rest : List ℕ) → (a ++ (b ++ (c ++ (d ++ (e ++ f))))) ++ rest ≡ a ++ (b ++ (c ++ (d ++ (e ++ (f ++ rest)))))
@@ -276,7 +276,7 @@ then_read : {A B : Type 0} (f : A → Option B) (found : Option A) (y : B) → o
 then_read f None y e = absurd cc
 then_read f (Some x) y e = (x, refl, e)
 
-one_read : {A : Type 0} (read : List ℕ → Option A) (words : List (List ℕ)) (x : A) → option_and_then read (one_word_in words) ≡ Some x → (word : List ℕ) × (words ≡ word ∷ []) × (read word ≡ Some x)
+pub one_read : {A : Type 0} (read : List ℕ → Option A) (words : List (List ℕ)) (x : A) → option_and_then read (one_word_in words) ≡ Some x → (word : List ℕ) × (words ≡ word ∷ []) × (read word ≡ Some x)
 one_read read [] x e = absurd cc
 one_read read (word ∷ []) x e = (word, refl, e)
 one_read read (word ∷ other ∷ words) x e = absurd cc

@@ -1,4 +1,5 @@
 pub mod ReplyText
+pub mod RevokerLines
 pub mod Asking
 pub mod Fault
 pub mod Log

@@ -16,13 +16,16 @@ use Rattle.log_text.specs.declared.event.Asked.TheVariants as asked
 use Rattle.log_text.specs.declared.given.Early.{Early}
 use Rattle.log_text.specs.declared.given.Early.TheVariants as early
 use Rattle.log_text.specs.declared.log.Event.{Event}
-use Rattle.log_text.specs.declared.log.Event.TheVariants.{Done, Seen}
+use Rattle.log_text.specs.declared.log.Event.TheVariants.{Done, Revoked, Seen}
 use Rattle.log_text.specs.declared.log.Given.{Given}
 use Rattle.log_text.specs.declared.log.Given.TheVariants.{Epoch, Granule, Live, Painted, Register, Waiting}
 use Rattle.log_text.specs.declared.log.Log.{Log}
 use Rattle.log_text.specs.declared.fault.LogFault.{LogFault}
 use Rattle.log_text.specs.declared.fault.LogFault.TheVariants.{BadAnswer, Trace}
 use Rattle.log_text.specs.ReplyText.{reply_in, bit_in}
+use Rattle.log_text.specs.RevokerLines.{page_in, revoker_reply_in, untag_in}
+use Rattle.revoker_steps.specs.declared.command.RevokerCommand.TheVariants.{Paint, Release, Visit}
+use Rattle.revoker_steps.specs.Valid as revoker
 
 -- The most bytes that the text of a log has.
 abbrev pub longest_log : ℕ
@@ -101,6 +104,10 @@ operands_in words (Some parts) = parts.0
 unfoldable pub asked_of : List ℕ → List (List ℕ) → Result Asked LineFault
 asked_of name operands =
     if bytes_eq name (codes "granule") then (one_of number_in operands >>= λ address. Ok (asked.Granule address))
+    else if bytes_eq name (codes "paint") then (none_of operands >>= λ _. Ok (asked.Revoker Paint))
+    else if bytes_eq name (codes "visit") then (one_of page_in operands >>= λ page. Ok (asked.Revoker (Visit page)))
+    else if bytes_eq name (codes "untag") then (one_of untag_in operands >>= λ command. Ok (asked.Revoker command))
+    else if bytes_eq name (codes "release") then (none_of operands >>= λ _. Ok (asked.Revoker Release))
     else (command_of (name ∷ operands) >>= λ command. Ok (asked.Command command))
 
 -- a tag and 16 bytes
@@ -111,6 +118,7 @@ content_in words = result_ok (two_of tag_in data_in words)
 unfoldable pub event_of_answer : Asked → List (List ℕ) → Option Event
 event_of_answer (asked.Granule address) words = option_map (λ content. Seen address content.0 content.1) (content_in words)
 event_of_answer (asked.Command command) words = option_map (Done command) (reply_in words)
+event_of_answer (asked.Revoker command) words = option_map (Revoked command) (revoker_reply_in words)
 
 -- the words of the line with this number, and its parts: what is wrong with the operands comes before an answer that lacks
 unfoldable pub event_of : ℕ → List ℕ → List (List ℕ) → Option (List (List ℕ) × List (List ℕ)) → Result Event LogFault
@@ -194,10 +202,12 @@ IsListedGiven listed_event = (listed_event.0 < 2 ^ 32) × IsValidGiven listed_ev
 -- the registers of a command are registers
 abbrev pub IsValidAsked : Asked → Type 0
 IsValidAsked (asked.Command command) = IsValid command
+IsValidAsked (asked.Revoker command) = revoker.IsValid command
 IsValidAsked asked = Unit {0}
 
 abbrev pub IsValidEvent : Event → Type 0
 IsValidEvent (Done command answer) = IsValid command
+IsValidEvent (Revoked command answer) = revoker.IsValid command
 IsValidEvent event = Unit {0}
 
 abbrev pub IsListedEvent : ℕ × Event → Type 0

@@ -6,17 +6,20 @@ ghost use Rattle.trace_text.specs.Reading.{number_in, one_of};
 ghost use Rattle.log_text.specs.Log.{IsValidAsked, IsValidEvent, asked_of, content_in, event_at, event_of, event_of_answer};
 
 use crate::fault::LogFault;
-use crate::given::tag;
+use crate::given::{nothing, tag};
 use crate::log::Event;
 use crate::replies::reply;
+use crate::revoking::{revoker_reply, untagged, visited};
+use revoker_steps::RevokerCommand;
 use trace_text::{
     Command, Line, LineFault, command, data, one_word, operand_number, split_name, two_words,
 };
 
-/// What stands before a line's arrow: a command, or the address of a granule that was looked at.
+/// What stands before a line's arrow: a command, a revoker's command, or the address of a granule that was looked at.
 #[derive(Clone, Copy)]
 pub enum Asked {
     Command(Command),
+    Revoker(RevokerCommand),
     Granule(u64),
 }
 
@@ -40,6 +43,22 @@ pub fn question(name: &[u8], operands: &Line<'_>) -> Result<Asked, LineFault>
     if name == b"granule".as_slice() {
         let address = address(operands)?;
         return Ok(Asked::Granule(address));
+    }
+    if name == b"paint".as_slice() {
+        nothing(operands)?;
+        return Ok(Asked::Revoker(RevokerCommand::Paint));
+    }
+    if name == b"visit".as_slice() {
+        let page = visited(operands)?;
+        return Ok(Asked::Revoker(RevokerCommand::Visit { page }));
+    }
+    if name == b"untag".as_slice() {
+        let command = untagged(operands)?;
+        return Ok(Asked::Revoker(command));
+    }
+    if name == b"release".as_slice() {
+        nothing(operands)?;
+        return Ok(Asked::Revoker(RevokerCommand::Release));
     }
     let command = command(name, operands)?;
     Ok(Asked::Command(command))
@@ -74,6 +93,10 @@ pub fn event_of_answer(asked: Asked, line: &Line<'_>) -> Option<Event>
         Asked::Command(command) => {
             let answer = reply(line)?;
             Some(Event::Done { command, answer })
+        }
+        Asked::Revoker(command) => {
+            let answer = revoker_reply(line)?;
+            Some(Event::Revoked { command, answer })
         }
     }
 }

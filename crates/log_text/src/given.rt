@@ -44,9 +44,9 @@ fn block(operands: &Line<'_>) -> Result<(u64, u128), LineFault>
     Ok((base, top))
 }
 
-// That an epoch is open.
+/// That no operand follows.
 #[tactic(auto, unfolding(trace_text::specs::Reading::none_of))]
-fn epoch(operands: &Line<'_>) -> Result<(), LineFault>
+pub fn nothing(operands: &Line<'_>) -> Result<(), LineFault>
     ensures { result ≡ none_of (words_of operands.now) }
 {
     if no_word(operands) {
@@ -107,7 +107,7 @@ fn read_given(words: &Line<'_>) -> Result<Given, LineFault>
         return Ok(Given::Painted { base, top });
     }
     if kind == b"epoch".as_slice() {
-        epoch(&operands)?;
+        nothing(&operands)?;
         return Ok(Given::Epoch);
     }
     if kind == b"register".as_slice() {

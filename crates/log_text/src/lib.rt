@@ -9,6 +9,7 @@ mod laws;
 mod log;
 mod numbers;
 mod replies;
+mod revoking;
 mod text;
 
 pub use crate::asking::asked_line;

@@ -2,6 +2,7 @@
 
 use heap_reply::Reply;
 use host_memory::Global;
+use revoker_steps::{RevokerCommand, RevokerReply};
 use trace_text::Command;
 
 /// A part of the state in which the heap was when the log begins. A block goes from `base` up to `top`.
@@ -45,6 +46,11 @@ pub enum Event {
     Done {
         command: Command,
         answer: Reply,
+    },
+    /// Its revoker did a step of its own, and this came of it.
+    Revoked {
+        command: RevokerCommand,
+        answer: RevokerReply,
     },
     /// The granule at this address was read, and had this content.
     Seen {

@@ -30,7 +30,7 @@ ones-masks {X = X} p (mask ∷ masks) xs d long fits each =
     omega (arith, sum_by-cons count_ones mask masks, row, more, sum_by-take-drop (λ (x : X). cond (p x) 1 0) xs 64)
 
 -- What a register reads as is what stands there.
-register_at-is : (registers : List Cell) → get_or registers 0 null_cell ≡ null_cell → (r : ℕ) → register_at registers r ≡ get_or registers r null_cell
+pub register_at-is : (registers : List Cell) → get_or registers 0 null_cell ≡ null_cell → (r : ℕ) → register_at registers r ≡ get_or registers r null_cell
 register_at-is registers null r = dite (ℕ_discrete r 0)
     (λ here. ap (register_at registers) here ∙ (sym null ∙ ap (λ (k : ℕ). get_or registers k null_cell) (sym here)))
     (λ other. rw (ne_eqb r 0 other) refl)

@@ -3,6 +3,7 @@ pub mod CountLaws
 pub mod DueSweep
 pub mod MadeLaws
 pub mod PassedChecks
+pub mod RevokerLaws
 pub mod SweepStep
 pub mod SweptMalloc
 pub mod SweptMemory

@@ -9,9 +9,7 @@ use Rattle.heap_reply.specs.declared.reply.Trap.{Trap as TheTrap}
 use Rattle.machine_steps.specs.Follow.{Allows, Follows, FollowsAfter}
 use Rattle.machine_storage.specs.Followed.{CanReply, HasOneReply, IsRefused, IsWhy}
 use Rattle.machine_storage.specs.declared.followed.Why.TheVariants.{MustBe}
-use Rattle.heap_model.specs.Claim.{IsClaim, IsClaimable, IsReason}
-use Rattle.heap_model.specs.declared.block.Claim.{Claim}
-use Rattle.heap_model.specs.declared.block.Claim.TheVariants.{Claimed, Empty, Inexact, Outside, OverHeld, OverLive, Uneven}
+use Rattle.heap_model.specs.Claim.{IsClaimable}
 use Rattle.std.specs.Prelude.{◌≢◌, ◌*◌, ◌%◌, ◌^◌, ◌==◌, nat_le}
 use Rattle.std.proofs.lemmas.Bool.{and_parts, leb-true}
 use Rattle.machine_steps.specs.State.{State}
@@ -64,17 +62,6 @@ pub IsRefused-other : (old : State) (c : Command) (answer reply : Reply)
     → HasOneReply c → CanReply old c reply → answer ≢ reply → IsRefused old c answer
 IsRefused-other old c answer reply only one can other = λ left follows.
     other (only answer reply left can.0 (Follows-step old c answer left one follows) can.1).0
-
--- What a refused claim leaves, and why.
-pub claim_refused : (before now : HeapState) (base top : ℕ) (claim : Claim) (new : HeapState) → claim ≢ Claimed → IsClaim before now base top claim new
-    → IsReason now base top claim × (new ≡ before)
-claim_refused before now base top Claimed new other is = absurd (other refl)
-claim_refused before now base top Uneven new other is = is
-claim_refused before now base top Empty new other is = is
-claim_refused before now base top Outside new other is = is
-claim_refused before now base top Inexact new other is = is
-claim_refused before now base top (OverLive block) new other is = is
-claim_refused before now base top (OverHeld block) new other is = is
 
 -- A block that may lie in a heap ends at 2 ^ 64 at the latest.
 pub top_fits : (s : HeapState) (base top : ℕ) → IsSoundHeap s → IsClaimable (without_waiting s) base top → top ≤ 2 ^ 64

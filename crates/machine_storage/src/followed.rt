@@ -1,7 +1,8 @@
 //! What became of an answer that an allocator gave.
 
-use heap_core::Claim;
+use heap_core::Obstacle;
 use heap_reply::Reply;
+use revoker_steps::RevokerReply;
 
 /// What became of a command that was answered by an allocator.
 #[derive(Debug, Clone, Copy, PartialEq, Eq)]
@@ -26,5 +27,14 @@ pub enum Why {
     /// A sweep was told, and it takes so many tags.
     Takes(u32),
     /// The block may not lie there, for this reason.
-    Refused(Claim),
+    Refused(Obstacle),
+}
+
+/// What became of a revoker's command that was answered.
+#[derive(Debug, Clone, Copy, PartialEq, Eq)]
+pub enum RevokerFollowed {
+    /// The answer is the one that it has, and the step is made.
+    Agrees,
+    /// It has this answer alone, and nothing was changed.
+    MustBe(RevokerReply),
 }

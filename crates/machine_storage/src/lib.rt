@@ -6,5 +6,5 @@ mod followed;
 mod storage;
 
 pub use crate::fault::MachineFault;
-pub use crate::followed::{Followed, Why};
+pub use crate::followed::{Followed, RevokerFollowed, Why};
 pub use crate::storage::{Found, Storage};

@@ -18,6 +18,7 @@ mod following;
 mod passes;
 mod retry;
 mod revocation;
+mod revoker;
 
 use crate::fault::MachineFault;
 use crate::storage::decision::{Change, Decision};
@@ -72,6 +73,7 @@ impl Storage {
             Command::Write { ra, bytes } => self.make(self.write(ra, bytes)),
             Command::Show { rs } => self.make(self.show(rs)),
             Command::Sweep | Command::Begin | Command::End => {
+                self.prepare()?;
                 let decision = self.decide(command, pass)?;
                 self.make(decision)
             }

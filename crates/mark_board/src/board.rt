@@ -203,17 +203,6 @@ impl Board {
         Ok(found)
     }
 
-    /// Gives up the board and the seat that has all parts. It answers no words and needs no memory: what `finish` would
-    /// answer is just what the seat set first, and just what it has seen.
-    pub fn close(self, seat: MarkSeat)
-        requires board { IsOf self seat }
-        requires parts { seat.parts ≡ self.parts }
-        ensures same { seat.mine ≡ seat.seen }
-        ensures inside { LiesOnBoard self.bits seat.mine }
-    {
-        self.close_table(seat).free();
-    }
-
     // The words at the end, with all that is needed to give them back.
     fn close_table(self, seat: MarkSeat) -> Closed<(), Global>
         requires board { IsOf self seat }

@@ -19,33 +19,8 @@ use log_answer::{LogAnswer, log_answer};
 use log_notes::notes_of;
 use state_data::states_alone;
 use sweep_masks::Cutting;
-use trace_report::{Outcome, RunFault, image_lines};
+use trace_report::{Outcome, RunFault, image_lines, put_all};
 use trace_text::{TraceFault, fault_line, parse};
-
-// As many pages as a task has at most.
-const TASK: u32 = 256;
-
-// One worker, which is the caller.
-fn alone() -> Cutting {
-    match Cutting::new(1, TASK) {
-        Ok(cutting) => cutting,
-        Err(_) => unreachable!(),
-    }
-}
-
-// Copies all of a text to where a room begins. The answer is how long the text is, and an error where the room is shorter:
-// then nothing is written.
-fn put_whole(whole: &[u8], out: &mut [u8]) -> Result<usize, usize>
-    ensures ok { IfOk result (λ count. (count ≡ length whole.now) × (out.new ≡ whole.now ++ drop (length whole.now) out.old)) }
-    ensures short { IfErr result (λ count. (count ≡ length whole.now) × (length out.old < count)) }
-    ensures still { OnErr result (out.new ≡ out.old) }
-{
-    if out.len() < whole.len() {
-        return Err(whole.len());
-    }
-    out[..whole.len()].copy_from_slice(whole);
-    Ok(whole.len())
-}
 
 /// Writes the states of the trace that a text is, as data.
 #[unsafe(no_mangle)]
@@ -57,8 +32,8 @@ pub extern "C" fn page_states(alloc: Global, trace: &[u8], out: &mut [u8], count
     ensures other { result ≢ done → result ≢ short → count.new ≡ count.old }
     ensures memory { result ≢ done → result ≢ short → result ≢ none → result ≡ no_memory }
 {
-    match states_alone(alloc, trace, alone()) {
-        Ok(states) => match put_whole(&states, out) {
+    match states_alone(alloc, trace, Cutting::alone()) {
+        Ok(states) => match put_all(&states, out) {
             Ok(length) => {
                 *count = length;
                 DONE
@@ -94,7 +69,7 @@ fn run_shown(alloc: Global, trace: &[u8], image: bool) -> Result<Vec<u8, Global>
     ensures ok { IfOk result (λ text. IsRunOf trace.now image text.items) }
     ensures fault { (fault : TheTraceFault) → result ≡ Err (RunFault.Trace fault) → trace_of trace.now ≡ Err fault }
 {
-    let outcome = run_alone(alloc, trace, alone())?;
+    let outcome = run_alone(alloc, trace, Cutting::alone())?;
     match shown(alloc, outcome, image) {
         Some(text) => Ok(text),
         None => Err(RunFault::Memory),
@@ -118,7 +93,7 @@ pub extern "C" fn page_report(
     ensures memory { result ≢ done → result ≢ short → result ≢ none → result ≡ no_memory }
 {
     match run_shown(alloc, trace, image) {
-        Ok(text) => match put_whole(&text, out) {
+        Ok(text) => match put_all(&text, out) {
             Ok(length) => {
                 *count = length;
                 DONE
@@ -149,7 +124,7 @@ pub extern "C" fn page_fault(alloc: Global, trace: &[u8], out: &mut [u8], count:
         Err(fault) => fault,
     };
     match fault_line(alloc, &fault) {
-        Ok(line) => match put_whole(line.as_bytes(), out) {
+        Ok(line) => match put_all(line.as_bytes(), out) {
             Ok(length) => {
                 *count = length;
                 DONE
@@ -179,8 +154,8 @@ pub extern "C" fn page_log(
     ensures other { result ≢ done → result ≢ short → count.new ≡ count.old }
     ensures memory { result ≢ done → result ≢ short → result ≢ none → result ≡ no_memory }
 {
-    match log_answer(&Alone, alloc, log, alone()) {
-        Ok(LogAnswer { status: told, text }) => match put_whole(&text, out) {
+    match log_answer(&Alone, alloc, log, Cutting::alone()) {
+        Ok(LogAnswer { status: told, text }) => match put_all(&text, out) {
             Ok(length) => {
                 *count = length;
                 *status = u32::from(told);
@@ -213,7 +188,7 @@ pub extern "C" fn page_notes(
     ensures memory { result ≢ done → result ≢ short → result ≢ none → result ≡ no_memory }
 {
     match notes_of(alloc, log, status) {
-        Ok(text) => match put_whole(&text, out) {
+        Ok(text) => match put_all(&text, out) {
             Ok(length) => {
                 *count = length;
                 DONE
@@ -247,7 +222,7 @@ pub extern "C" fn page_word(
         bits: (u128::from(metadata) << 64) + u128::from(address),
     };
     match word_line(alloc, word) {
-        Ok(line) => match put_whole(line.as_bytes(), out) {
+        Ok(line) => match put_all(line.as_bytes(), out) {
             Ok(length) => {
                 *count = length;
                 DONE

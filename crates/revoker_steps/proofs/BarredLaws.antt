@@ -33,10 +33,10 @@ use Rattle.machine_steps.specs.SoundLaws.{FitsAddresses-state, IsGuarded-registe
 use Rattle.machine_steps.specs.State.{State, register, with_register}
 use Rattle.machine_steps.specs.Step.{Effect, checks, first_failed, granule_at, index_in, with_granule}
 use Rattle.revoker_steps.specs.Barred.{AreSeen, IsBarred, IsBarredAt, LoadsDone, LoadsSeen, after_start, page_at}
-use Rattle.revoker_steps.specs.Revoker.{after_untag, after_untag_registers, is_in_page}
-use Rattle.revoker_steps.proofs.ChangedLaws.{either, get_or-changed}
+use Rattle.revoker_steps.specs.Revoker.{IsNothingLeft, after_untag, after_untag_registers, is_in_page}
+use Rattle.revoker_steps.specs.ChangedLaws.{either, get_or-changed}
 use Rattle.revoker_steps.proofs.PassLaws.{spared_swept}
-use Rattle.revoker_steps.proofs.RevokerLaws.{IsNothingLeft, revoked_in}
+use Rattle.revoker_steps.proofs.RevokerLaws.{revoked_in}
 
 -- ---- words that lose no tag
 

@@ -1,5 +1,6 @@
 -- A whole epoch of a revoker without a barrier: it has to look where it hasn't looked since the paint, and where a tagged word
 -- was stored since it did, which `IsDirtied` says with all pages dirty once blocks are painted.
+use Rattle.std.proofs.Math.Bool.{and-false}
 use Rattle.std.proofs.Common.{◌≡◌, ◌∙◌, ◌<◌, ◌*◌, ◌/◌, ℕ, Bool, true, false, cond, Option, Some, None, inl, inr, List, [], ◌∷◌, length, get_or, map, replicate, refl, sym, ap, subst, arith}
 use Rattle.std.specs.Prelude.{slice_set}
 use Rattle.std.proofs.Math.ListN.{get_or-map}
@@ -17,16 +18,18 @@ use Rattle.machine_steps.specs.Dirty.{HasPages, IsDirtied, dirty_after, dirty_by
 use Rattle.machine_steps.specs.Follow.{Follows}
 use Rattle.machine_steps.specs.State.{State, register}
 use Rattle.machine_steps.specs.Step.{checks, first_failed, index_in}
+use Rattle.revoker_steps.specs.declared.command.RevokerCommand.{RevokerCommand}
+use Rattle.revoker_steps.specs.declared.command.RevokerTrap.{RevokerTrap}
 use Rattle.revoker_steps.specs.declared.command.RevokerCommand.TheVariants.{Paint, Release, UntagGranule, UntagRegister, Visit}
 use Rattle.revoker_steps.specs.declared.command.RevokerReply.{RevokerReply}
 use Rattle.revoker_steps.specs.declared.command.RevokerReply.TheVariants.{Released}
 use Rattle.revoker_steps.specs.Events.{CoverRegisters, Event, Runs, is_one, register_untags}
 use Rattle.revoker_steps.specs.Events.Event.{Answered, Revoked}
-use Rattle.revoker_steps.specs.Revoker.{RevokerStep, after_paint, after_release, after_untag, is_at, is_in_page}
+use Rattle.revoker_steps.specs.RevokerDirty.{revoker_dirty_after, revoker_dirty_by}
+use Rattle.revoker_steps.specs.Revoker.{IsNothingLeft, RevokerStep, RevokerStepAfter, after_paint, after_release, after_untag, first_failed_check, is_at, is_in_page, revoker_checks}
 use Rattle.revoker_steps.specs.Tracked.{AreClean, HappensTracked, RunsTracked}
-use Rattle.revoker_steps.proofs.ChangedLaws.{changed-all, get_or-changed, length-changed}
+use Rattle.revoker_steps.specs.ChangedLaws.{changed-all, get_or-changed, length-changed}
 use Rattle.revoker_steps.proofs.PassLaws.{Runs-register_untags, covers_registers, spared_swept}
-use Rattle.revoker_steps.proofs.RevokerLaws.{IsNothingLeft}
 use Rattle.revoker_steps.proofs.ShapeLaws.{Follows-shape}
 use Rattle.revoker_steps.proofs.StepLaws.{Paint-is, Register-is, Step-revokes, Visit-is, releases}
 
@@ -62,6 +65,20 @@ IsDirtied-visited : (s : State) (dirty : List Bool) (page : ℕ) → IsDirtied s
 IsDirtied-visited s dirty page stand i taken =
     let was = was_taken (is_in_page page) s i taken in
     get_or-set_other dirty page (i / 256) false false (λ same. eqb-false (i / 256) page was.0 same) ∙ stand i was.1
+
+-- ---- a step
+
+-- Each step keeps that, with its own marks.
+pub Step-marked : (old : State) (command : RevokerCommand) (answer : RevokerReply) (new : State) (dirty : List Bool) → HasPages old dirty → IsDirtied old dirty
+    → RevokerStep old command answer new → IsDirtied new (revoker_dirty_after old command dirty)
+Step-marked old command answer new dirty pages stand step = after (first_failed_check (revoker_checks old command)) command step where
+  after : (t : Option RevokerTrap) (c : RevokerCommand) → RevokerStepAfter t old c answer new → IsDirtied new (revoker_dirty_by t c dirty)
+  after (Some t) c step = subst (λ (s : State). IsDirtied s dirty) (sym step.1) stand
+  after None Paint step = subst (λ (s : State). IsDirtied s (replicate (length dirty) true)) (sym step.1) (IsDirtied-painted old (length dirty) pages)
+  after None (Visit page) step = subst (λ (s : State). IsDirtied s (slice_set dirty page false)) (sym step.1) (IsDirtied-visited old dirty page stand)
+  after None (UntagGranule address) step = subst (λ (s : State). IsDirtied s dirty) (sym step.1) (IsDirtied-untag (is_at old address) old dirty stand)
+  after None (UntagRegister r) step = subst (λ (s : State). IsDirtied s dirty) (sym step.1) stand
+  after None Release step = subst (λ (s : State). IsDirtied s dirty) (sym step.1) (λ i taken. absurd (true≢false (sym taken ∙ and-false _)))
 
 -- ---- marks
 

@@ -17,11 +17,10 @@ use Rattle.machine_steps.specs.State.{State, register}
 use Rattle.machine_steps.specs.Step.{checks, first_failed, index_in}
 use Rattle.revoker_steps.specs.declared.command.RevokerCommand.TheVariants.{Release, UntagGranule}
 use Rattle.revoker_steps.specs.declared.command.RevokerReply.TheVariants as reply
-use Rattle.revoker_steps.specs.Revoker.{RevokerStep, after_release, is_at}
+use Rattle.revoker_steps.specs.Revoker.{IsNothingLeft, RevokerStep, after_release, is_at}
 use Rattle.revoker_steps.specs.Tracked.{IsDueAt, stores_at}
-use Rattle.revoker_steps.proofs.ChangedLaws.{get_or-changed}
+use Rattle.revoker_steps.specs.ChangedLaws.{get_or-changed}
 use Rattle.revoker_steps.proofs.PassLaws.{or_left, or_right, spared_swept}
-use Rattle.revoker_steps.proofs.RevokerLaws.{IsNothingLeft}
 use Rattle.revoker_steps.proofs.StepLaws.{Cleared-untag, releases}
 use Rattle.revoker_steps.proofs.BarredLaws.{closed_open, not_closed}
 

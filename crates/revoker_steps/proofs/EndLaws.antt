@@ -22,11 +22,11 @@ use Rattle.revoker_steps.specs.declared.command.RevokerCommand.TheVariants.{Rele
 use Rattle.revoker_steps.specs.declared.command.RevokerReply.{RevokerReply}
 use Rattle.revoker_steps.specs.declared.command.RevokerReply.TheVariants.{Released}
 use Rattle.revoker_steps.specs.Events.{CoverMemory, CoverRegisters, Runs, cleared_in, is_in_one, is_one, register_untags, visits}
-use Rattle.revoker_steps.specs.Revoker.{RevokerStep, after_release, after_untag, after_untag_registers, untag_registers_takes}
-use Rattle.revoker_steps.proofs.ChangedLaws.{changed-all, count-all}
+use Rattle.revoker_steps.specs.LeftLaws.{count_none}
+use Rattle.revoker_steps.specs.Revoker.{IsNothingLeft, RevokerStep, after_release, after_untag, after_untag_registers, untag_registers_takes}
+use Rattle.revoker_steps.specs.ChangedLaws.{changed-all, count-all}
 use Rattle.revoker_steps.proofs.PassLaws.{Runs-register_untags, Runs-visits, covers, covers_registers, spared_swept}
-use Rattle.revoker_steps.proofs.RevokerLaws.{IsNothingLeft}
-use Rattle.revoker_steps.proofs.StepLaws.{Released-is, count_none, releases}
+use Rattle.revoker_steps.proofs.StepLaws.{Released-is, releases}
 
 -- ---- a release
 

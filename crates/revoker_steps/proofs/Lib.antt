@@ -1,5 +1,4 @@
 pub mod BarredLaws
-pub mod ChangedLaws
 pub mod CornucopiaLaws
 pub mod DueLaws
 pub mod EndLaws

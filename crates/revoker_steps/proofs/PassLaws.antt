@@ -16,7 +16,7 @@ use Rattle.revoker_steps.specs.declared.command.RevokerReply.TheVariants.{Cleare
 use Rattle.revoker_steps.specs.Events.{CoverMemory, CoverRegisters, IsAmong, Runs, cleared_by, cleared_in, is_at_one, is_in_one, is_one, register_untags, untags, visits}
 use Rattle.revoker_steps.specs.Events.IsAmong.{first, later}
 use Rattle.revoker_steps.specs.Revoker.{RevokerStep, after_paint, after_untag, after_untag_registers, is_at, is_in_page, is_register, untag_registers_takes, untag_takes}
-use Rattle.revoker_steps.proofs.ChangedLaws.{changed-all, changed-none, changed-same, changed-twice, count-all, count-changed, count-same, count-within}
+use Rattle.revoker_steps.specs.ChangedLaws.{changed-all, changed-none, changed-same, changed-twice, count-all, count-changed, count-same, count-within}
 use Rattle.revoker_steps.proofs.StepLaws.{Cleared-untag, Register-is, Visit-is, Visit-step}
 
 -- ---- twice

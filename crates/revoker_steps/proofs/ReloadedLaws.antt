@@ -1,5 +1,5 @@
 -- A whole epoch of a revoker with a barrier at loads.
-use Rattle.std.proofs.Common.{◌≡◌, ◌∙◌, ◌<◌, ◌*◌, ◌||◌, ℕ, Bool, true, false, inl, inr, List, [], ◌∷◌, length, get_or, set, replicate, refl, sym, ap, subst, arith}
+use Rattle.std.proofs.Common.{◌≡◌, ◌∙◌, ◌<◌, ◌*◌, ℕ, Bool, true, false, inl, inr, List, [], ◌∷◌, length, get_or, set, replicate, refl, sym, ap, subst, arith}
 use Rattle.std.proofs.lemmas.Bool.{cases_eq, cases_lt, true≢false}
 use Rattle.std.proofs.lemmas.List.{get_or-set_other, get_or-set_same, get_or_past, length-replicate, length-set}
 use Rattle.std.proofs.lemmas.List.Elements.{All-from_get_or}
@@ -22,7 +22,7 @@ use Rattle.revoker_steps.specs.Events.Event.{Answered, Revoked}
 use Rattle.revoker_steps.specs.Events.IsAmong.{first, later}
 use Rattle.revoker_steps.specs.Revoker.{RevokerStep, after_paint, after_release, after_untag, after_untag_registers, is_at, is_in_page, is_register}
 use Rattle.revoker_steps.proofs.BarredLaws.{Follows-barred, IsBarred-fewer, IsBarred-start, IsBarred-untag, IsBarred-untag_registers, IsBarred-visit, IsNothingLeft-seen, WordLaws}
-use Rattle.revoker_steps.proofs.ChangedLaws.{changed-all, length-changed}
+use Rattle.revoker_steps.specs.ChangedLaws.{changed-all, length-changed}
 use Rattle.revoker_steps.proofs.PassLaws.{Runs-register_untags, covers_registers, or_left}
 use Rattle.revoker_steps.proofs.RevokerLaws.{EpochLaws, after-machine, untagged-machine, untagged_registers-machine}
 use Rattle.revoker_steps.proofs.ShapeLaws.{Follows-shape, IsMachine-shape}

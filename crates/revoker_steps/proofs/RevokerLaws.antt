@@ -19,13 +19,8 @@ use Rattle.machine_steps.specs.Sound.{IsMachine}
 use Rattle.machine_steps.specs.State.{State}
 use Rattle.revoker_steps.specs.declared.command.RevokerCommand.{RevokerCommand}
 use Rattle.revoker_steps.specs.declared.command.RevokerCommand.TheVariants.{Paint, Release, UntagGranule, UntagRegister, Visit}
-use Rattle.revoker_steps.specs.Revoker.{after_paint, after_release, after_untag, after_untag_registers, is_at, is_in_page, is_register}
-use Rattle.revoker_steps.proofs.ChangedLaws.{All-changed, get_or-changed, length-changed}
-
--- No register and no granule is tagged with its base in one of these blocks.
-pub record IsNothingLeft (s : State) (held : List Span) : Type 0 where
-  pub registers : (r : ℕ) → takes_tag held (slice_index_or s.registers r null_cell) ≡ false
-  pub granules : (i : ℕ) → takes_tag held (cell_of (slice_index_or s.granules i (0, false))) ≡ false
+use Rattle.revoker_steps.specs.Revoker.{IsNothingLeft, after_paint, after_release, after_untag, after_untag_registers, is_at, is_in_page, is_register}
+use Rattle.revoker_steps.specs.ChangedLaws.{All-changed, get_or-changed, length-changed}
 
 -- When a revoker may do so.
 abbrev pub MayRevoke : State → RevokerCommand → Type 0

@@ -1,12 +1,11 @@
 -- A revoker's step: where a check fails it changes nothing, and where none does it leaves what its command leaves.
-use Rattle.std.proofs.Common.{◌≡◌, ◌∙◌, ◌+◌, ◌-◌, ◌*◌, ◌<◌, ◌≤◌, ◌/◌, ◌%◌, ◌&&◌, ◌⊎◌, ℕ, zero, suc, Bool, true, false, cond, eqb, not, Option, Some, None, inl, inr, List, [], ◌∷◌, length, get_or, refl, sym, ap, subst, arith}
-use Rattle.std.specs.Prelude.{count_by, nat_le, nat_lt}
+use Rattle.std.proofs.Common.{◌≡◌, ◌∙◌, ◌+◌, ◌-◌, ◌*◌, ◌<◌, ◌≤◌, ◌/◌, ◌%◌, ◌&&◌, ◌⊎◌, ℕ, Bool, true, false, cond, eqb, not, Option, Some, None, inl, inr, length, get_or, refl, sym, ap, subst, arith}
+use Rattle.std.specs.Prelude.{nat_le, nat_lt}
 use Rattle.std.proofs.lemmas.Bool.{eqb-true, false_from_ne_true, true≢false}
 use Rattle.std.proofs.lemmas.Bool.Decides.{nat_tests}
-use Rattle.std.proofs.lemmas.List.Sums.{sum_by-cons}
 use Rattle.heap_model.specs.Blocks.{bytes_in}
 use Rattle.heap_model.specs.Sweep.{swept_granule, takes_tag}
-use Rattle.tag_memory.specs.Cells.{Granule, cell_of, null_cell}
+use Rattle.tag_memory.specs.Cells.{Granule, cell_of}
 use Rattle.machine_steps.specs.Safety.{IsSafe}
 use Rattle.machine_steps.specs.Sound.{IsMachine}
 use Rattle.machine_steps.specs.State.{State}
@@ -18,46 +17,10 @@ use Rattle.revoker_steps.specs.declared.command.RevokerReply.TheVariants as repl
 use Rattle.revoker_steps.specs.declared.command.RevokerTrap.{RevokerTrap}
 use Rattle.revoker_steps.specs.declared.command.RevokerTrap.TheVariants as trap
 use Rattle.revoker_steps.specs.Events.{cleared_by}
-use Rattle.revoker_steps.specs.Revoker.{RevokerEffect, RevokerStep, RevokerStepAfter, after_paint, after_release, after_untag, after_untag_registers, first_failed_check, is_at, is_in_page, is_register, revoker_checks, tags_left, untag_registers_takes, untag_takes}
-use Rattle.revoker_steps.proofs.ChangedLaws.{changed-within, count-within, get_or-changed}
-use Rattle.revoker_steps.proofs.RevokerLaws.{EpochLaws, IsNothingLeft, MayRevoke, after-machine, after-safe, after_revoker}
-
--- ---- that nothing is left can be counted
-
-count_zero : {X : Type 0} (p : X → Bool) (d : X) (xs : List X) → count_by p xs ≡ 0 → p d ≡ false → (i : ℕ) → p (get_or xs i d) ≡ false
-count_zero p d [] none past i = past
-count_zero p d (x ∷ xs) none past zero =
-    let weight : Bool → ℕ = λ b. cond b 1 0 in
-    let here : weight (p x) ≡ 0 = omega (arith, none, sum_by-cons (λ y. cond (p y) 1 0) x xs) in
-    off (p x) here where
-      off : (b : Bool) → cond b 1 0 ≡ zero → b ≡ false
-      off true e = absurd (omega (arith, e))
-      off false e = refl
-count_zero p d (x ∷ xs) none past (suc i) =
-    let rest : count_by p xs ≡ 0 = omega (arith, none, sum_by-cons (λ y. cond (p y) 1 0) x xs) in
-    count_zero p d xs rest past i
-
-pub counted : (s : State) → tags_left s ≡ 0 → IsNothingLeft s s.heap.painted
-counted s none =
-    let granules : count_by (λ (g : Granule). takes_tag s.heap.painted (cell_of g)) s.granules ≡ 0 = omega (arith, none) in
-    let registers : count_by (takes_tag s.heap.painted) s.registers ≡ 0 = omega (arith, none) in
-    record {
-      granules = count_zero (λ (g : Granule). takes_tag s.heap.painted (cell_of g)) (0, false) s.granules granules refl;
-      registers = count_zero (takes_tag s.heap.painted) null_cell s.registers registers refl;
-    }
-
-pub count_none : {X : Type 0} (p : X → Bool) (d : X) (xs : List X) → ((i : ℕ) → p (get_or xs i d) ≡ false) → count_by p xs ≡ 0
-count_none p d [] each = refl
-count_none p d (x ∷ xs) each =
-    let weight : Bool → ℕ = λ b. cond b 1 0 in
-    let here : weight (p x) ≡ 0 = ap weight (each 0) in
-    omega (arith, sum_by-cons (λ y. cond (p y) 1 0) x xs, here, count_none p d xs (λ i. each (suc i)))
-
-pub tags_left-none : (s : State) → IsNothingLeft s s.heap.painted → tags_left s ≡ 0
-tags_left-none s left =
-    let granules = count_none (λ (g : Granule). takes_tag s.heap.painted (cell_of g)) (0, false) s.granules left.granules in
-    let registers = count_none (takes_tag s.heap.painted) null_cell s.registers left.registers in
-    omega (arith, granules, registers)
+use Rattle.revoker_steps.specs.LeftLaws.{counted, tags_left-none}
+use Rattle.revoker_steps.specs.Revoker.{IsNothingLeft, RevokerEffect, RevokerStep, RevokerStepAfter, after_paint, after_release, after_untag, after_untag_registers, first_failed_check, is_at, is_in_page, is_register, revoker_checks, tags_left, untag_registers_takes, untag_takes}
+use Rattle.revoker_steps.specs.ChangedLaws.{changed-within, count-within, get_or-changed}
+use Rattle.revoker_steps.proofs.RevokerLaws.{EpochLaws, MayRevoke, after-machine, after-safe, after_revoker}
 
 -- ---- one step
 

@@ -1,5 +1,10 @@
 pub mod Barred
 pub mod Changed
+pub mod ChangedLaws
 pub mod Events
+pub mod LeftLaws
 pub mod Revoker
+pub mod RevokerDirty
+pub mod RevokerText
 pub mod Tracked
+pub mod Valid

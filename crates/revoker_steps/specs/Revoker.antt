@@ -1,10 +1,10 @@
 -- A revoker's own steps (Filardo et al. 2020, Cornucopia; 2024, Cornucopia Reloaded: their passes, taken apart): in what
 -- order it takes tags is its own choice. It may free the painted blocks only where no tag for them is left.
-use Rattle.std.specs.Prelude.{◌≡◌, ◌==◌, ◌+◌, ◌-◌, ◌*◌, ◌/◌, ◌%◌, ◌&&◌, ℕ, Bool, not, List, [], ◌∷◌, Option, Some, None, count_by, if◌then◌else◌, length, nat_le, nat_lt}
-use Rattle.heap_model.specs.Blocks.{bytes_in}
+use Rattle.std.specs.Prelude.{◌≡◌, ◌==◌, ◌+◌, ◌-◌, ◌*◌, ◌/◌, ◌%◌, ◌&&◌, ℕ, Bool, not, List, [], ◌∷◌, Option, Some, None, count_by, if◌then◌else◌, length, nat_le, nat_lt, slice_index_or, false}
+use Rattle.heap_model.specs.Blocks.{Span, bytes_in}
 use Rattle.heap_model.specs.Quarantine.{with_epoch, without_epoch}
 use Rattle.heap_model.specs.Sweep.{swept_cell, swept_granule, takes_tag}
-use Rattle.tag_memory.specs.Cells.{cell_of}
+use Rattle.tag_memory.specs.Cells.{cell_of, null_cell}
 use Rattle.tag_memory.specs.Extent.{page_granules}
 use Rattle.machine_steps.specs.State.{State}
 use Rattle.revoker_steps.specs.declared.command.RevokerCommand.{RevokerCommand}
@@ -59,6 +59,11 @@ untag_registers_takes test s = count_where test (takes_tag s.heap.painted) s.reg
 -- How many tagged words have their base in a painted block, in memory and in registers.
 abbrev pub tags_left : State → ℕ
 tags_left s = count_by (λ g. takes_tag s.heap.painted (cell_of g)) s.granules + count_by (takes_tag s.heap.painted) s.registers
+
+-- No register and no granule is tagged with its base in one of these blocks.
+pub record IsNothingLeft (s : State) (held : List Span) : Type 0 where
+  pub registers : (r : ℕ) → takes_tag held (slice_index_or s.registers r null_cell) ≡ false
+  pub granules : (i : ℕ) → takes_tag held (cell_of (slice_index_or s.granules i (0, false))) ≡ false
 
 -- ---- steps
 

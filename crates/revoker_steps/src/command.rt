@@ -1,5 +1,10 @@
 //! What a revoker does beside the program, and what that is answered.
 
+ghost use Rattle.std.specs.Prelude.{◌↔◌, IsTrue};
+ghost use Rattle.revoker_steps.specs.Valid.{IsValid};
+
+use tag_memory::REGISTERS;
+
 /// A step of a revoker: between two of them the program's commands run. In what order a revoker takes tags is its own choice.
 #[derive(Clone, Copy, Debug, PartialEq, Eq)]
 pub enum RevokerCommand {
@@ -13,6 +18,21 @@ pub enum RevokerCommand {
     UntagRegister { register: u8 },
     /// Closes the epoch: the painted blocks are free. It takes no tag.
     Release,
+}
+
+impl RevokerCommand {
+    /// Whether its register number, if it has one, is that of a register. What is no page and no address of the heap is trapped.
+    pub fn is_valid(&self) -> bool
+        ensures { IsTrue result ↔ IsValid self.now }
+    {
+        match *self {
+            RevokerCommand::UntagRegister { register } => register < REGISTERS,
+            RevokerCommand::Paint
+            | RevokerCommand::Visit { .. }
+            | RevokerCommand::UntagGranule { .. }
+            | RevokerCommand::Release => true,
+        }
+    }
 }
 
 /// Why a revoker's command changed nothing: the first of its checks that failed.

@@ -23,6 +23,7 @@ ghost use Rattle.revoker_steps.specs.Barred.{AreSeen, IsBarred, IsBarredAt, Load
 ghost use Rattle.revoker_steps.specs.Events.{CoverMemory, CoverRegisters, Event, Runs, cleared_by, cleared_in, is_at_one, register_untags, untags, visits};
 ghost use Rattle.revoker_steps.specs.Events.Event.{Revoked};
 ghost use Rattle.revoker_steps.specs.Revoker.{RevokerStep, after_paint, after_release, is_at, is_in_page};
+ghost use Rattle.revoker_steps.specs.RevokerDirty.{revoker_dirty_after};
 ghost use Rattle.revoker_steps.specs.Tracked.{AreClean, IsDueAt, RunsTracked, stores_at};
 
 use cap_codec::derivation_law;
@@ -44,6 +45,9 @@ pub fn revoker_law()
         IsSafe old → RevokerStep old command reply new → IsSafe new }
     ensures machine { (old : State) (command : TheRevokerCommand) (reply : TheRevokerReply) (new : State) →
         IsMachine old → RevokerStep old command reply new → IsMachine new }
+    // What the painted blocks have in memory stands in dirty pages, whatever the order of visits.
+    ensures marked { (old : State) (command : TheRevokerCommand) (reply : TheRevokerReply) (new : State) (dirty : List Bool) →
+        HasPages old dirty → IsDirtied old dirty → RevokerStep old command reply new → IsDirtied new (revoker_dirty_after old command dirty) }
     ensures steps_safe { (old : State) (events : List Event) (new : State) →
         IsSafe old → Runs Step old events new → IsSafe new }
     ensures steps_unused { (old : State) (events : List Event) (mid : State) (command : TheCommand) (reply : TheReply) (new : State) →

@@ -7,6 +7,7 @@
 
 mod command;
 mod laws;
+mod text;
 
 pub use crate::command::{RevokerCommand, RevokerReply, RevokerTrap};
 pub use crate::laws::{barrier_law, cornucopia_law, passes_law, reloaded_law, revoker_law};

@@ -1,5 +1,5 @@
 -- Blocks whose bounds a capability can hold: what is claimed is one, and what is given up or begins stays one.
-use Rattle.std.proofs.Common.{◌≡◌, ◌∙◌, ◌≤◌, ◌+◌, ◌-◌, ℕ, Bool, Option, Some, None, true, false, if◌then◌else◌, nat_lt, not, List, [], ◌∷◌, refl, sym, ap, subst, arith}
+use Rattle.std.proofs.Common.{◌≡◌, ◌∙◌, ◌≤◌, ◌+◌, ◌-◌, ℕ, Bool, Option, Some, None, Result, Ok, Err, true, false, if◌then◌else◌, nat_lt, not, List, [], ◌∷◌, refl, sym, ap, subst, arith}
 use Rattle.std.specs.Prelude.{All}
 use Rattle.std.proofs.lemmas.Bool.{cond_both}
 use Rattle.std.proofs.lemmas.List.Elements.{All-cons, All-contains, All-filter, All-head, All-nil, All-tail}
@@ -12,8 +12,7 @@ use Rattle.heap_model.specs.Heap.{HeapState}
 use Rattle.heap_model.specs.Laws.{Contains-block, no_reason}
 use Rattle.heap_model.specs.Place.{with_block}
 use Rattle.heap_model.specs.Quarantine.{freed_of, is_held_block, with_epoch, with_waiting, without_epoch, without_waiting}
-use Rattle.heap_model.specs.declared.block.Claim.{Claim}
-use Rattle.heap_model.specs.declared.block.Claim.TheVariants.{Claimed, Empty, Inexact, Outside, OverHeld, OverLive, Uneven}
+use Rattle.heap_model.specs.declared.block.Obstacle.{Obstacle}
 use Rattle.heap_model.specs.declared.block.Freed.{Freed}
 use Rattle.heap_model.specs.declared.block.Freed.TheVariants as after_free
 use Rattle.heap_model.specs.declared.block.Kind.TheVariants.{Live, Painted, Waiting}
@@ -25,6 +24,11 @@ use Rattle.heap_reply.specs.declared.reply.Reply.TheVariants.{Block, BlockAfter,
 use Rattle.heap_reply.specs.declared.reply.Trap.{Trap as TheTrap}
 use Rattle.trace_text.specs.declared.trace.Command.{Command}
 use Rattle.trace_text.specs.declared.trace.Command.TheVariants.{Malloc, Free, Copy, SetAddr, Narrow, AndPerm, StoreCap, LoadCap, Write, Show, Sweep, Begin, End}
+use Rattle.revoker_steps.specs.declared.command.RevokerCommand.{RevokerCommand}
+use Rattle.revoker_steps.specs.declared.command.RevokerCommand.TheVariants.{Paint, Release, UntagGranule, UntagRegister, Visit}
+use Rattle.revoker_steps.specs.declared.command.RevokerReply.{RevokerReply}
+use Rattle.revoker_steps.specs.declared.command.RevokerTrap.{RevokerTrap}
+use Rattle.revoker_steps.specs.Revoker.{RevokerStep, RevokerStepAfter, first_failed_check, revoker_checks}
 use Rattle.state_bytes.specs.State.{AreExact}
 
 -- A block's bounds can be held.
@@ -83,24 +87,9 @@ exact_swept s exact = exact_lists (without_waiting s) (exact.each Live) (All-nil
 -- ---- claims
 
 -- What is answered to a claim, and what it leaves.
-pub claim_exact : (s : HeapState) (base top : ℕ) (claim : Claim) (new : HeapState) → IsClaim s s base top claim new → AreExact s → AreExact new
-claim_exact s base top Claimed new is exact = subst AreExact (sym is.1) (exact_claimed s base top is.0 exact)
-claim_exact s base top Uneven new is exact = subst AreExact (sym is.1) exact
-claim_exact s base top Empty new is exact = subst AreExact (sym is.1) exact
-claim_exact s base top Outside new is exact = subst AreExact (sym is.1) exact
-claim_exact s base top Inexact new is exact = subst AreExact (sym is.1) exact
-claim_exact s base top (OverLive block) new is exact = subst AreExact (sym is.1) exact
-claim_exact s base top (OverHeld block) new is exact = subst AreExact (sym is.1) exact
-
--- A claim that could be met is.
-pub claim_met : (s : HeapState) (base top : ℕ) (claim : Claim) (new : HeapState) → IsClaim s s base top claim new → (claim ≡ Claimed → ⊥) → IsClaimable s base top → ⊥
-claim_met s base top Claimed new is other may = other refl
-claim_met s base top Uneven new is other may = no_reason s base top Uneven may is.0
-claim_met s base top Empty new is other may = no_reason s base top Empty may is.0
-claim_met s base top Outside new is other may = no_reason s base top Outside may is.0
-claim_met s base top Inexact new is other may = no_reason s base top Inexact may is.0
-claim_met s base top (OverLive block) new is other may = no_reason s base top (OverLive block) may is.0
-claim_met s base top (OverHeld block) new is other may = no_reason s base top (OverHeld block) may is.0
+pub claim_exact : (s : HeapState) (base top : ℕ) (claim : Result (Unit {0}) Obstacle) (new : HeapState) → IsClaim s s base top claim new → AreExact s → AreExact new
+claim_exact s base top (Ok done) new is exact = subst AreExact (sym is.1) (exact_claimed s base top is.0 exact)
+claim_exact s base top (Err obstacle) new is exact = subst AreExact (sym is.1) exact
 
 -- The heap lies where it did, as open as it was.
 pub record StaysThere (s new : HeapState) : Type 0 where
@@ -110,14 +99,9 @@ pub record StaysThere (s new : HeapState) : Type 0 where
 stays : (s new t : HeapState) → new ≡ t → t.size ≡ s.size → t.is_open ≡ s.is_open → StaysThere s new
 stays s new t is size open_is = record { size = ap (λ (h : HeapState). h.size) is ∙ size; open_is = ap (λ (h : HeapState). h.is_open) is ∙ open_is }
 
-pub claim_stays : (s : HeapState) (base top : ℕ) (claim : Claim) (new : HeapState) → IsClaim s s base top claim new → StaysThere s new
-claim_stays s base top Claimed new is = stays s new (with_block s base (top - base)) is.1 refl refl
-claim_stays s base top Uneven new is = stays s new s is.1 refl refl
-claim_stays s base top Empty new is = stays s new s is.1 refl refl
-claim_stays s base top Outside new is = stays s new s is.1 refl refl
-claim_stays s base top Inexact new is = stays s new s is.1 refl refl
-claim_stays s base top (OverLive block) new is = stays s new s is.1 refl refl
-claim_stays s base top (OverHeld block) new is = stays s new s is.1 refl refl
+pub claim_stays : (s : HeapState) (base top : ℕ) (claim : Result (Unit {0}) Obstacle) (new : HeapState) → IsClaim s s base top claim new → StaysThere s new
+claim_stays s base top (Ok done) new is = stays s new (with_block s base (top - base)) is.1 refl refl
+claim_stays s base top (Err obstacle) new is = stays s new s is.1 refl refl
 
 -- ---- what is released
 
@@ -186,3 +170,16 @@ follows_after (Some trap) old c r new passed follows exact = same_heap new old f
 
 pub follows_exact : (old : State) (c : Command) (r : Reply) (new : State) → AreExact old.heap → Follows old c r new → AreExact new.heap
 follows_exact old c r new exact follows = follows_after (first_failed (checks old c)) old c r new refl follows exact
+
+-- ---- a revoker's steps
+
+revoked_after : (t : Option RevokerTrap) (old : State) (c : RevokerCommand) (r : RevokerReply) (new : State) → RevokerStepAfter t old c r new → AreExact old.heap → AreExact new.heap
+revoked_after (Some trap) old c r new step exact = same_heap new old step.1 exact
+revoked_after None old Paint r new step exact = same_heap new _ step.1 (exact_epoch old.heap exact)
+revoked_after None old (Visit page) r new step exact = same_heap new _ step.1 exact
+revoked_after None old (UntagGranule address) r new step exact = same_heap new _ step.1 exact
+revoked_after None old (UntagRegister register) r new step exact = same_heap new _ step.1 exact
+revoked_after None old Release r new step exact = same_heap new _ step.1 (exact_ended old.heap exact)
+
+pub revoked_exact : (old : State) (c : RevokerCommand) (r : RevokerReply) (new : State) → AreExact old.heap → RevokerStep old c r new → AreExact new.heap
+revoked_exact old c r new exact step = revoked_after (first_failed_check (revoker_checks old c)) old c r new step exact

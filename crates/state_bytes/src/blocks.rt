@@ -14,7 +14,7 @@ ghost use Rattle.state_bytes.specs.Text.{kind_number, length_told, starts_in, te
 use crate::encoding::number_of_kind;
 use crate::places::{HEAD, NUMBER, ROW};
 use byteorder::{ByteOrder, LittleEndian};
-use heap_core::{Claim, Freed, Heap, Kind};
+use heap_core::{Freed, Heap, Kind};
 use tag_memory::GRANULE;
 
 /// Makes the blocks that bytes tell of, in a heap without blocks, and answers whether they may lie there. An epoch begins
@@ -152,8 +152,8 @@ fn claim_block(heap: &mut Heap, base: u64, top: u128) -> bool
     ensures exact { AreExact heap.old → AreExact heap.new }
 {
     match heap.claim(base, top) {
-        Claim::Claimed => true,
-        _ => false,
+        Ok(()) => true,
+        Err(_) => false,
     }
 }
 
@@ -187,9 +187,6 @@ fn release_at(heap: &mut Heap, i: usize, length: u32) -> bool
 {
     heap.invariant();
     let base = heap.base() + GRANULE * i as u64;
-    match heap.give_up(base, u128::from(base) + u128::from(length)) {
-        Freed::Held => true,
-        Freed::AlreadyHeld => false,
-        Freed::NotBlock => false,
-    }
+    let top = u128::from(base) + u128::from(length);
+    matches!(heap.release(base, top), Ok(Freed::Held))
 }

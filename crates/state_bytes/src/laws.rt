@@ -7,6 +7,9 @@ ghost use Rattle.machine_steps.specs.Safety.{IsSafe};
 ghost use Rattle.machine_steps.specs.State.{State, first_state};
 ghost use Rattle.machine_steps.specs.Step.{Step};
 ghost use Rattle.heap_reply.specs.declared.reply.Reply.{Reply};
+ghost use Rattle.revoker_steps.specs.declared.command.RevokerCommand.{RevokerCommand};
+ghost use Rattle.revoker_steps.specs.declared.command.RevokerReply.{RevokerReply};
+ghost use Rattle.revoker_steps.specs.Revoker.{RevokerStep};
 ghost use Rattle.trace_text.specs.declared.trace.Command.{Command};
 ghost use Rattle.state_bytes.specs.State.{AreExact, IsSameState, HasInvariant};
 ghost use Rattle.state_bytes.specs.Text.{text_length, text_of};
@@ -22,13 +25,15 @@ pub fn one_text_law()
 {}
 
 /// A capability can hold the bounds of each block of the first state, and of each state that a command leaves, whatever
-/// it may be answered, where it can hold those of all blocks before.
+/// it may be answered, or a revoker's step, where it can hold those of all blocks before.
 pub fn exact_blocks_law()
     ensures first { (base pages : ℕ) → AreExact (first_state base pages).heap }
     ensures steps { (old : State) (command : Command) (reply : Reply) (new : State) →
         IsSafe old → AreExact old.heap → Step old command reply new → AreExact new.heap }
     ensures follows { (old : State) (command : Command) (reply : Reply) (new : State) →
         AreExact old.heap → Follows old command reply new → AreExact new.heap }
+    ensures revoked { (old : State) (command : RevokerCommand) (reply : RevokerReply) (new : State) →
+        AreExact old.heap → RevokerStep old command reply new → AreExact new.heap }
 {
     any_placement_law();
 }

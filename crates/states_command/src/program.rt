@@ -11,10 +11,9 @@ ghost use Rattle.states_command.specs.Answer.{IsAnswer, IsStatesAnswer, usage_li
 use command_line::{Options, Refusal, states_options_by};
 use heap_trace::RunFault;
 use host_memory::Global;
-use program_devices::{Answer, ReadFault, Sink, Source, fault_answer, give, read_text};
+use program_devices::{Answer, ReadFault, Sink, Source, cutting_of, fault_answer, give, read_text};
 use state_data::states;
 use std::thread::Threads;
-use sweep_pool::Cutting;
 use trace_text::LONGEST_TEXT;
 
 const USAGE: &[u8] = b"usage: heap_states [--workers N] [--cut N]\n";
@@ -78,12 +77,4 @@ fn states_answer<R: Threads + Sync>(
         Err(RunFault::Memory) => Err(Refusal::Memory),
         Err(RunFault::Trace(fault)) => fault_answer(alloc, &fault),
     }
-}
-
-// How the options cut the sweeps.
-fn cutting_of(options: Options) -> Cutting
-    requires { AreWithinLimits options }
-    ensures { result ≡ record { workers = options.workers; pages_per_task = options.pages_per_task } }
-{
-    Cutting::new(options.workers, options.pages_per_task).unwrap()
 }

@@ -1,16 +1,17 @@
--- The masks of all tasks are those of the whole memory.
-use Rattle.std.proofs.Common.{◌≡◌, ℕ, ◌+◌, ◌-◌, ◌*◌, ◌/◌, ◌%◌, ◌<◌, ◌≤◌, ◌++◌, ◌∷◌, [], All, Bool, List, length, take, refl, subst, get_or, ap, sym, ◌∙◌, arith}
-use Rattle.std.proofs.lemmas.List.{take_more}
-use Rattle.std.proofs.lemmas.List.Elements.{All-take, All-weaker}
-use Rattle.std.proofs.lemmas.Option.{slice_get_read}
+-- Tasks that are all swept, each once, gather to the masks of the whole memory.
+use Rattle.std.proofs.Common.{◌≡◌, ℕ, ◌+◌, ◌-◌, ◌*◌, ◌/◌, ◌%◌, ◌<◌, ◌≤◌, Bool, List, length, take, refl, subst, get_or, ap, sym, ◌∙◌, arith}
 use Rattle.std.proofs.lemmas.Nat.{div-add-mod', mod_below}
+use Rattle.std.proofs.lemmas.Option.{get_or_from_slice_get, slice_get_within}
 use Rattle.sweep_masks.specs.Claims.{AreAllSwept}
-use Rattle.sweep_masks.specs.Gather.{IsPlaced, IsSwept}
-use Rattle.sweep_masks.specs.Laws.{AreBits-words}
+use Rattle.sweep_masks.specs.Gather.{AreGathered, IsFaultOf, IsFirstOf, IsPlaced, IsSwept, times}
+use Rattle.sweep_masks.specs.Laws.{AreBits-words, IsTask-below, below_of-IsTask}
 use Rattle.sweep_masks.specs.Masks.{AreMasks, is_hit_at}
-use Rattle.sweep_masks.specs.Tasks.{Cut, IsTask, end_page, first_page, page_count}
+use Rattle.sweep_masks.specs.Tasks.{Cut, IsTask, IsTaskCount, end_page, first_page, page_count, task_words}
+use Rattle.sweep_masks.specs.declared.gathering.GatherFault.{GatherFault}
+use Rattle.sweep_masks.specs.declared.gathering.GatherFault.TheVariants.{Double, Memory, Missing, Stranger, WrongSize}
 use Rattle.sweep_masks.specs.declared.task.Swept.{Swept}
-use Rattle.sweep_masks.proofs.GatherLaws.{IsWritten, HasItsWords, found, placed-more, times-before}
+use Rattle.sweep_masks.proofs.GatherLaws.{found, times-before}
+use Rattle.sweep_masks.proofs.TaskLaws.{some_each}
 use Rattle.tag_memory.specs.Cells.{MemoryState}
 use Rattle.tag_memory.specs.Tags.{is_set, is_set_for}
 
@@ -35,34 +36,43 @@ by_item m shadow c masks s b i at low high inside (known, swept) placed =
     let hit : is_set_for s.masks.items j ≡ is_hit_at m shadow (256 * a + j) = swept.bits j j_lt in
     (λ t. is_set (get_or masks (w_is t) 0) (r_is t)) ∙ ap (λ (z : ℕ). is_set z (j % 64)) word ∙ hit ∙ ap (λ (z : ℕ). is_hit_at m shadow z) j_is
 
--- One more item of the list is placed.
-pub all_placed-more : {m : MemoryState} {shadow : List Bool} {c : Cut} {at : ℕ} {list : List Swept} {masks masks' : List ℕ} (i : ℕ) (s : Swept)
-    → AreAllSwept m shadow c list → i < length list → s ≡ get_or list i s
-    → IsWritten at s.masks.items masks masks' → at ≡ 4 * (s.task * c.pages_per_task)
-    → All (IsPlaced c masks) (take i list) → All (IsPlaced c masks') (take (i + 1) list)
-all_placed-more {m} {shadow} {c} {list} i s all inside is written at_is placed =
-    let words : All (HasItsWords c (page_count m)) list = All-weaker (IsSwept m shadow c) (HasItsWords c (page_count m)) (λ t swept. AreBits-words _ _ _ swept.1) list all.swept in
-    let whole : HasItsWords c (page_count m) s = subst (HasItsWords c (page_count m)) (sym is) (words i s inside) in
-    let before = times-before s.task list i s (slice_get_read list (length list) i s refl inside is) refl in
-    let once = all.once s.task in
-    let more : take (i + 1) list ≡ take i list ++ s ∷ [] = take_more list i s inside ∙ ap (λ (z : Swept). take i list ++ z ∷ []) (sym is) in
-    rw more (placed-more c (page_count m) (take i list) s written at_is (All-take (HasItsWords c (page_count m)) i list words) whole (omega arith) placed)
+-- Of tasks that are all swept, each once, nothing is wrong but want of memory.
+pub only_memory : {m : MemoryState} {shadow : List Bool} {c : Cut} {tasks : ℕ} {items : List Swept} (fault : GatherFault)
+    → AreAllSwept m shadow c items → IsTaskCount c (page_count m) tasks → IsFaultOf c tasks (page_count m) items fault → fault ≡ Memory
+only_memory {m} {shadow} {c} {tasks} {items} fault all count = go fault where
+  swept : (before : List Swept) (s : Swept) → IsFirstOf c tasks (page_count m) items before s → IsSwept m shadow c s
+  swept before s first = subst (IsSwept m shadow c) (get_or_from_slice_get items first.place s s first.here) (all.swept first.place s (slice_get_within items first.place s first.here))
 
-pub whole_masks : {m : MemoryState} {shadow : List Bool} {c : Cut} {items : List Swept} (masks : List ℕ)
-    → AreAllSwept m shadow c items → 256 * page_count m ≡ length m.granules → 0 < c.pages_per_task
-    → length masks ≡ 4 * page_count m → All (IsPlaced c masks) items
-    → AreMasks m shadow masks
-whole_masks {m} {shadow} {c} {items} masks all whole some count placed =
+  go : (fault : GatherFault) → IsFaultOf c tasks (page_count m) items fault → fault ≡ Memory
+  go Memory of = refl
+  go (Stranger k) (before, s, first, task, past) =
+      let below = below_of-IsTask c (page_count m) tasks s.task count (swept before s first).0 in absurd (omega arith)
+  go (Double k) (before, s, first, task, known, again) =
+      let more = times-before k items first.place s first.here task in
+      let once = all.once k in
+      let twice : times k (take first.place items) ≡ 1 = subst (λ (z : List Swept). times k z ≡ 1) first.before_it again in absurd (omega arith)
+  go (WrongSize k) (before, s, first, task, known, fresh, size) =
+      let words = AreBits-words _ _ _ (swept before s first).1 in
+      absurd (size (words ∙ ap (λ (z : ℕ). task_words c (page_count m) z) task))
+  go (Missing k) (sound, known, none, least) =
+      let one = all.all k (IsTask-below c (page_count m) tasks k count known) in absurd (omega arith)
+
+-- What is gathered of all tasks is the masks of the whole memory.
+pub gathered_masks : {m : MemoryState} {shadow : List Bool} {c : Cut} {tasks : ℕ} {items : List Swept} (masks : List ℕ)
+    → AreAllSwept m shadow c items → 256 * page_count m ≡ length m.granules → IsTaskCount c (page_count m) tasks
+    → AreGathered c tasks (page_count m) items masks → AreMasks m shadow masks
+gathered_masks {m} {shadow} {c} {tasks} {items} masks all whole tasks_are gathered =
     record {
-      count = omega arith;
+      count = let words = gathered.count in omega arith;
       bits = λ i lt.
           let p : ℕ = c.pages_per_task in
           let q : ℕ = i / 256 in
           let k : ℕ = q / p in
           let inside : q < page_count m = omega arith in
+          let some : 0 < p = (some_each tasks p (page_count m) (omega arith) tasks_are.enough).1 in
           let parts : k * p + q % p ≡ q = div-add-mod' q p in
           let rest : q % p < p = mod_below q p some in
           let known : IsTask c (page_count m) k = (let z : ℕ = k * p in omega arith) in
-          let (item, its_task, (swept, placed)) = found (λ (s : Swept). IsSwept m shadow c s × IsPlaced c masks s) k items (λ n d l. (all.swept n d l, placed n d l)) (let one = all.all k known in omega arith) in
+          let (item, its_task, (swept, placed)) = found (λ (s : Swept). IsSwept m shadow c s × IsPlaced c masks s) k items (λ n d l. (all.swept n d l, gathered.placed n d l)) (let one = all.all k known in omega arith) in
           by_item m shadow c masks item (k * p) i (ap (λ (z : ℕ). z * p) (sym its_task)) (let z : ℕ = k * p in omega arith) (let z : ℕ = k * p in omega arith) inside swept placed;
     }

@@ -36,8 +36,8 @@ below_of-IsTask c pages n k count is = dite (dec_lt k n)
 -- ---- the shadow of a heap
 
 -- An address lies in a block that is due exactly where the shadow of the heap is painted there.
-pub is_painted-held : (heap : HeapState) (shadow : List Bool) (a : ℕ) → IsSound heap → IsShadow heap shadow → is_painted shadow heap.base a ≡ lies_in (due heap) a
-is_painted-held heap shadow a sound is =
+pub is_painted-due : (heap : HeapState) (shadow : List Bool) (a : ℕ) → IsSound heap → IsShadow heap shadow → is_painted shadow heap.base a ≡ lies_in (due heap) a
+is_painted-due heap shadow a sound is =
     elim (cases_lt a heap.base) [
       | inl below ↦ rw (lt-leb heap.base a below, lies_in-outside heap a sound (inl below)) refl
       | inr from ↦ elim (cases_lt a (heap.base + heap.size)) [
@@ -51,7 +51,7 @@ is_painted-held heap shadow a sound is =
 -- What is hit is what the sweep takes.
 pub is_hit-takes_tag : (heap : HeapState) (base : ℕ) (shadow : List Bool) (c : Cell) → IsShadowOf heap base shadow → is_hit shadow base c ≡ takes_tag (due heap) c
 is_hit-takes_tag heap base shadow c of =
-    ap (λ (b : ℕ). is_hit shadow b c) (sym of.start) ∙ ap (λ (b : Bool). c.1 && b) (is_painted-held heap shadow (base_of c.0) of.sound of.painted)
+    ap (λ (b : ℕ). is_hit shadow b c) (sym of.start) ∙ ap (λ (b : Bool). c.1 && b) (is_painted-due heap shadow (base_of c.0) of.sound of.painted)
 
 -- Tests that agree have the same masks.
 AreBits-same : (f g : ℕ → Bool) (granules : ℕ) (masks : List ℕ) → ((i : ℕ) → f i ≡ g i) → AreBits f granules masks → AreBits g granules masks

@@ -69,12 +69,12 @@ pub record IsShadowOf (heap : HeapState) (base : ℕ) (shadow : List Bool) : Typ
 
 -- The sweep takes the tag of granule i of the memory.
 abbrev pub takes_tag_at : MemoryState → List Span → ℕ → Bool
-takes_tag_at m held i = takes_tag held (cell_of (slice_index_or m.granules i (0, false)))
+takes_tag_at m due i = takes_tag due (cell_of (slice_index_or m.granules i (0, false)))
 
 -- The masks of a memory: a 1 for each granule whose tag the sweep takes.
 abbrev pub TakeTags : MemoryState → List Span → List ℕ → Type 0
-TakeTags m held masks = AreBits (takes_tag_at m held) (length m.granules) masks
+TakeTags m due masks = AreBits (takes_tag_at m due) (length m.granules) masks
 
 -- The masks of the pages `from` to `end - 1`: a 1 for each granule whose tag the sweep takes.
 abbrev pub TakePageTags : MemoryState → List Span → ℕ → ℕ → List ℕ → Type 0
-TakePageTags m held from end masks = AreBits (λ i. takes_tag_at m held (page_granules * from + i)) (page_granules * (end - from)) masks
+TakePageTags m due from end masks = AreBits (λ i. takes_tag_at m due (page_granules * from + i)) (page_granules * (end - from)) masks

@@ -57,6 +57,16 @@ impl Cutting {
         })
     }
 
+    /// One worker, whose tasks have 256 pages, the most: for passes that the calling thread makes.
+    pub fn alone() -> Cutting
+        ensures { result ≡ record { workers = 1; pages_per_task = 256 } }
+    {
+        Cutting {
+            workers: 1,
+            pages_per_task: 256,
+        }
+    }
+
     /// Tells what holds of every cutting. Nothing is done.
     pub fn invariant(&self)
         ensures { IsCut self.now }

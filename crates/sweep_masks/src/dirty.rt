@@ -28,7 +28,7 @@ pub fn sweep_dirty<R: Threads + Sync, G: Gate + Sync>(
     gate: &G,
 ) -> Result<Vec<u64, Global>, SweepFault>
     ensures ok { IfOk result (λ masks. AreDirtyMasks memory.now shadow.now masks.items) }
-    ensures held { (heap : HeapState) → IsShadowOf heap memory.now.base shadow.now
+    ensures due { (heap : HeapState) → IsShadowOf heap memory.now.base shadow.now
         → AreInDirtyPages memory.now.granules memory.now.dirty (due heap)
         → IfOk result (λ masks. TakeTags memory.now (due heap) masks.items) }
     ensures err { IfErr result (λ fault. fault ≡ SweepFault.Memory) }
@@ -45,7 +45,7 @@ pub fn sweep_dirty_alone<G: Gate>(
     gate: &G,
 ) -> Result<Vec<u64, Global>, SweepFault>
     ensures ok { IfOk result (λ masks. AreDirtyMasks memory.now shadow.now masks.items) }
-    ensures held { (heap : HeapState) → IsShadowOf heap memory.now.base shadow.now
+    ensures due { (heap : HeapState) → IsShadowOf heap memory.now.base shadow.now
         → AreInDirtyPages memory.now.granules memory.now.dirty (due heap)
         → IfOk result (λ masks. TakeTags memory.now (due heap) masks.items) }
     ensures err { IfErr result (λ fault. fault ≡ SweepFault.Memory) }

@@ -49,8 +49,8 @@ fn judge(cutting: &Cutting, pages: u32, done: &[bool], swept: &Swept) -> Result<
     Ok(())
 }
 
-/// Writes these words from `at` on.
-pub(crate) fn place(masks: &mut Vec<u64, Global>, at: usize, words: &[u64])
+// Writes these words from `at` on.
+fn place(masks: &mut Vec<u64, Global>, at: usize, words: &[u64])
     requires { at + length words.now ≤ length masks.old.items }
     ensures count { length masks.new.items ≡ length masks.old.items }
     ensures here { (w : ℕ) → w < length words.now → slice_index masks.new.items (at + w) ≡ slice_index words.now w }

@@ -3,22 +3,21 @@
 ghost use Rattle.heap_model.specs.Heap.{HeapState, due};
 ghost use Rattle.mark_board.specs.Board.{IsOf, IsSeat, first_seat};
 ghost use Rattle.std.specs.Prelude.{◌≡◌, ◌<◌, ◌≤◌, IfErr, IfOk};
-ghost use Rattle.sweep_masks.specs.Claims.{AreAllSwept, HasTasks, IsDone};
+ghost use Rattle.sweep_masks.specs.Claims.{HasTasks, IsDone};
 ghost use Rattle.sweep_masks.specs.Masks.{AreMasks, IsShadowOf, TakeTags};
 ghost use Rattle.sweep_masks.specs.Tasks.{IsTaskCount, page_count};
 
 use crate::alone::sweep_pages;
 use crate::cutting::Cutting;
 use crate::gate::Gate;
-use crate::gathering::place;
+use crate::gathering::{GatherFault, gather};
 use crate::sweep::SweepFault;
-use crate::task::Swept;
 use crate::workers::{Done, Shared, collect, deal, work_by_threads};
 use heap_model::Shadow;
 use host_memory::Global;
 use mark_board::{Board, BoardFault, MarkSeat};
 use std::thread::Threads;
-use tag_memory::{Memory, PAGE_WORDS};
+use tag_memory::Memory;
 
 /// The masks of a whole memory, four words a page: a bit is 1 exactly where its granule is tagged and
 /// the base of its word lies in a painted granule, which for a heap's shadow is in a block that is due. The
@@ -35,7 +34,7 @@ pub fn sweep_masks<R: Threads + Sync, G: Gate + Sync>(
     gate: &G,
 ) -> Result<Vec<u64, Global>, SweepFault>
     ensures ok { IfOk result (λ masks. AreMasks memory.now shadow.now masks.items) }
-    ensures held { (heap : HeapState) → IsShadowOf heap memory.now.base shadow.now
+    ensures due { (heap : HeapState) → IsShadowOf heap memory.now.base shadow.now
         → IfOk result (λ masks. TakeTags memory.now (due heap) masks.items) }
     ensures err { IfErr result (λ fault. fault ≡ SweepFault.Memory) }
 {
@@ -73,7 +72,7 @@ pub fn sweep_masks_alone<G: Gate>(
     gate: &G,
 ) -> Result<Vec<u64, Global>, SweepFault>
     ensures ok { IfOk result (λ masks. AreMasks memory.now shadow.now masks.items) }
-    ensures held { (heap : HeapState) → IsShadowOf heap memory.now.base shadow.now
+    ensures due { (heap : HeapState) → IsShadowOf heap memory.now.base shadow.now
         → IfOk result (λ masks. TakeTags memory.now (due heap) masks.items) }
     ensures err { IfErr result (λ fault. fault ≡ SweepFault.Memory) }
 {
@@ -170,29 +169,17 @@ fn finish(
     ensures ok { IfOk result (λ masks. AreMasks memory.now shadow.now masks.items) }
     ensures err { IfErr result (λ fault. fault ≡ SweepFault.Memory) }
 {
+    let tasks = board.bits();
     let Done { seat, list } = done;
-    // Called for what it ensures alone: all that was seen was claimed.
-    board.close(seat);
-    whole_masks(alloc, memory, shadow, cutting, list)
-}
-
-// The masks of the whole memory, from all its tasks.
-fn whole_masks(
-    alloc: Global,
-    memory: &Memory,
-    shadow: &Shadow,
-    cutting: &Cutting,
-    list: Vec<Swept, Global>,
-) -> Result<Vec<u64, Global>, SweepFault>
-    requires { AreAllSwept memory.now shadow.now cutting.now list.items }
-    ensures ok { IfOk result (λ masks. AreMasks memory.now shadow.now masks.items) }
-    ensures err { IfErr result (λ fault. fault ≡ SweepFault.Memory) }
-{
-    cutting.invariant();
-    let mut masks = vec![in alloc; 0; PAGE_WORDS * memory.pages() as usize]?;
-    let task_words = PAGE_WORDS * cutting.pages_per_task() as usize;
-    for swept in &list {
-        place(&mut masks, swept.task as usize * task_words, &swept.masks);
+    // Called for what it ensures alone: the tasks that were claimed are all tasks.
+    let Ok(_claimed) = board.finish(alloc, seat) else {
+        return Err(SweepFault::Memory);
+    };
+    match gather(alloc, tasks, cutting, memory.pages(), list) {
+        Ok(masks) => Ok(masks),
+        Err(fault) => match fault {
+            GatherFault::Memory => Err(SweepFault::Memory),
+            _ => unreachable!(),
+        },
     }
-    Ok(masks)
 }

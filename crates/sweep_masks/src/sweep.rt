@@ -188,7 +188,7 @@ fn is_register_hit(registers: &Registers, shadow: &Shadow, base: u64, r: u8) -> 
 /// Bit `r` is 1 exactly where register `r` is tagged and the base of its word lies in a painted granule
 /// of the heap that starts at `base`, which for that heap's shadow is in a block that is due.
 pub fn swept_registers(registers: &Registers, shadow: &Shadow, base: u64) -> u32
-    ensures held { (heap : HeapState) → IsShadowOf heap base shadow.now
+    ensures due { (heap : HeapState) → IsShadowOf heap base shadow.now
         → (r : ℕ) → r < register_count → is_set result r ≡ takes_tag (due heap) (register_at registers.now r) }
     ensures painted { (r : ℕ) → r < register_count → is_set result r ≡ is_hit shadow.now base (register_at registers.now r) }
 {

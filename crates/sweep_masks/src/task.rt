@@ -110,8 +110,8 @@ pub(crate) fn swept_into(
 }
 
 /// The masks of one task, four words for each of its pages: a bit is 1 exactly where its granule is
-/// tagged and the base of its word lies in a painted granule, which for a heap's shadow is in a held
-/// block.
+/// tagged and the base of its word lies in a painted granule, which for a heap's shadow is in a block that
+/// is due.
 pub fn sweep_task(
     alloc: Global,
     memory: &Memory,
@@ -121,7 +121,7 @@ pub fn sweep_task(
 ) -> Result<Swept, SweepFault>
     requires { IsTask cutting.now (page_count memory.now) task }
     ensures ok { IfOk result (λ swept. (swept.task ≡ task) × IsSwept memory.now shadow.now cutting.now swept) }
-    ensures held { (heap : HeapState) → IsShadowOf heap memory.now.base shadow.now
+    ensures due { (heap : HeapState) → IsShadowOf heap memory.now.base shadow.now
         → IfOk result (λ swept. TakePageTags memory.now (due heap) (first_page cutting.now task)
         (end_page cutting.now (page_count memory.now) task) swept.masks.items) }
     ensures err { IfErr result (λ fault. fault ≡ SweepFault.Memory) }

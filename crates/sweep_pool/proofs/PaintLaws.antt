@@ -105,8 +105,8 @@ shadow-from_words s shadow sound long each =
     }
 
 -- What one seat has painted in the end says it of each granule.
-pub words-held : (s : HeapState) (board : BoardState) (seat : SeatState) (words : List ℕ) → HasPainted s board 0 (length (due s)) seat → words ≡ seat.mine → words ≡ seat.seen → (k : ℕ) → is_set_for words k ≡ is_due_at s k
-words-held s board seat words p mine seen k =
+pub words-due : (s : HeapState) (board : BoardState) (seat : SeatState) (words : List ℕ) → HasPainted s board 0 (length (due s)) seat → words ≡ seat.mine → words ≡ seat.seen → (k : ℕ) → is_set_for words k ≡ is_due_at s k
+words-due s board seat words p mine seen k =
     let none : length (due s) - 0 ≡ length (due s) = omega arith in
     let all : is_in_due s 0 (length (due s)) k ≡ is_due_at s k = ap (λ (n : ℕ). lies_in_at s k (take n (due s))) none ∙ ap (lies_in_at s k) (take_all (length (due s)) (due s) (omega arith)) in
     elim (cases_Bool (is_due_at s k)) [

@@ -35,7 +35,7 @@ pub(crate) struct Share {
 /// The shadow of a heap, painted by the workers of the cutting: a granule is painted exactly where it lies in a
 /// block that is due. With `h` such blocks and `w` workers, share `i` is those from number `i * h / w` up to, not
 /// including, `(i + 1) * h / w` (`share_of`), by rising start, and `gate` is told of it once, by the worker that painted
-/// it. A single worker is the calling thread, which copies the row of the held granules (Filardo et al. 2020,
+/// it. A single worker is the calling thread, which copies the row of the granules that are due (Filardo et al. 2020,
 /// Cornucopia: the shadow bitmap).
 ///
 /// ```rust

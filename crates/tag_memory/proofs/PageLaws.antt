@@ -1,33 +1,17 @@
 -- Pages that may hold tags, and the words of their tags.
-use Rattle.std.proofs.Common.{◌≡◌, ◌≢◌, ◌↔◌, ℕ, zero, suc, ◌+◌, ◌*◌, ◌/◌, ◌%◌, ◌^◌, ◌==◌, ◌<◌, Bool, true, false, if◌then◌else◌, inl, inr, List, length, get_or, set, replicate, sym, refl, ap, ◌∙◌, arith, get_or-set_same, get_or-set_other}
+use Rattle.std.proofs.Common.{◌≡◌, ◌≢◌, ◌↔◌, ℕ, ◌+◌, ◌*◌, ◌/◌, ◌%◌, ◌^◌, ◌==◌, ◌<◌, Bool, true, false, if◌then◌else◌, inl, inr, List, length, get_or, set, replicate, sym, refl, ap, ◌∙◌, arith, get_or-set_same, get_or-set_other}
 use native.Mathlib.Decide.{ℕ_discrete}
 use mathlib.Core.Logic.{dite}
 use Rattle.std.specs.Int.{bit_at}
 use Rattle.std.proofs.lemmas.Bool.{cases_Bool, cases_lt, true≢false}
 use Rattle.std.proofs.lemmas.List.{get_or_past}
-use Rattle.std.proofs.lemmas.Nat.{div_below}
-use Rattle.std.proofs.lemmas.Nat.Bits.{bit_at-lt, bit_at-suc, bit_at-zero, bit_at_lowest, same_from_bits_below}
+use Rattle.std.proofs.lemmas.Nat.Bits.{bit_at-lt, bit_at-zero, same_from_bits_below}
 use Rattle.tag_memory.specs.Cells.{Granule, AreUntagged, may_hold_at}
-use Rattle.tag_memory.specs.Laws.{is_set_zero, of_test, same_test}
+use Rattle.tag_memory.specs.Laws.{is_set_zero, of_test, some_bit}
 use Rattle.tag_memory.specs.Tags.{AreBlank, HasTag, HasWord, granules_of, is_set, is_set_for, is_tagged}
 use Rattle.tag_memory.proofs.TagLaws.{get_or-granules_of, length-granules_of, zero_at}
 
 -- ---- words and bits
-
--- A word that isn't 0 has a bit that is 1.
-record SomeBit (n word : ℕ) : Type 0 where
-  pub bit : ℕ
-  pub below : bit < n
-  pub one : is_set word bit ≡ true
-
-some_bit : (n word : ℕ) → word < 2 ^ n → word ≢ 0 → SomeBit n word
-some_bit zero word fits some = absurd (some (omega (arith, fits)))
-some_bit (suc n) word fits some = dite (ℕ_discrete (word % 2) 1)
-    (λ odd. record { bit = 0; below = omega arith; one = same_test _ 1 (bit_at_lowest word ∙ odd) })
-    (λ even.
-    let fits_half : word < 2 ^ n * 2 = omega (arith, fits) in
-    let half = some_bit n (word / 2) (div_below word 2 (2 ^ n) (omega arith) fits_half) (λ none. some (omega (arith, even, none))) in
-    record { bit = suc half.bit; below = omega (arith, half.below); one = same_test _ _ (bit_at-suc word half.bit) ∙ half.one })
 
 -- A word none of whose bits is 1 is 0.
 no_bits : (word : ℕ) → word < 2 ^ 64 → ((j : ℕ) → j < 64 → is_set word j ≡ false) → word ≡ 0
@@ -55,14 +39,14 @@ untagged_by bits tags may_hold blank i none =
       | inr past ↦ ap (λ (cell : Granule). cell.1) (get_or_past granules i (0, false) (omega (arith, past, length-granules_of bits tags)))
     ]
 
--- The pages that may hold tags are those with a tagged granule, where each of them has a word that isn't 0.
-pub marks_by : (bits tags : List ℕ) (may_hold : List Bool) → length bits ≡ 64 * length tags → ((w : ℕ) → get_or tags w 0 < 2 ^ 64) → AreBlank tags may_hold
-    → ((page : ℕ) → may_hold_at may_hold page ≡ true → HasWord tags page)
-    → (page : ℕ) → (may_hold_at may_hold page ≡ true) ↔ HasTag (granules_of bits tags) page
-marks_by bits tags may_hold long fits blank some page =
+-- A page may hold tags just where it has a tagged granule, if it then has a word that isn't 0.
+pub mark_by : (bits tags : List ℕ) (may_hold : List Bool) (page : ℕ) → length bits ≡ 64 * length tags → ((w : ℕ) → w / 4 ≡ page → get_or tags w 0 < 2 ^ 64) → AreBlank tags may_hold
+    → (may_hold_at may_hold page ≡ true → HasWord tags page)
+    → (may_hold_at may_hold page ≡ true) ↔ HasTag (granules_of bits tags) page
+mark_by bits tags may_hold page long fits blank some =
     let there : may_hold_at may_hold page ≡ true → HasTag (granules_of bits tags) page = λ marked.
-    let of_page = some page marked in
-    let bit = some_bit 64 (get_or tags of_page.word 0) (fits of_page.word) of_page.some in
+    let of_page = some marked in
+    let bit = some_bit 64 (get_or tags of_page.word 0) (fits of_page.word of_page.inside) of_page.some in
     let inside : of_page.word < length tags = elim (cases_lt of_page.word (length tags)) [
       | inl inside ↦ inside
       | inr past ↦ absurd (of_page.some (get_or_past tags of_page.word 0 past))
@@ -79,6 +63,12 @@ marks_by bits tags may_hold long fits blank some page =
       | inr unmarked ↦ absurd (true≢false (sym tag.tag ∙ untagged_by bits tags may_hold blank tag.granule (ap (may_hold_at may_hold) tag.inside ∙ unmarked)))
     ] in
     (there, back)
+
+-- So it is of all pages.
+pub marks_by : (bits tags : List ℕ) (may_hold : List Bool) → length bits ≡ 64 * length tags → ((w : ℕ) → get_or tags w 0 < 2 ^ 64) → AreBlank tags may_hold
+    → ((page : ℕ) → may_hold_at may_hold page ≡ true → HasWord tags page)
+    → (page : ℕ) → (may_hold_at may_hold page ≡ true) ↔ HasTag (granules_of bits tags) page
+marks_by bits tags may_hold long fits blank some page = mark_by bits tags may_hold page long (λ w _. fits w) blank (some page)
 
 -- ---- a new memory
 

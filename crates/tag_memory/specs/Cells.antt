@@ -40,6 +40,10 @@ is_dirty_at dirty page = slice_index_or dirty page false
 abbrev pub all_clean : List Bool → List Bool
 all_clean dirty = replicate (length dirty) false
 
+-- Every page is dirty, of as many as here.
+abbrev pub all_dirty : List Bool → List Bool
+all_dirty dirty = replicate (length dirty) true
+
 -- A page that may hold no tags has no tagged granule.
 abbrev pub AreUntagged : List Granule → List Bool → Type 0
 AreUntagged granules may_hold = (i : ℕ) → may_hold_at may_hold (i / page_granules) ≡ false → (slice_index_or granules i (0, false)).1 ≡ false

@@ -1,10 +1,13 @@
 -- What the crates above need of bits in words: a bit that is set, a row of words that is made word by
 -- word, and the ones of a word.
 use Rattle.std.proofs.Common.{◌≡◌, ◌≢◌, ℕ, zero, suc, ◌+◌, ◌-◌, ◌*◌, ◌/◌, ◌%◌, ◌^◌, ◌==◌, ◌<◌, ◌&&◌, ◌||◌, if◌then◌else◌, min, max, not, inl, inr, Bool, true, false, List, length, get_or, map, set, refl, sym, ap, ◌∙◌, subst, arith, bit_and, bit_or, w64}
+use native.Mathlib.Decide.{ℕ_discrete}
+use mathlib.Core.Logic.{dite}
 use Rattle.std.proofs.lemmas.Bool.{cases_lt}
+use Rattle.std.proofs.lemmas.Nat.{div_below}
 use lib.Lanes.{mask_l}
 use Rattle.std.proofs.lemmas.List.{get_or-map, get_or-set_other, get_or-set_same, length-map}
-use Rattle.std.proofs.lemmas.Nat.Bits.{bit_at-lt, bit_at-zero, bit_at_and, bit_at_not, bit_at_or, bit_at_set_other, bit_at_set_same, same_from_bits_below}
+use Rattle.std.proofs.lemmas.Nat.Bits.{bit_at-lt, bit_at-suc, bit_at-zero, bit_at_and, bit_at_lowest, bit_at_not, bit_at_or, bit_at_set_other, bit_at_set_same, same_from_bits_below}
 use Rattle.std.proofs.lemmas.Simd.{bit_mask_l, mask_l-lt, ones-mask_l}
 use Rattle.std.specs.Int.{Width, bit_at, bit_not}
 use Rattle.std.specs.Prelude.{count_by, count_ones}
@@ -123,3 +126,18 @@ ones-row p xs d n word long fits each =
     ∙ (ap (λ (b : Bool). if b then 1 else 0) (each j h ∙ sym (get_or-map p xs j d false (omega (arith, h, long))))
     ∙ sym (bit_mask_l row j))) in
     ap count_ones same ∙ ones-mask_l p xs
+
+-- A word that isn't 0 has a bit that is 1.
+pub record SomeBit (n word : ℕ) : Type 0 where
+  pub bit : ℕ
+  pub below : bit < n
+  pub one : is_set word bit ≡ true
+
+pub some_bit : (n word : ℕ) → word < 2 ^ n → word ≢ 0 → SomeBit n word
+some_bit zero word fits some = absurd (some (omega (arith, fits)))
+some_bit (suc n) word fits some = dite (ℕ_discrete (word % 2) 1)
+    (λ odd. record { bit = 0; below = omega arith; one = same_test _ 1 (bit_at_lowest word ∙ odd) })
+    (λ even.
+    let fits_half : word < 2 ^ n * 2 = omega (arith, fits) in
+    let half = some_bit n (word / 2) (div_below word 2 (2 ^ n) (omega arith) fits_half) (λ none. some (omega (arith, even, none))) in
+    record { bit = suc half.bit; below = omega (arith, half.below); one = same_test _ _ (bit_at-suc word half.bit) ∙ half.one })

@@ -25,6 +25,11 @@ granules_of numbers tags = map_with_index (λ i number. (number, is_set_for tags
 unfoldable pub without_tags : List ℕ → List Granule → List Granule
 without_tags masks granules = map_with_index (λ i granule. (granule.0, granule.1 && not (is_set_for masks i))) granules
 
+-- Granule i, without its tag where it is of this page and its bit is 1 in the page's masks, as the granule with this number
+-- and tag.
+abbrev pub without_page_tag : ℕ → List ℕ → ℕ → Granule → Granule
+without_page_tag page masks i granule = (granule.0, granule.1 && not ((i / page_granules == page) && is_set_for masks (i % page_granules)))
+
 -- Whether granule i is tagged.
 abbrev pub is_tagged : List Granule → ℕ → Bool
 is_tagged granules i = (slice_index_or granules i (0, false)).1

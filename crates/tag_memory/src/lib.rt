@@ -6,6 +6,7 @@ mod bits;
 mod extent;
 mod laws;
 mod memory;
+mod page_masks;
 mod pages;
 mod registers;
 

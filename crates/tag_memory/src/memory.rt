@@ -1,16 +1,18 @@
 //! Tagged memory.
 
-ghost use Rattle.std.specs.Prelude.{◌≡◌, ◌↔◌, ◌<◌, ◌≤◌, ◌+◌, ◌-◌, ◌*◌, ◌/◌, ℕ, IfOk, Some, count_by, false, length, slice_get, slice_index_or, slice_set, true};
+ghost use Rattle.std.specs.Prelude.{◌≡◌, ◌≢◌, ◌↔◌, ◌<◌, ◌≤◌, ◌+◌, ◌-◌, ◌*◌, ◌/◌, ℕ, IfOk, MatchOption, Some, count_by, false, length, slice_get, slice_index_or, slice_set, true};
 ghost use Rattle.cap_codec.specs.Words.{base_of};
 ghost use Rattle.tag_memory.specs.Bases as bases;
-ghost use Rattle.tag_memory.specs.Cells.{IsMemory, all_clean, cell_of, is_dirty_at, marks_after, may_hold_at, new_memory};
+ghost use Rattle.tag_memory.specs.Cells.{IsMemory, all_clean, all_dirty, cell_of, is_dirty_at, marks_after, may_hold_at, new_memory};
+ghost use Rattle.tag_memory.specs.Extent.{page_words};
 ghost use Rattle.tag_memory.specs.Extent as extent;
-ghost use Rattle.tag_memory.specs.Tags.{HasTag, is_set, is_tagged, without_tags};
+ghost use Rattle.tag_memory.specs.Tags.{HasTag, is_set, is_tagged, without_page_tag, without_tags};
 ghost use Rattle.tag_memory.specs.Tags as tags;
 
 use crate::bases::base_granule;
 use crate::bits::{WORD_GRANULES, bit, with_bit};
-use crate::extent::{PAGE_GRANULES, is_base, is_size};
+use crate::extent::{GRANULE, PAGE_GRANULES, is_base, is_size};
+use crate::page_masks::take_page_tags;
 use crate::pages::take_tags;
 use host_memory::Global;
 use std::alloc::AllocError;
@@ -156,6 +158,26 @@ impl Memory {
         self.bits.len()
     }
 
+    /// Which granule begins at this address.
+    pub fn granule_at(&self, address: u64) -> Option<usize>
+        ensures { MatchOption result
+            ((i : ℕ) → address ≡ self.now.base + 16 * i → i < length self.now.granules → ⊥)
+            (λ i. (address ≡ self.now.base + 16 * i) × (i < length self.now.granules)) }
+    {
+        if address < self.base {
+            return None;
+        }
+        let offset = address - self.base;
+        if offset % GRANULE != 0 {
+            return None;
+        }
+        let i = (offset / GRANULE) as usize;
+        if i >= self.granules() {
+            return None;
+        }
+        Some(i)
+    }
+
     /// The number that a granule's bytes hold, and its tag. Granules are counted from the base.
     pub fn cell(&self, i: usize) -> (u128, bool)
         requires { i < length self.now.granules }
@@ -212,7 +234,23 @@ impl Memory {
         self.dirty.fill(false);
     }
 
-    /// Whether a tagged word was written into this page since all pages were made clean, or since the memory was
+    /// Makes every page dirty. Nothing else changes.
+    pub fn mark_dirty(&mut self)
+        ensures { self.new ≡ record self.old { dirty = all_dirty self.old.dirty } }
+    {
+        self.dirty.fill(true);
+    }
+
+    /// Makes this page clean. Nothing else changes. Pages are counted from the base.
+    pub fn mark_page_clean(&mut self, page: u32)
+        requires { 256 * page < length self.old.granules }
+        ensures { self.new ≡ record self.old { dirty = slice_set self.old.dirty page false } }
+    {
+        let page = page as usize;
+        self.dirty[page] = false;
+    }
+
+    /// Whether a tagged word was written into this page since it was made clean, or since the memory was
     /// made (Filardo et al. 2020, Cornucopia: capability dirty pages). Pages are counted from the base.
     pub fn dirty(&self, page: u32) -> bool
         requires { 256 * page < length self.now.granules }
@@ -251,6 +289,23 @@ impl Memory {
             let may_hold = self.may_hold[page];
             self.may_hold[page] = take_tags(&mut self.tags, masks, page, may_hold);
         }
+    }
+
+    /// Takes each tag of a page whose bit is 1 in its four masks, which lie as its words of tags do. Then it may hold
+    /// tags just where it has a tagged granule; of other pages nothing changes.
+    pub fn clear_page_tags(&mut self, page: u32, masks: &[u64])
+        requires page { 256 * page < length self.old.granules }
+        requires masks { length masks.now ≡ page_words }
+        ensures base { self.new.base ≡ self.old.base }
+        ensures granules { (i : ℕ) → slice_index_or self.new.granules i (0, false) ≡ without_page_tag page masks.now i (slice_index_or self.old.granules i (0, false)) }
+        ensures count { length self.new.granules ≡ length self.old.granules }
+        ensures dirty { self.new.dirty ≡ self.old.dirty }
+        ensures mark { (may_hold_at self.new.may_hold page ≡ true) ↔ HasTag self.new.granules page }
+        ensures marks { (other : ℕ) → other ≢ page → may_hold_at self.new.may_hold other ≡ may_hold_at self.old.may_hold other }
+    {
+        let at = page as usize;
+        let may_hold = self.may_hold[at];
+        self.may_hold[at] = take_page_tags(&mut self.tags, masks, at, may_hold);
     }
 
     /// How many granules are tagged.

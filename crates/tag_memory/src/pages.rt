@@ -9,7 +9,7 @@ use crate::memory::PAGE_WORDS;
 use host_memory::Global;
 
 /// Whether a tag of this page is left.
-fn has_tags(tags: &[u64], page: usize) -> bool
+pub(crate) fn has_tags(tags: &[u64], page: usize) -> bool
     requires { page_words * page + page_words ≤ length tags.now }
     ensures none { result ≡ false → IsBlank tags.now page }
     ensures some { result ≡ true → HasWord tags.now page }

@@ -2,7 +2,7 @@
 
 use cap_codec::from_bytes;
 use given_state::{Lack, StartFault, start};
-use heap_machine::{Block, Claim, Kind, Machine, Reply, Trap};
+use heap_machine::{Block, Kind, Machine, Obstacle, Reply, Trap};
 use log_text::parse;
 use std::alloc::Global;
 use std::process::Abort;
@@ -145,7 +145,7 @@ given register c0 0 00000000000000000000000000000000
 
 #[test]
 fn blocks_that_may_not_lie_there(rt: HostRuntime) {
-    let other = Claim::OverLive(Block {
+    let other = Obstacle::OverLive(Block {
         base: 0x4000_0100,
         top: 0x4000_0120,
     });
@@ -165,13 +165,13 @@ fn blocks_that_may_not_lie_there(rt: HostRuntime) {
             5,
             other,
         ),
-        ("given live 0x40000108 0x40000120\n", 2, Claim::Uneven),
-        ("given waiting 0x40000100 0x40000118\n", 2, Claim::Uneven),
-        ("given painted 0x40000100 0x40000100\n", 2, Claim::Empty),
-        ("given live 0x3ffffff0 0x40000010\n", 2, Claim::Outside),
-        ("given live 0x4000fff0 0x40010010\n", 2, Claim::Outside),
+        ("given live 0x40000108 0x40000120\n", 2, Obstacle::Uneven),
+        ("given waiting 0x40000100 0x40000118\n", 2, Obstacle::Uneven),
+        ("given painted 0x40000100 0x40000100\n", 2, Obstacle::Empty),
+        ("given live 0x3ffffff0 0x40000010\n", 2, Obstacle::Outside),
+        ("given live 0x4000fff0 0x40010010\n", 2, Obstacle::Outside),
         // 16,400 bytes are held in units of 32.
-        ("given live 0x40000410 0x40004420\n", 2, Claim::Inexact),
+        ("given live 0x40000410 0x40004420\n", 2, Obstacle::Inexact),
     ];
     for (lines, line, reason) in rows {
         let text = format!(in rt.alloc(); "heap 0x40000000 16\n{lines}");
@@ -332,7 +332,7 @@ given live 0x40000100 0x40000118
     let fault = started(&rt, rt.alloc(), text).err();
     let block = StartFault::Unsafe {
         line: 4,
-        lack: Lack::Block(Claim::Uneven),
+        lack: Lack::Block(Obstacle::Uneven),
     };
     assert_eq!(rt; fault, Some(block));
     // The block of a later line guards the word of an earlier one.

@@ -7,7 +7,7 @@ use heap_log::{
     Difference, DueWord, Tally, Verdict, due_words, follow_event, freed_line, given_line,
     handed_out_line, judge,
 };
-use heap_machine::{Alone, Block, Claim, Machine, MachineFault, Reply, Stepper, Why, Workers};
+use heap_machine::{Alone, Block, Machine, MachineFault, Obstacle, Reply, Stepper, Why, Workers};
 use log_text::{Event, parse};
 use std::alloc::Global;
 use std::process::Abort;
@@ -59,7 +59,7 @@ sweep -> trap open
         Verdict::Differs {
             line: 4,
             count: 2,
-            difference: Difference::Answer(Why::Refused(Claim::OverHeld(over))),
+            difference: Difference::Answer(Why::Refused(Obstacle::OverHeld(over))),
         }
     );
 }

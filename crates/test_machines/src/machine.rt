@@ -4,6 +4,7 @@ mod answers;
 mod cuttings;
 mod epochs;
 mod parts;
+mod revoker;
 pub mod sweeps;
 mod workers;
 

@@ -25,6 +25,8 @@ fn granules_are_written(rt: HostRuntime) {
     );
     assert_eq!(rt; (memory.base(), memory.pages()), (0xffff_ffff_ffff_f000, 1));
     assert_eq!(rt; memory.granules(), 256);
+    assert_eq!(rt; memory.granule_at(0xffff_ffff_ffff_fff0), Some(255));
+    assert_eq!(rt; memory.granule_at(0xffff_ffff_ffff_fff8), None);
     memory.put(65, 5, true);
     assert_eq!(rt; memory.cell(65), (5, true));
     assert_eq!(rt; memory.cell(64), (0, false));
@@ -81,6 +83,27 @@ fn a_page_is_dirty_once_a_tagged_word_was_written(rt: HostRuntime) {
     memory.mark_clean();
     assert!(rt; !memory.dirty(1));
     assert!(rt; !memory.has_dirty());
+}
+
+#[test]
+fn a_page_loses_tags_and_is_clean(rt: HostRuntime) {
+    let mut memory = Memory::new(rt.alloc(), 0x4000_0000, 2).expect(&rt, "there is memory");
+    memory.put(3, 7, true);
+    memory.put(70, 7, true);
+    memory.put(300, 7, true);
+    memory.clear_page_tags(0, &[1 << 3, 0, 0, 0]);
+    assert_eq!(rt; (memory.cell(3), memory.cell(70)), ((7, false), (7, true)));
+    assert!(rt; memory.may_hold_tags(0));
+    memory.clear_page_tags(0, &[0, 1 << 6, 0, 0]);
+    assert_eq!(rt;
+        (memory.cell(70), memory.cell(300)),
+        ((7, false), (7, true))
+    );
+    assert!(rt; !memory.may_hold_tags(0) && memory.may_hold_tags(1));
+    memory.mark_page_clean(0);
+    assert!(rt; !memory.dirty(0) && memory.dirty(1));
+    memory.mark_dirty();
+    assert!(rt; memory.dirty(0) && memory.dirty(1));
 }
 
 #[test]

@@ -4,7 +4,7 @@ mod looks;
 mod records;
 
 use byte_machine::{CallFault, CommandRecord, command_of, counts, first, follow, step, step_line};
-use heap_core::{Block, Claim};
+use heap_core::{Block, Obstacle};
 use heap_machine::{Followed, Reply, Shown, Why};
 use state_bytes::BytesFault;
 use std::alloc::Global;
@@ -195,7 +195,7 @@ fn other_places_are_followed(rt: HostRuntime) {
         base: 0x4000_0100,
         top: 0x4000_0140,
     };
-    let differs = Ok(Followed::Differs(Why::Refused(Claim::OverLive(over))));
+    let differs = Ok(Followed::Differs(Why::Refused(Obstacle::OverLive(over))));
     assert_eq!(rt; follow(alloc, &out, command, block, &mut last), differs);
     assert!(rt; last.iter().all(|byte| *byte == 0x55));
 }

@@ -136,7 +136,7 @@ fn far_bases_are_not_swept(rt: HostRuntime) {
     memory.put(0, set_address(before, BASE).bits, true);
     memory.put(1, behind.bits, true);
     memory.put(2, word(16, 32, 16).bits, true);
-    let cutting = Cutting::new(1, 16).expect(&rt, "it is a cutting");
+    let cutting = Cutting::alone();
     let masks = sweep_masks_alone(rt.alloc(), &memory, &shadow, &cutting, &Open).expect(
         &rt,
         "there is memory",
@@ -165,7 +165,7 @@ fn a_base_in_the_last_granule_of_all_is_swept(rt: HostRuntime) {
     memory.put(0, Word::NULL.bits, true);
     memory.put(70, last.bits, true);
     memory.put(71, first.bits, true);
-    let cutting = Cutting::new(1, 16).expect(&rt, "it is a cutting");
+    let cutting = Cutting::alone();
     let masks = sweep_masks_alone(rt.alloc(), &memory, &shadow, &cutting, &Open).expect(
         &rt,
         "there is memory",

@@ -6,60 +6,57 @@ ghost use Rattle.heap_model.specs.Heap.{HeapState, IsSound};
 
 use crate::heap::Heap;
 use cap_codec::{Word, with_bounds};
-use heap_model::{Block, Claim};
+use heap_model::{Block, Obstacle};
 use tag_memory::GRANULE;
 
 // A granule's bytes, to be counted in addresses up to 2^64.
 const WIDE_GRANULE: u128 = GRANULE as u128;
 
 impl Heap {
-    /// Makes the bytes from `base` on, before `top`, a live block where they may be one (`Claimed`). Else nothing
-    /// changes, and the first reason is answered.
+    /// Makes the bytes from `base` on, before `top`, a live block where they may be one. Else nothing changes,
+    /// and the first obstacle is answered.
     ///
     /// ```rust
-    /// use heap_core::{Block, Claim, Heap};
+    /// use heap_core::{Block, Heap, Obstacle};
     ///
     /// let mut heap = Heap::new(alloc, 0x4000_0000, 1)?;
-    /// assert_eq!(rt; heap.claim(0x4000_0040, 0x4000_0060), Claim::Claimed);
+    /// assert_eq!(rt; heap.claim(0x4000_0040, 0x4000_0060), Ok(()));
     /// let there = Block { base: 0x4000_0040, top: 0x4000_0060 };
-    /// assert_eq!(rt; heap.claim(0x4000_0050, 0x4000_0070), Claim::OverLive(there));
+    /// assert_eq!(rt; heap.claim(0x4000_0050, 0x4000_0070), Err(Obstacle::OverLive(there)));
     /// ```
-    pub fn claim(&mut self, base: u64, top: u128) -> Claim
+    pub fn claim(&mut self, base: u64, top: u128) -> Result<(), Obstacle>
         ensures claim { IsClaim self.old self.old base top result self.new }
         ensures sound { IsSound self.new }
     {
         self.invariant();
-        let (first, granules) = match self.granules_of(base, top) {
-            Ok(place) => place,
-            Err(reason) => return reason,
-        };
+        let (first, granules) = self.granules_of(base, top)?;
         if !self.table.put_at(first, granules) {
-            return self.in_the_way(base, top, first, granules);
+            return Err(self.in_the_way(base, top, first, granules));
         }
         self.live_granules += granules as u32;
-        Claim::Claimed
+        Ok(())
     }
 
     // The granules of these bounds, the first and how many, where they could be those of a block in an empty heap.
-    pub(super) fn granules_of(&self, base: u64, top: u128) -> Result<(usize, usize), Claim>
+    pub(super) fn granules_of(&self, base: u64, top: u128) -> Result<(usize, usize), Obstacle>
         ensures fit { IfOk result (λ place. AreFitting self.now base top place.0 place.1) }
         // The reason lies in the bounds and in where the heap lies, not in its blocks.
         ensures reason { IfErr result (λ why. (s : HeapState) → s.base ≡ self.now.base → s.size ≡ self.now.size → IsReason s base top why) }
     {
         if !base.is_multiple_of(GRANULE) || !top.is_multiple_of(WIDE_GRANULE) {
-            return Err(Claim::Uneven);
+            return Err(Obstacle::Uneven);
         }
         let from = u128::from(base);
         if top <= from {
-            return Err(Claim::Empty);
+            return Err(Obstacle::Empty);
         }
         let end = u128::from(self.base) + WIDE_GRANULE * self.table.granules() as u128;
         if base < self.base || top > end {
-            return Err(Claim::Outside);
+            return Err(Obstacle::Outside);
         }
         let (_, exact) = with_bounds(Word::NULL, base, top);
         if !exact {
-            return Err(Claim::Inexact);
+            return Err(Obstacle::Inexact);
         }
         let first = ((base - self.base) / GRANULE) as usize;
         let granules = ((top - from) / WIDE_GRANULE) as usize;
@@ -67,15 +64,15 @@ impl Heap {
     }
 
     // What is in the way of a block with these bounds, whose granules these are.
-    fn in_the_way(&self, base: u64, top: u128, first: usize, granules: usize) -> Claim
+    fn in_the_way(&self, base: u64, top: u128, first: usize, granules: usize) -> Obstacle
         requires fit { AreFitting self.now base top first granules }
         requires taken { ¬ IsClaimable self.now base top }
         ensures { IsReason self.now base top result }
     {
         if let Some(block) = self.live_over(first, granules) {
-            return Claim::OverLive(block);
+            return Obstacle::OverLive(block);
         }
-        Claim::OverHeld(self.held_over(first, granules).unwrap())
+        Obstacle::OverHeld(self.held_over(first, granules).unwrap())
     }
 
     // The first live block that has some of these granules.

@@ -1,6 +1,6 @@
 //! Blocks that are given up, and wait until their bytes may be used again.
 
-ghost use Rattle.std.specs.Prelude.{◌≡◌, ◌<◌, ◌≤◌, ◌↔◌, ◌+◌, ◌*◌, ◌^◌, ℕ, IfErr, IfOk, IfSome, IsOk, None, false, length, slice_set, true};
+ghost use Rattle.std.specs.Prelude.{◌≡◌, ◌<◌, ◌≤◌, ◌↔◌, ◌+◌, ◌-◌, ◌*◌, ◌/◌, ◌^◌, ℕ, IfErr, IfOk, IfSome, IsOk, None, false, length, slice_set, true};
 ghost use Rattle.cap_codec.specs.Rounding.{IsExact};
 ghost use Rattle.heap_model.specs.Blocks.{bytes_in, lies_in};
 ghost use Rattle.heap_model.specs.Claim.{IsClaim};
@@ -12,7 +12,7 @@ ghost use Rattle.heap_model.specs.Quarantine.{IsShadow, freed_of, with_epoch, wi
 use crate::fault::HeapFault;
 use crate::heap::Heap;
 use granule_rows::set_run;
-use heap_model::{Block, Claim, Freed, Shadow};
+use heap_model::{Block, Freed, Obstacle, Shadow};
 use host_memory::Global;
 use tag_memory::GRANULE;
 
@@ -29,8 +29,8 @@ impl Heap {
         Ok(self.give_up(base, top))
     }
 
-    /// `release`, as it never errs.
-    pub fn give_up(&mut self, base: u64, top: u128) -> Freed
+    // `release`, as it never errs.
+    fn give_up(&mut self, base: u64, top: u128) -> Freed
         ensures answer { result ≡ freed_of self.old base top }
         ensures held { result ≡ Freed.Held → self.new ≡ with_waiting self.old base top }
         ensures unchanged { ¬ (result ≡ Freed.Held) → self.new ≡ self.old }
@@ -84,6 +84,13 @@ impl Heap {
             return false;
         }
         self.table.is_in_due_block(granule)
+    }
+
+    /// Whether a granule, counted from the heap's base, lies in a block that is due now. None past the last does.
+    pub fn is_granule_due(&self, granule: usize) -> bool
+        ensures { (address : ℕ) → self.now.base ≤ address → (address - self.now.base) / 16 ≡ granule → result ≡ lies_in (due self.now) address }
+    {
+        granule < self.table.granules() && self.table.is_in_due_block(granule)
     }
 
     /// The bytes of the blocks that are due now.
@@ -174,40 +181,21 @@ impl Heap {
         ensures live { IfOk result (λ done. IfSome done.0 (λ block. self.new ≡ with_live (without_waiting self.old) size block.base)) }
         ensures sound { IsSound self.new }
     {
-        let waiting = self.due_bytes();
-        Ok((self.give_back_and_hand_out(size), waiting))
-    }
-
-    /// The same without an answer for want of memory, and without the bytes.
-    pub fn give_back_and_hand_out(&mut self, size: u64) -> Option<Block>
-        requires { self.old.is_open ≡ false }
-        ensures none { (result ≡ None) ↔ ((a : ℕ) → ¬ IsFree (without_waiting self.old) size a) }
-        ensures free { result ≡ None → self.new ≡ without_waiting self.old }
-
-        ensures place { IfSome result (λ block. IsPlace (without_waiting self.old) size block.base) }
-        ensures top { IfSome result (λ block. block.top ≡ block.base + block_length size) }
-        ensures exact { IfSome result (λ block. IsExact block.base block.top) }
-        ensures live { IfSome result (λ block. self.new ≡ with_live (without_waiting self.old) size block.base) }
-        ensures sound { IsSound self.new }
-    {
-        self.give_back();
-        self.hand_out(size)
+        let waiting = self.give_back();
+        Ok((self.hand_out(size), waiting))
     }
 
     /// Makes the blocks that wait free, and then the bytes from `base` on, before `top`, a live block, where they may
-    /// be one then (`Claimed`). Else nothing changes, and the first reason is answered.
-    pub fn give_back_and_claim(&mut self, base: u64, top: u128) -> Claim
+    /// be one then. Else nothing changes, and the first obstacle is answered.
+    pub fn give_back_and_claim(&mut self, base: u64, top: u128) -> Result<(), Obstacle>
         requires { self.old.is_open ≡ false }
         ensures claim { IsClaim self.old (without_waiting self.old) base top result self.new }
         ensures sound { IsSound self.new }
     {
         self.invariant();
-        let (first, granules) = match self.granules_of(base, top) {
-            Ok(place) => place,
-            Err(reason) => return reason,
-        };
+        let (first, granules) = self.granules_of(base, top)?;
         if let Some(block) = self.live_over(first, granules) {
-            return Claim::OverLive(block);
+            return Err(Obstacle::OverLive(block));
         }
         self.drop_due();
         self.claim(base, top)

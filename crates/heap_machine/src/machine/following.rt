@@ -1,12 +1,10 @@
 //! Commands as they were answered: by threads, or by the calling thread alone.
 
-ghost use Rattle.std.specs.Prelude.{◌≡◌, ◌≢◌, IfErr, IfOk, IfSome, IsOk};
+ghost use Rattle.std.specs.Prelude.{IfSome};
 ghost use Rattle.trace_text.specs.Command.{IsValid};
-ghost use Rattle.machine_steps.specs.Dirty.{IsDirtied, dirty_after};
-ghost use Rattle.machine_storage.specs.Followed.{FollowsFreely, IsFollowed};
 ghost use Rattle.machine_storage.specs.Storage.{IsStorage};
 ghost use Rattle.machine_storage.specs.Passes.{FindsTags, IsFound};
-ghost use Rattle.machine_steps.specs.Safety.{IsSafe, IsUnused, LeavesInUse};
+ghost use Rattle.heap_machine.specs.Stepping.{IsFollowing};
 
 use crate::machine::Machine;
 use crate::passes::{found_alone, found_by_workers};
@@ -30,16 +28,7 @@ impl Machine {
         gate: &G,
     ) -> Result<Followed, MachineFault>
         requires { IsValid command }
-        ensures followed { IfOk result (λ followed. IsFollowed self.old.state command answer followed self.new.state) }
-        ensures still { result ≢ Ok Followed.Agrees → self.new ≡ self.old }
-        ensures memory { IfErr result (λ fault. fault ≡ MachineFault.Memory) }
-        ensures ok { FollowsFreely self.old.state command answer → IsOk result }
-        ensures cutting { self.new.cutting ≡ self.old.cutting }
-        ensures safe { IsSafe self.new.state }
-        ensures unused { result ≡ Ok Followed.Agrees → IsUnused self.old.state command answer }
-        ensures revoked { result ≡ Ok Followed.Agrees → LeavesInUse command answer self.new.state }
-        ensures dirty { result ≡ Ok Followed.Agrees → self.new.dirty ≡ dirty_after self.old.state command self.old.dirty }
-        ensures dirtied { IsDirtied self.new.state self.new.dirty }
+        ensures { IsFollowing self.old command answer result self.new }
     {
         let cutting = self.cutting;
         self.follow_with(
@@ -73,16 +62,7 @@ impl Machine {
         gate: &G,
     ) -> Result<Followed, MachineFault>
         requires { IsValid command }
-        ensures followed { IfOk result (λ followed. IsFollowed self.old.state command answer followed self.new.state) }
-        ensures still { result ≢ Ok Followed.Agrees → self.new ≡ self.old }
-        ensures memory { IfErr result (λ fault. fault ≡ MachineFault.Memory) }
-        ensures ok { FollowsFreely self.old.state command answer → IsOk result }
-        ensures cutting { self.new.cutting ≡ self.old.cutting }
-        ensures safe { IsSafe self.new.state }
-        ensures unused { result ≡ Ok Followed.Agrees → IsUnused self.old.state command answer }
-        ensures revoked { result ≡ Ok Followed.Agrees → LeavesInUse command answer self.new.state }
-        ensures dirty { result ≡ Ok Followed.Agrees → self.new.dirty ≡ dirty_after self.old.state command self.old.dirty }
-        ensures dirtied { IsDirtied self.new.state self.new.dirty }
+        ensures { IsFollowing self.old command answer result self.new }
     {
         let cutting = self.cutting;
         self.follow_with(
@@ -104,16 +84,7 @@ impl Machine {
         requires callable { P.IsAlwaysCallable pass.now }
         requires finds { FindsTags (P.post pass.now) }
         requires valid { IsValid command }
-        ensures followed { IfOk result (λ followed. IsFollowed self.old.state command answer followed self.new.state) }
-        ensures still { result ≢ Ok Followed.Agrees → self.new ≡ self.old }
-        ensures memory { IfErr result (λ fault. fault ≡ MachineFault.Memory) }
-        ensures ok { FollowsFreely self.old.state command answer → IsOk result }
-        ensures cutting { self.new.cutting ≡ self.old.cutting }
-        ensures safe { IsSafe self.new.state }
-        ensures unused { result ≡ Ok Followed.Agrees → IsUnused self.old.state command answer }
-        ensures revoked { result ≡ Ok Followed.Agrees → LeavesInUse command answer self.new.state }
-        ensures dirty { result ≡ Ok Followed.Agrees → self.new.dirty ≡ dirty_after self.old.state command self.old.dirty }
-        ensures dirtied { IsDirtied self.new.state self.new.dirty }
+        ensures { IsFollowing self.old command answer result self.new }
     {
         any_placement_law();
         self.storage.memory.invariant();

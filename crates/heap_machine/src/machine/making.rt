@@ -75,8 +75,8 @@ fn lie_together(heap: &Heap, memory: &Memory) -> bool
     memory.base() == heap.base() && memory.granules() == heap.granules()
 }
 
-// Whether a word with this tag is guarded.
-fn is_guarded(heap: &Heap, word: Word, tag: bool) -> bool
+/// Whether a word with this tag is guarded: it is untagged, or a block of the heap, live or held, has all of its bounds.
+pub fn is_guarded(heap: &Heap, word: Word, tag: bool) -> bool
     ensures yes { result ≡ true → IsGuarded heap.now (word, tag) }
     ensures no { result ≡ false → ¬ IsGuarded heap.now (word, tag) }
 {

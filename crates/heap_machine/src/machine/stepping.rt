@@ -1,12 +1,10 @@
 //! Steps of a machine: by threads, or by the calling thread alone.
 
-ghost use Rattle.std.specs.Prelude.{◌≡◌, IfErr, IfOk, IfSome, IsOk, OnErr, OnOk};
+ghost use Rattle.std.specs.Prelude.{IfSome};
 ghost use Rattle.trace_text.specs.Command.{IsValid};
-ghost use Rattle.machine_steps.specs.Dirty.{IsDirtied, dirty_after};
 ghost use Rattle.machine_storage.specs.Storage.{IsStorage};
 ghost use Rattle.machine_storage.specs.Passes.{FindsTags, IsFound};
-ghost use Rattle.machine_steps.specs.Safety.{IsSafe, IsUnused, LeavesInUse};
-ghost use Rattle.machine_steps.specs.Step.{Step, NeedsNoMemory};
+ghost use Rattle.heap_machine.specs.Stepping.{IsStepped};
 
 use crate::machine::Machine;
 use crate::passes::{found_alone, found_by_workers};
@@ -29,18 +27,7 @@ impl Machine {
         gate: &G,
     ) -> Result<Reply, MachineFault>
         requires { IsValid command }
-        ensures step { IfOk result (λ reply. Step self.old.state command reply self.new.state) }
-        ensures err { OnErr result (self.new ≡ self.old) }
-        ensures memory { IfErr result (λ fault. fault ≡ MachineFault.Memory) }
-        ensures ok { NeedsNoMemory self.old.state command → IsOk result }
-        ensures cutting { self.new.cutting ≡ self.old.cutting }
-        ensures safe { IsSafe self.new.state }
-        ensures unused { IfOk result (λ reply. IsUnused self.old.state command reply) }
-        ensures revoked { IfOk result (λ reply. LeavesInUse command reply self.new.state) }
-        // A page is dirty where a tagged word was stored into it since an epoch began, and so stands each tagged word
-        // of memory whose base lies in a painted block.
-        ensures dirty { OnOk result (self.new.dirty ≡ dirty_after self.old.state command self.old.dirty) }
-        ensures dirtied { IsDirtied self.new.state self.new.dirty }
+        ensures { IsStepped self.old command result self.new }
     {
         let cutting = self.cutting;
         self.step_with(
@@ -59,18 +46,7 @@ impl Machine {
         gate: &G,
     ) -> Result<Reply, MachineFault>
         requires { IsValid command }
-        ensures step { IfOk result (λ reply. Step self.old.state command reply self.new.state) }
-        ensures err { OnErr result (self.new ≡ self.old) }
-        ensures memory { IfErr result (λ fault. fault ≡ MachineFault.Memory) }
-        ensures ok { NeedsNoMemory self.old.state command → IsOk result }
-        ensures cutting { self.new.cutting ≡ self.old.cutting }
-        ensures safe { IsSafe self.new.state }
-        ensures unused { IfOk result (λ reply. IsUnused self.old.state command reply) }
-        ensures revoked { IfOk result (λ reply. LeavesInUse command reply self.new.state) }
-        // A page is dirty where a tagged word was stored into it since an epoch began, and so stands each tagged word
-        // of memory whose base lies in a painted block.
-        ensures dirty { OnOk result (self.new.dirty ≡ dirty_after self.old.state command self.old.dirty) }
-        ensures dirtied { IsDirtied self.new.state self.new.dirty }
+        ensures { IsStepped self.old command result self.new }
     {
         let cutting = self.cutting;
         self.step_with(
@@ -90,16 +66,7 @@ impl Machine {
         requires callable { P.IsAlwaysCallable pass.now }
         requires finds { FindsTags (P.post pass.now) }
         requires valid { IsValid command }
-        ensures step { IfOk result (λ reply. Step self.old.state command reply self.new.state) }
-        ensures err { OnErr result (self.new ≡ self.old) }
-        ensures memory { IfErr result (λ fault. fault ≡ MachineFault.Memory) }
-        ensures ok { NeedsNoMemory self.old.state command → IsOk result }
-        ensures cutting { self.new.cutting ≡ self.old.cutting }
-        ensures safe { IsSafe self.new.state }
-        ensures unused { IfOk result (λ reply. IsUnused self.old.state command reply) }
-        ensures revoked { IfOk result (λ reply. LeavesInUse command reply self.new.state) }
-        ensures dirty { OnOk result (self.new.dirty ≡ dirty_after self.old.state command self.old.dirty) }
-        ensures dirtied { IsDirtied self.new.state self.new.dirty }
+        ensures { IsStepped self.old command result self.new }
     {
         // From a sound state each step leads to one.
         any_placement_law();

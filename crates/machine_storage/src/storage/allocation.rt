@@ -34,7 +34,7 @@ impl Storage {
         ensures memory { IfErr result (λ fault. fault ≡ MachineFault.Memory) }
         ensures ok { NeedsNoMemory (state_of self.old) (Command.Malloc rd size) → IsOk result }
     {
-        if let Some(Block { base, top }) = self.heap.hand_out(size) {
+        if let Some(Block { base, top }) = self.heap.reserve(size).unwrap() {
             self.registers.set(rd, block_capability(base, top), true);
             return Ok(Reply::Block { base, top });
         }

@@ -1,9 +1,10 @@
 //! What a command comes to: it is decided first, in a storage that stands still, and then made.
 
-ghost use Rattle.std.specs.Prelude.{◌≡◌};
+ghost use Rattle.std.specs.Prelude.{◌≡◌, IsOk};
 ghost use Rattle.machine_storage.specs.Decision.{CanMake, dirty_left, left};
 ghost use Rattle.machine_storage.specs.Storage.{IsStorage, state_of};
 
+use crate::fault::MachineFault;
 use crate::storage::Storage;
 use crate::storage::revocation::RevokedTags;
 use cap_codec::Word;
@@ -60,6 +61,15 @@ pub enum Change {
 }
 
 impl Storage {
+    // Makes room for what a pass gives back, before anything changes.
+    #[inline(always)]
+    pub(super) fn prepare(&mut self) -> Result<(), MachineFault>
+        ensures ok { IsOk result }
+        ensures unchanged { self.new ≡ self.old }
+    {
+        self.heap.prepare().map_err(|_| MachineFault::Memory)
+    }
+
     // Makes what was decided, and answers its reply. Inlined, so that of each command no more is left than its own change.
     #[inline(always)]
     pub(super) fn make(&mut self, decision: Decision) -> Reply
@@ -76,7 +86,7 @@ impl Storage {
             Change::Register { r, word, tag } => self.registers.set(r, word, tag),
             Change::Granule { i, bits, tag } => self.memory.put(i, bits, tag),
             Change::Waits { base, top } => {
-                self.heap.give_up(base, top);
+                self.heap.release(base, top).unwrap();
             }
             Change::BeginsEmpty => self.begin_epoch(),
             Change::Begins(masks) => {

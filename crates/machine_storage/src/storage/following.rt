@@ -14,7 +14,6 @@ use crate::followed::{Followed, Why};
 use crate::storage::Storage;
 use crate::storage::passes::Found;
 use cap_codec::{Word, block_capability};
-use heap_core::Claim;
 use heap_reply::Reply;
 use machine_steps::{any_placement_law, safe_reuse_law};
 use trace_text::Command;
@@ -130,8 +129,8 @@ impl Storage {
             return Followed::Differs(Why::TooShort);
         }
         match self.heap.claim(base, top) {
-            Claim::Claimed => {}
-            reason => return Followed::Differs(Why::Refused(reason)),
+            Ok(()) => {}
+            Err(obstacle) => return Followed::Differs(Why::Refused(obstacle)),
         }
         self.registers.set(rd, block_capability(base, top), true);
         Followed::Agrees
@@ -170,8 +169,8 @@ impl Storage {
             return Ok(Followed::Differs(Why::Takes(count)));
         }
         match self.heap.give_back_and_claim(base, top) {
-            Claim::Claimed => {}
-            reason => return Ok(Followed::Differs(Why::Refused(reason))),
+            Ok(()) => {}
+            Err(obstacle) => return Ok(Followed::Differs(Why::Refused(obstacle))),
         }
         revoked.apply(&mut self.memory, &mut self.registers);
         self.registers.set(rd, block_capability(base, top), true);

@@ -35,7 +35,9 @@ impl Storage {
         ensures memory { IfErr result (λ fault. fault ≡ MachineFault.Memory) }
     {
         let revoked = self.revoked_tags(pass)?;
-        let found = self.heap.give_back_and_hand_out(size);
+        let Ok((found, _)) = self.heap.give_back_and_reserve(size) else {
+            return Err(MachineFault::Memory);
+        };
         let cleared = revoked.count();
         revoked.apply(&mut self.memory, &mut self.registers);
         let Some(block) = found else {

@@ -1,6 +1,6 @@
 //! A machine that does commands as an allocator answered them, which places blocks elsewhere.
 
-use heap_machine::{Block, Claim, Followed, Machine, Reply, Trap, Why};
+use heap_machine::{Block, Followed, Machine, Obstacle, Reply, Trap, Why};
 use std::alloc::Global;
 use std::process::Abort;
 use std::thread::Threads;
@@ -127,7 +127,7 @@ fn a_block_goes_wherever_it_is_free(rt: HostRuntime) {
         (
             SECOND,
             there,
-            Followed::Differs(Why::Refused(Claim::OverLive(over))),
+            Followed::Differs(Why::Refused(Obstacle::OverLive(over))),
         ),
         (
             Command::Free { rs: 1 },
@@ -138,13 +138,13 @@ fn a_block_goes_wherever_it_is_free(rt: HostRuntime) {
         (
             SECOND,
             there,
-            Followed::Differs(Why::Refused(Claim::OverHeld(over))),
+            Followed::Differs(Why::Refused(Obstacle::OverHeld(over))),
         ),
         (SECOND, short, Followed::Differs(Why::TooShort)),
         (
             SECOND,
             uneven,
-            Followed::Differs(Why::Refused(Claim::Uneven)),
+            Followed::Differs(Why::Refused(Obstacle::Uneven)),
         ),
         (SECOND, Reply::Done, Followed::Differs(Why::NotOfMalloc)),
         (SECOND, Reply::NoSpace, AGREES),

@@ -1,7 +1,7 @@
 //! Machines of given parts, and what is wrong with other parts.
 
 use cap_codec::{Word, block_capability};
-use heap_core::{Claim, Heap};
+use heap_core::Heap;
 use heap_machine::{Flaw, Kind, Machine, Reply};
 use std::alloc::Global;
 use std::process::Abort;
@@ -14,11 +14,11 @@ const BASE: u64 = 0x4000_0000;
 // A heap of so many pages with a live block of 32 bytes in the first, and one that is painted.
 fn heap_of_two(rt: &impl Abort, alloc: Global, pages: u32) -> Heap {
     let mut heap = Heap::new(alloc, BASE, pages).expect(rt, "a heap");
-    assert_eq!(rt; heap.claim(0x4000_0200, 0x4000_0220), Claim::Claimed);
+    assert_eq!(rt; heap.claim(0x4000_0200, 0x4000_0220), Ok(()));
     assert!(rt; heap.release(0x4000_0200, 0x4000_0220).is_ok());
     assert!(rt; !heap.is_open());
     heap.begin_epoch();
-    assert_eq!(rt; heap.claim(0x4000_0100, 0x4000_0120), Claim::Claimed);
+    assert_eq!(rt; heap.claim(0x4000_0100, 0x4000_0120), Ok(()));
     heap
 }
 

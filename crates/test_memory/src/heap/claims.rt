@@ -1,12 +1,12 @@
 //! Blocks whose place a caller names.
 
 use crate::heap::{BASE, LAST_PAGE};
-use heap_core::{Block, Claim, Freed, Heap, Kind};
+use heap_core::{Block, Freed, Heap, Kind, Obstacle};
 use std::alloc::Global;
 use std::process::Abort;
 
 // Bounds that are claimed, with what becomes of it.
-type Row = (u64, u128, Claim);
+type Row = (u64, u128, Result<(), Obstacle>);
 
 fn are_claimed(rt: &impl Abort, heap: &mut Heap, rows: &[Row]) {
     for (base, top, claim) in rows {
@@ -33,9 +33,9 @@ const LATER: Block = Block {
 fn heap_of_three(rt: &impl Abort, alloc: Global) -> Heap {
     let mut heap = Heap::new(alloc, BASE, 16).expect(rt, "a heap");
     let rows = [
-        (LIVE.base, LIVE.top, Claim::Claimed),
-        (HELD.base, HELD.top, Claim::Claimed),
-        (LATER.base, LATER.top, Claim::Claimed),
+        (LIVE.base, LIVE.top, Ok(())),
+        (HELD.base, HELD.top, Ok(())),
+        (LATER.base, LATER.top, Ok(())),
     ];
     are_claimed(rt, &mut heap, &rows);
     assert_eq!(rt; heap.release(HELD.base, HELD.top), Ok(Freed::Held));
@@ -46,17 +46,17 @@ fn heap_of_three(rt: &impl Abort, alloc: Global) -> Heap {
 fn bounds_that_no_block_has(rt: HostRuntime) {
     let mut heap = heap_of_three(&rt, rt.alloc());
     let rows = [
-        (0x4000_0408, 0x4000_0420, Claim::Uneven),
-        (0x4000_0400, 0x4000_0408, Claim::Uneven),
+        (0x4000_0408, 0x4000_0420, Err(Obstacle::Uneven)),
+        (0x4000_0400, 0x4000_0408, Err(Obstacle::Uneven)),
         // Uneven comes before empty, and empty before outside.
-        (0x4000_0408, 0x4000_0400, Claim::Uneven),
-        (0x4000_0400, 0x4000_0400, Claim::Empty),
-        (0x5000_0000, 0x4000_0000, Claim::Empty),
-        (0x3fff_fff0, 0x4000_0010, Claim::Outside),
-        (0x4000_fff0, 0x4001_0010, Claim::Outside),
+        (0x4000_0408, 0x4000_0400, Err(Obstacle::Uneven)),
+        (0x4000_0400, 0x4000_0400, Err(Obstacle::Empty)),
+        (0x5000_0000, 0x4000_0000, Err(Obstacle::Empty)),
+        (0x3fff_fff0, 0x4000_0010, Err(Obstacle::Outside)),
+        (0x4000_fff0, 0x4001_0010, Err(Obstacle::Outside)),
         // 16,400 bytes are held in units of 32.
-        (0x4000_0410, 0x4000_4420, Claim::Inexact),
-        (0x4000_0400, 0x4000_4420, Claim::Claimed),
+        (0x4000_0410, 0x4000_4420, Err(Obstacle::Inexact)),
+        (0x4000_0400, 0x4000_4420, Ok(())),
     ];
     are_claimed(&rt, &mut heap, &rows);
     let sums = (heap.live_bytes(), heap.held_bytes());
@@ -67,18 +67,18 @@ fn bounds_that_no_block_has(rt: HostRuntime) {
 fn blocks_are_in_the_way(rt: HostRuntime) {
     let mut heap = heap_of_three(&rt, rt.alloc());
     let rows = [
-        (0x4000_0110, 0x4000_0130, Claim::OverLive(LIVE)),
-        (0x4000_00f0, 0x4000_0110, Claim::OverLive(LIVE)),
-        (0x4000_0100, 0x4000_0120, Claim::OverLive(LIVE)),
-        (0x4000_0210, 0x4000_0220, Claim::OverHeld(HELD)),
-        (0x4000_01f0, 0x4000_0300, Claim::OverHeld(HELD)),
+        (0x4000_0110, 0x4000_0130, Err(Obstacle::OverLive(LIVE))),
+        (0x4000_00f0, 0x4000_0110, Err(Obstacle::OverLive(LIVE))),
+        (0x4000_0100, 0x4000_0120, Err(Obstacle::OverLive(LIVE))),
+        (0x4000_0210, 0x4000_0220, Err(Obstacle::OverHeld(HELD))),
+        (0x4000_01f0, 0x4000_0300, Err(Obstacle::OverHeld(HELD))),
         // A live block is told before a held one that lies lower, and of two live ones the lower.
-        (0x4000_0230, 0x4000_0310, Claim::OverLive(LATER)),
-        (0x4000_0110, 0x4000_0310, Claim::OverLive(LIVE)),
+        (0x4000_0230, 0x4000_0310, Err(Obstacle::OverLive(LATER))),
+        (0x4000_0110, 0x4000_0310, Err(Obstacle::OverLive(LIVE))),
         // What lies between them is free.
-        (0x4000_0120, 0x4000_0200, Claim::Claimed),
-        (0x4000_0240, 0x4000_0300, Claim::Claimed),
-        (0x4000_0000, 0x4000_0100, Claim::Claimed),
+        (0x4000_0120, 0x4000_0200, Ok(())),
+        (0x4000_0240, 0x4000_0300, Ok(())),
+        (0x4000_0000, 0x4000_0100, Ok(())),
     ];
     are_claimed(&rt, &mut heap, &rows);
 }
@@ -90,8 +90,8 @@ fn late_blocks_are_in_the_way(rt: HostRuntime) {
     heap.begin_epoch();
     assert_eq!(rt; heap.release(LATER.base, LATER.top), Ok(Freed::Held));
     let rows = [
-        (0x4000_0310, 0x4000_0330, Claim::OverHeld(LATER)),
-        (0x4000_0230, 0x4000_0310, Claim::OverHeld(HELD)),
+        (0x4000_0310, 0x4000_0330, Err(Obstacle::OverHeld(LATER))),
+        (0x4000_0230, 0x4000_0310, Err(Obstacle::OverHeld(HELD))),
     ];
     are_claimed(&rt, &mut heap, &rows);
     assert_eq!(rt; heap.due_bytes(), 64);
@@ -117,22 +117,25 @@ fn blocks_are_claimed_once_those_that_wait_are_free(rt: HostRuntime) {
     let mut heap = heap_of_three(&rt, rt.alloc());
     assert!(rt; !heap.is_open());
     let refused = heap.give_back_and_claim(0x4000_0230, 0x4000_0310);
-    assert_eq!(rt; (refused, heap.held_bytes()), (Claim::OverLive(LATER), 64));
+    assert_eq!(rt;
+        (refused, heap.held_bytes()),
+        (Err(Obstacle::OverLive(LATER)), 64)
+    );
     assert!(rt; !heap.is_open());
     let uneven = heap.give_back_and_claim(0x4000_0230, 0x4000_0248);
-    assert_eq!(rt; (uneven, heap.held_bytes()), (Claim::Uneven, 64));
+    assert_eq!(rt; (uneven, heap.held_bytes()), (Err(Obstacle::Uneven), 64));
     assert!(rt; !heap.is_open());
     let claimed = heap.give_back_and_claim(0x4000_0230, 0x4000_0250);
     assert_eq!(rt;
         (claimed, heap.held_bytes(), heap.live_bytes()),
-        (Claim::Claimed, 0, 96)
+        (Ok(()), 0, 96)
     );
 }
 
 #[test]
 fn the_last_page_is_claimed_whole(rt: HostRuntime) {
     let mut heap = Heap::new(rt.alloc(), LAST_PAGE, 1).expect(&rt, "a heap");
-    let rows = [(LAST_PAGE, 1 << 64, Claim::Claimed)];
+    let rows = [(LAST_PAGE, 1 << 64, Ok(()))];
     are_claimed(&rt, &mut heap, &rows);
     assert_eq!(rt; heap.free_bytes(), 0);
 }
@@ -196,7 +199,7 @@ fn blocks_start_at_their_granules(rt: HostRuntime) {
         base: BASE,
         top: 0x4000_0010,
     };
-    assert_eq!(rt; heap.claim(lone.base, lone.top), Claim::Claimed);
+    assert_eq!(rt; heap.claim(lone.base, lone.top), Ok(()));
     let starts = [
         (0, Some((lone, Kind::Live))),
         (1, None),
@@ -232,8 +235,8 @@ fn a_long_block_has_the_addresses_of_its_end(rt: HostRuntime) {
         base: 0x4000_03f0,
         top: 0x4000_1070,
     };
-    assert_eq!(rt; heap.claim(BASE, 0x4000_0010), Claim::Claimed);
-    assert_eq!(rt; heap.claim(long.base, long.top), Claim::Claimed);
+    assert_eq!(rt; heap.claim(BASE, 0x4000_0010), Ok(()));
+    assert_eq!(rt; heap.claim(long.base, long.top), Ok(()));
     let places = [
         (0x4000_03ef, None),
         (0x4000_03f0, Some((long, Kind::Live))),

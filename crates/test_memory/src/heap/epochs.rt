@@ -42,6 +42,8 @@ fn addresses_of_painted_blocks_are_due(rt: HostRuntime) {
     ];
     for (address, is_due) in cases {
         assert_eq!(rt; heap.is_due(address), is_due, "at {address:x}");
+        let granule = (address.wrapping_sub(0x4000_0000) / 16) as usize;
+        assert_eq!(rt; heap.is_granule_due(granule), is_due, "granule {granule}");
     }
     heap.give_back();
     assert!(rt; !heap.is_due(0x4000_0000));

@@ -2,11 +2,11 @@
 
 use super::{BASE, after, first_state, record, with_block};
 use byte_machine::{
-    CallFault, CommandRecord, WordRecord, granule, put_all, register, run_report, run_states,
-    state_length,
+    CallFault, CommandRecord, WordRecord, granule, register, run_report, run_states, state_length,
 };
 use heap_machine::Reply;
 use heap_trace::{RunFault, TraceFault};
+use trace_report::put_all;
 
 // The capability of the block of 32 bytes: its address, and its metadata as memory has it.
 const BLOCK: WordRecord = WordRecord {

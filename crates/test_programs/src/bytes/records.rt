@@ -4,7 +4,7 @@ use super::record;
 use byte_machine::{
     CommandRecord, ReplyRecord, command_of, record_of, reply_of, reply_record, why_record,
 };
-use heap_core::{Block, Claim};
+use heap_core::{Block, Obstacle};
 use heap_machine::{Reply, Shown, Trap, Why};
 use trace_text::Command;
 
@@ -142,7 +142,7 @@ fn reasons_are_told(rt: HostRuntime) {
         base: 0x4000_0100,
         top: 0x4000_0140,
     };
-    let told = why_record(Why::Refused(Claim::OverHeld(block)));
+    let told = why_record(Why::Refused(Obstacle::OverHeld(block)));
     assert_eq!(rt; (told.kind, told.claim), (5, 6));
     assert_eq!(rt;
         (told.base, told.top, told.top_high),

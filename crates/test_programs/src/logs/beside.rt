@@ -155,7 +155,7 @@ fn an_arrow_without_blanks_is_told_as_none(rt: HostRuntime) {
 
 // What is said of a faulty line that names one of these.
 const NAMES: &str =
-    " there: it begins with malloc, free, copy, setaddr, narrow, andperm, storecap, loadcap, write, show, sweep, begin, end, granule or #, or with given before all commands and granules";
+    " there: it begins with malloc, free, copy, setaddr, narrow, andperm, storecap, loadcap, write, show, sweep, begin, end, paint, visit, untag, release, granule or #, or with given before all commands and granules";
 
 const KINDS: &str = "after given stands live, waiting, painted, epoch, register or granule";
 

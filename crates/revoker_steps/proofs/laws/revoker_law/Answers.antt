@@ -1,5 +1,6 @@
 use Rattle.machine_steps.specs.Follow.{Follows}
 use Rattle.machine_steps.specs.Step.{Step}
+use Rattle.revoker_steps.proofs.CornucopiaLaws.{Step-marked}
 use Rattle.revoker_steps.proofs.EventLaws.{Runs-safe}
 use Rattle.revoker_steps.proofs.RevokerLaws.{EpochLaws}
 use Rattle.revoker_steps.proofs.StepLaws.{Step-machine, Step-one, Step-only, Step-safe, Untag-alone}
@@ -41,3 +42,6 @@ returns-clause-follows_safe c =
 pub returns-clause-follows_unused : goal.returns-clause-follows_unused
 returns-clause-follows_unused c =
     λ old events mid command reply new safe run step. c.any_placement_law.ensures.unused mid command reply new (returns-clause-follows_safe c old events mid safe run) step
+
+pub returns-clause-marked : goal.returns-clause-marked
+returns-clause-marked c = λ old command reply new dirty pages stand step. Step-marked old command reply new dirty pages stand step

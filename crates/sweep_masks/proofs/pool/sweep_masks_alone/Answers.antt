@@ -4,7 +4,7 @@ use Rattle.sweep_masks.specs.Laws.{TakeTags-masks}
 use Rattle.sweep_masks.specs.Masks.{AreMasks, TakeTags}
 use Rattle.sweep_masks.proofs.pool.sweep_masks_alone.Goals as goal
 
-pub returns-clause-held : goal.returns-clause-held
-returns-clause-held g c heap of =
+pub returns-clause-due : goal.returns-clause-due
+returns-clause-due g c heap of =
     IfOk-weaker c.sweep_pages.result (λ masks. AreMasks c.args.memory.now c.args.shadow.now masks.items) (λ masks. TakeTags c.args.memory.now (due heap) masks.items)
     (λ masks are. TakeTags-masks heap c.args.memory.now c.args.shadow.now masks.items of are) c.sweep_pages.ensures.ok

@@ -1,4 +1,4 @@
-use Rattle.std.proofs.Common.{◌≡◌, ◌<◌, ◌+◌, ◌*◌, inl, inr, subst, ℕ, false, arith}
+use Rattle.std.proofs.Common.{◌+◌, ◌*◌, inl, inr, subst, ℕ, arith}
 use Rattle.std.proofs.lemmas.Bool.{cases_lt, or_parts}
 use Rattle.sweep_masks.specs.Outside.{HasBaseOutside}
 use Rattle.sweep_masks.proofs.sweep.has_base_between.Goals as goal

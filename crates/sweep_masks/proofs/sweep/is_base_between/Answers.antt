@@ -1,4 +1,4 @@
-use Rattle.std.proofs.Common.{◌≡◌, ◌<◌, ◌≤◌, ◌-◌, ◌/◌, ◌^◌, ◌&&◌, ◌∙◌, if◌then◌else◌, suc, ℕ, false, true, get_or, nat_lt, arith, refl}
+use Rattle.std.proofs.Common.{◌≡◌, ◌<◌, ◌≤◌, ◌-◌, ◌/◌, ◌&&◌, ◌∙◌, suc, ℕ, false, true, get_or, nat_lt, arith, refl}
 use Rattle.std.proofs.Math.Dec.{leb}
 use Rattle.std.proofs.lemmas.Bool.{both_ways, le-leb}
 use Rattle.cap_codec.specs.Words.{base_of}

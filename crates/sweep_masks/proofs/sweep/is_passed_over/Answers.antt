@@ -1,4 +1,4 @@
-use Rattle.std.proofs.Common.{◌≡◌, ◌<◌, ◌-◌, ◌+◌, ◌*◌, ◌/◌, inl, inr, ℕ, Bool, List, false, get_or, true, arith}
+use Rattle.std.proofs.Common.{◌≡◌, ◌-◌, ◌+◌, ◌*◌, ◌/◌, inl, inr, ℕ, Bool, List, false, get_or}
 use Rattle.std.proofs.lemmas.Bool.{and_parts, cases_Bool, leb-true, not-true}
 use Rattle.heap_model.specs.Near.{LieBetween}
 use Rattle.sweep_masks.specs.Masks.{is_hit_at}

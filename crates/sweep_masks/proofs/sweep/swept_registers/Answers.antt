@@ -17,6 +17,6 @@ loop-r-preserved c =
           rw w.mask-is (AreBelow-kept test c.loop-r.mask c.loop-r.r before (sym c.is_register_hit.ensures ∙ w.if-is_register_hit.false))
     ]
 
-pub returns-clause-held : goal.returns-clause-held
-returns-clause-held c heap of r lt =
+pub returns-clause-due : goal.returns-clause-due
+returns-clause-due c heap of r lt =
     c.loop-r.invariant.done r (omega (arith, c.loop-r-test.false, lt)) ∙ is_hit-takes_tag heap c.args.base c.args.shadow.now (register_at c.args.registers.now r) of

@@ -1,7 +1,12 @@
 use Rattle.std.proofs.Common.{arith}
 use Rattle.trace_text.specs.Lines.{lines_of}
-use Rattle.agreed_log.proofs.AgreedLaws.{AreFew-more, HaveAgreed-more}
+use Rattle.agreed_log.proofs.AgreedLaws.{HaveAgreed-more}
+use Rattle.heap_log.specs.CountingLaws.{AreFew-more, HasRoom-few}
 use Rattle.agreed_log.proofs.judge.Judge.lines.Goals as goal
+
+pub line-requires-clause-room : goal.line-requires-clause-room
+line-requires-clause-room g c =
+    HasRoom-few c.loop-line.number c.loop-line.self.tally c.loop-line.invariant.few (omega (arith, c.loop-line.invariant.number, c.in-Some.ensures.shorter))
 
 pub loop-line-preserved : goal.loop-line-preserved
 loop-line-preserved g c =

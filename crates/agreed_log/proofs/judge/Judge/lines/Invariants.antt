@@ -2,7 +2,8 @@
 use Rattle.std.proofs.Common.{◌<◌, ◌+◌, ◌^◌, length}
 use Rattle.trace_text.specs.Lines.{lines_of}
 use Rattle.machine_steps.specs.Safety.{IsSafe}
-use Rattle.agreed_log.specs.Agreed.{AreFew, HaveAgreed}
+use Rattle.agreed_log.specs.Agreed.{HaveAgreed}
+use Rattle.heap_log.specs.Counting.{AreFew}
 use Rattle.agreed_log.proofs.judge.Judge.lines.Given as goal
 
 abbrev pub invariant-loop-line : goal.invariant-loop-line

@@ -1,5 +1,5 @@
-use Rattle.std.proofs.Common.{◌≡◌, ◌∙◌, ◌*◌, ap, length, subst, arith}
-use Rattle.heap_machine.specs.Storage.{MachineState, machine_of}
+use Rattle.std.proofs.Common.{◌≡◌, ◌*◌, ap, length, refl, arith}
+use Rattle.heap_machine.specs.Storage.{machine_of}
 use Rattle.machine_storage.specs.Storage.{state_of}
 use Rattle.machine_steps.specs.Safety.{IsUnused, LeavesInUse}
 use Rattle.machine_storage.specs.declared.storage.Storage.{Storage}
@@ -15,27 +15,27 @@ invariant_of-self g c =
     IsStorage-followed laws.safe laws.dirtied c.self.inside.storage c.follow.new.self c.args.command c.args.answer c.follow.result c.self.invariant pages
     done.fits done.followed done.dirty done.still done.base
 
-pub returns-clause-still : goal.returns-clause-still
-returns-clause-still g c = λ other.
-    ap (λ (m : Storage). machine_of m c.self.inside.cutting) (c.follow.ensures.still other) ∙ c.self.view_is
-
-pub returns-clause-safe : goal.returns-clause-safe
-returns-clause-safe g c = (invariant_of-self g c).sound.safe
-
-pub returns-clause-dirtied : goal.returns-clause-dirtied
-returns-clause-dirtied g c = (invariant_of-self g c).dirtied
-
-pub returns-clause-unused : goal.returns-clause-unused
-returns-clause-unused g c =
+pub returns : goal.returns
+returns g c =
+    let law = c.any_placement_law.ensures in
+    let done = c.follow.ensures in
     let old = state_of c.self.inside.storage in
     let new = state_of c.follow.new.self in
-    Agrees-holds (IsUnused c.args.self.now.state c.args.command c.args.answer) old new c.args.command c.args.answer c.follow.result c.follow.ensures.followed
-    (λ follows. subst (λ (m : MachineState). IsUnused m.state c.args.command c.args.answer) c.self.view_is
-    (c.any_placement_law.ensures.unused old c.args.command c.args.answer new c.self.invariant.sound.safe follows))
-
-pub returns-clause-revoked : goal.returns-clause-revoked
-returns-clause-revoked g c =
-    let old = state_of c.self.inside.storage in
-    let new = state_of c.follow.new.self in
-    Agrees-holds (LeavesInUse c.args.command c.args.answer new) old new c.args.command c.args.answer c.follow.result c.follow.ensures.followed
-    (λ follows. c.any_placement_law.ensures.revoked old c.args.command c.args.answer new c.self.invariant.sound.safe c.follow.ensures.fits follows)
+    let command = c.args.command in
+    let answer = c.args.answer in
+    let safe = c.self.invariant.sound.safe in
+    let left = invariant_of-self g c in
+    rw (← c.self.view_is) (record {
+      followed = done.followed;
+      still = λ other. ap (λ (m : Storage). machine_of m c.self.inside.cutting) (done.still other);
+      memory = done.memory;
+      ok = done.ok;
+      cutting = refl;
+      safe = left.sound.safe;
+      unused = Agrees-holds (IsUnused old command answer) old new command answer c.follow.result done.followed
+          (λ follows. law.unused old command answer new safe follows);
+      revoked = Agrees-holds (LeavesInUse command answer new) old new command answer c.follow.result done.followed
+          (λ follows. law.revoked old command answer new safe done.fits follows);
+      dirty = done.dirty;
+      dirtied = left.dirtied;
+    })

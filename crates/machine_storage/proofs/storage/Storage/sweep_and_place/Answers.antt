@@ -4,7 +4,7 @@ use Rattle.heap_model.specs.Quarantine.{without_waiting}
 use Rattle.machine_storage.specs.Storage.{state_of}
 use Rattle.machine_storage.specs.Revoked.{AreRevoked, AreApplied}
 use Rattle.machine_steps.specs.Step.{MaySweep, sweep_takes}
-use Rattle.machine_storage.proofs.WhyLaws.{claim_refused, top_fits}
+use Rattle.machine_storage.proofs.WhyLaws.{top_fits}
 use Rattle.machine_storage.proofs.SweptMalloc.{Places-swept}
 use Rattle.machine_storage.proofs.storage.Storage.sweep_and_place.Goals as goal
 
@@ -19,17 +19,17 @@ returns-then-count-cleared-clause-followed g c =
       refl,
     )
 
-pub returns-in_default : goal.returns-in_default
-returns-in_default g c =
+pub returns-in-Err : goal.returns-in-Err
+returns-in-Err g c =
     let m = c.args.self.now in
     let may : MaySweep (state_of c.args.self.now) = c.may_sweep.ensures.may c.if-not-may_sweep.false in
     let revoked : AreRevoked m.heap.waiting m.memory m.registers c.in_ok-revoked.revoked = rw (due-closed m.heap may.closed) at c.in_ok-revoked.ensures.revoked in
     let counted : c.count-count.result ≡ sweep_takes (state_of c.args.self.now) = c.count-count.ensures m.heap.waiting m.memory m.registers revoked in
-    let refused = claim_refused m.heap (without_waiting m.heap) c.args.base c.args.top c.give_back_and_claim.result c.give_back_and_claim.new.self c.in_default.not-Claimed c.give_back_and_claim.ensures.claim in
+    let refused = c.in-Err.ensures.claim in
     let same = refused.1 in
     record {
       followed = (
-        λ left follows. no_reason (without_waiting m.heap) c.args.base c.args.top c.give_back_and_claim.result follows.1.may refused.0,
+        λ left follows. no_reason (without_waiting m.heap) c.args.base c.args.top c.in-Err.obstacle follows.1.may refused.0,
         (may, omega (arith, c.least_top.ensures, c.if-top-least_top.false), sym c.if-count-cleared.false ∙ counted, refused.0),
         λ i. record { heap = same i; granules = m.memory.granules; registers = m.registers },
       );
@@ -42,7 +42,7 @@ returns-in_default g c =
 
 pub block_capability-requires-clause-room : goal.block_capability-requires-clause-room
 block_capability-requires-clause-room g c =
-    top_fits c.args.self.now.heap c.args.base c.args.top c.requires.storage.sound.safe.heap c.in-Claimed.ensures.claim.0
+    top_fits c.args.self.now.heap c.args.base c.args.top c.requires.storage.sound.safe.heap c.in-Ok.ensures.claim.0
 
 pub returns-clause-followed : goal.returns-clause-followed
 returns-clause-followed g c =
@@ -52,7 +52,7 @@ returns-clause-followed g c =
     let revoked : AreRevoked m.heap.waiting m.memory m.registers c.in_ok-revoked.revoked = rw (due-closed m.heap may.closed) at c.in_ok-revoked.ensures.revoked in
     let counted : c.count-count.result ≡ sweep_takes (state_of c.args.self.now) = c.count-count.ensures m.heap.waiting m.memory m.registers revoked in
     let done : AreApplied m.heap.waiting m.memory m.registers c.apply.new.memory c.apply.new.registers = c.apply.ensures.taken m.heap.waiting revoked in
-    let claim = c.in-Claimed.ensures.claim in (
+    let claim = c.in-Ok.ensures.claim in (
       record { may = may; cleared_is = sym c.if-count-cleared.false ∙ counted },
       Places-swept s c.args.rd c.args.size c.args.base c.args.top c.give_back_and_claim.new.self m.memory c.apply.new.memory c.apply.new.registers c.set.new.self
           refl claim.0 (omega (arith, c.least_top.ensures, c.if-top-least_top.false)) claim.1 done (rw c.block_capability.ensures.value at c.set.ensures),

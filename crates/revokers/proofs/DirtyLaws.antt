@@ -1,0 +1,81 @@
+-- Dirty pages, visited one after the other.
+use Rattle.std.proofs.Common.{◌≡◌, ◌∙◌, ◌+◌, ◌*◌, ◌^◌, ◌<◌, ◌≤◌, ◌/◌, ℕ, Bool, true, false, inl, inr, List, length, get_or, set, refl, sym, ap, subst, arith}
+use Rattle.std.specs.Prelude.{All}
+use Rattle.std.proofs.lemmas.Bool.{cases_eq, false_from_ne_true, true≢false}
+use Rattle.std.proofs.lemmas.List.{get_or-set_other, get_or-set_same, get_or_past, length-set}
+use Rattle.std.proofs.lemmas.List.Elements.{All-from_get_or, All-get_or}
+use Rattle.sweep_masks.specs.Tasks.{Cut}
+use Rattle.tag_memory.specs.Cells.{is_dirty_at}
+use Rattle.heap_machine.specs.Storage.{MachineState}
+use Rattle.machine_steps.specs.Dirty.{HasPages, IsDirtied}
+use Rattle.machine_steps.specs.State.{State}
+use Rattle.revoker_steps.specs.Tracked.{AreClean, IsDueAt}
+use Rattle.revokers.specs.Ending.{Visits}
+use Rattle.revokers.specs.Looks.{IsVisited, Looks}
+use Rattle.revokers.proofs.EndingLaws.{VisitsBelow, VisitsBelow-next, VisitsBelow-none, VisitsBelow-passed, VisitsBelow-visits}
+
+-- The dirty pages below n were visited, and are clean; the others are as they were.
+pub record CleanBelow (old : MachineState) (n cleared : ℕ) (now : MachineState) : Type 0 where
+  pub below : VisitsBelow (is_dirty_at old.dirty) old.state n cleared now.state
+  pub clean : (page : ℕ) → page < n → is_dirty_at now.dirty page ≡ false
+  pub rest : (page : ℕ) → n ≤ page → is_dirty_at now.dirty page ≡ is_dirty_at old.dirty page
+  pub marks : length now.dirty ≡ length old.dirty
+  pub cutting : now.cutting ≡ old.cutting
+
+pub CleanBelow-none : (old : MachineState) → old.state.heap.is_open ≡ true → CleanBelow old 0 0 old
+CleanBelow-none old opened = record {
+  below = VisitsBelow-none (is_dirty_at old.dirty) old.state opened;
+  clean = λ page lt. absurd (omega (arith, lt));
+  rest = λ page le. refl;
+  marks = refl;
+  cutting = refl;
+}
+
+pub CleanBelow-next : (old : MachineState) (n cleared more : ℕ) (now new : MachineState) → HasPages old.state old.dirty → n < length old.dirty → CleanBelow old n cleared now → Looks (is_dirty_at now.dirty n) n now more new
+    → new.cutting ≡ now.cutting → more < 2 ^ 32 → CleanBelow old (n + 1) (cleared + more) new
+CleanBelow-next old n cleared more now new pages lt so looks cutting few = go (is_dirty_at now.dirty n) refl looks where
+  go : (b : Bool) → is_dirty_at now.dirty n ≡ b → Looks b n now more new → CleanBelow old (n + 1) (cleared + more) new
+  go true e looks =
+      let inside : 256 * n < length old.state.granules = omega (arith, lt, pages) in
+      record {
+        below = VisitsBelow-next (is_dirty_at old.dirty) old.state n cleared more now.state looks.reply new.state so.below (sym (so.rest n (omega arith)) ∙ e) inside looks.step looks.count few;
+        clean = λ page below. ap (λ (marks : List Bool). get_or marks page false) looks.dirty ∙ (elim (cases_eq page n) [
+          | inl same ↦ ap (λ k. get_or (set now.dirty n false) k false) same ∙ get_or-set_same now.dirty n false false (omega (arith, lt, so.marks))
+          | inr other ↦ get_or-set_other now.dirty n page false false other ∙ so.clean page (omega (arith, below, other))
+        ]);
+        rest = λ page above. ap (λ (marks : List Bool). get_or marks page false) looks.dirty ∙ get_or-set_other now.dirty n page false false (λ same. absurd (omega (arith, above, same))) ∙ so.rest page (omega (arith, above));
+        marks = ap (λ (marks : List Bool). length marks) looks.dirty ∙ length-set now.dirty n false ∙ so.marks;
+        cutting = cutting ∙ so.cutting;
+      }
+  go false e looks =
+      let same : new ≡ now = looks.1 in
+      let sums : cleared ≡ cleared + more = omega (arith, looks.0) in
+      subst (λ (m : MachineState). CleanBelow old (n + 1) (cleared + more) m) (sym same) (subst (λ (k : ℕ). CleanBelow old (n + 1) k now) sums (record {
+        below = VisitsBelow-passed (is_dirty_at old.dirty) old.state n cleared now.state so.below (sym (so.rest n (omega arith)) ∙ e);
+        clean = λ page below. elim (cases_eq page n) [
+          | inl same ↦ ap (λ k. get_or now.dirty k false) same ∙ e
+          | inr other ↦ so.clean page (omega (arith, below, other))
+        ];
+        rest = λ page above. so.rest page (omega (arith, above));
+        marks = so.marks;
+        cutting = so.cutting;
+      }))
+
+pub CleanBelow-visits : (old : MachineState) (n cleared : ℕ) (now : MachineState) → n ≡ length old.dirty → CleanBelow old n cleared now → Visits (is_dirty_at old.dirty) old.state cleared now.state
+CleanBelow-visits old n cleared now count so =
+    VisitsBelow-visits (is_dirty_at old.dirty) old.state n cleared now.state so.below (λ page le. get_or_past old.dirty page false (omega (arith, le, count)))
+
+pub CleanBelow-clean : (old : MachineState) (n cleared : ℕ) (now : MachineState) → n ≡ length old.dirty → CleanBelow old n cleared now → AreClean now.dirty
+CleanBelow-clean old n cleared now count so = All-from_get_or (λ b. b ≡ false) now.dirty false (λ page lt. so.clean page (omega (arith, lt, so.marks, count)))
+
+-- ---- what is due
+
+-- The granule is on a dirty page.
+abbrev pub on_dirty : List Bool → ℕ → Bool
+on_dirty dirty i = is_dirty_at dirty (i / 256)
+
+pub IsDueAt-dirty : (s : State) (dirty : List Bool) → IsDirtied s dirty → IsDueAt s (on_dirty dirty)
+IsDueAt-dirty s dirty stand i taken = stand i taken
+
+pub clean-none_due : (s : State) (dirty : List Bool) → HasPages s dirty → AreClean dirty → (i : ℕ) → i < length s.granules → on_dirty dirty i ≡ false
+clean-none_due s dirty pages clean i lt = All-get_or (λ b. b ≡ false) dirty (i / 256) false (omega (arith, lt, pages)) clean

@@ -1,0 +1,5 @@
+pub mod DirtyLaws
+pub mod EndingLaws
+pub mod ListLaws
+pub mod LoadLaws
+pub mod SeenLaws

@@ -1,0 +1,13 @@
+use Rattle.std.proofs.Common.{◌≡◌, ◌*◌, ◌<◌, ap, arith, length}
+use Rattle.machine_steps.specs.Dirty.{HasPages}
+use Rattle.revokers.proofs.DirtyLaws.{CleanBelow-clean, CleanBelow-next, CleanBelow-visits}
+use Rattle.revokers.proofs.cornucopia.visit_dirty.Goals as goal
+
+pub loop-page-preserved : goal.loop-page-preserved
+loop-page-preserved c =
+    let old = c.args.machine.now in
+    let memory = c.invariant.ensures in
+    let pages : HasPages old.state old.dirty = omega (arith, memory.count, memory.dirty_marks, ap length c.memory.ensures.granules, ap length c.memory.ensures.dirty) in
+    let inside : c.loop-page.page < length old.dirty = omega (arith, pages, c.loop-page-test.true, c.pages-page-end.ensures, ap length c.memory-2.ensures.granules) in
+    CleanBelow-next old c.loop-page.page c.loop-page.cleared c.visit_if_dirty-cleared.result c.loop-page.machine c.visit_if_dirty-cleared.new.machine pages inside
+    c.loop-page.invariant c.visit_if_dirty-cleared.ensures.looks c.visit_if_dirty-cleared.ensures.cutting c.visit_if_dirty-cleared.ensures.few

@@ -1,0 +1,5 @@
+use Rattle.revokers.proofs.DirtyLaws.{CleanBelow}
+use Rattle.revokers.proofs.cornucopia.visit_dirty.Given as goal
+
+abbrev pub invariant-loop-page : goal.invariant-loop-page
+invariant-loop-page l = CleanBelow l.fn.machine l.page l.cleared l.machine

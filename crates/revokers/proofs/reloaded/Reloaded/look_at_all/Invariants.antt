@@ -1,0 +1,5 @@
+use Rattle.revokers.proofs.SeenLaws.{SeenBelow}
+use Rattle.revokers.proofs.reloaded.Reloaded.look_at_all.Given as goal
+
+abbrev pub invariant-loop-page : goal.invariant-loop-page
+invariant-loop-page l = SeenBelow l.fn.self l.page l.cleared l.self

@@ -1,0 +1,6 @@
+pub mod Ending
+pub mod Loading
+pub mod Looks
+pub mod Reloaded
+pub mod Replies
+pub mod Seen

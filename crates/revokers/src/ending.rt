@@ -1,0 +1,85 @@
+//! How an epoch ends: registers lose their tags, and the painted blocks are released.
+
+ghost use Rattle.std.specs.Prelude.{◌≡◌, ◌<◌, ◌≤◌, ◌*◌, ◌^◌, true};
+ghost use Rattle.tag_memory.specs.Cells.{register_count};
+ghost use Rattle.machine_steps.specs.Safety.{IsSafe};
+ghost use Rattle.revoker_steps.specs.declared.command.RevokerCommand.TheVariants.{Release, UntagRegister};
+ghost use Rattle.revoker_steps.specs.declared.command.RevokerReply.{RevokerReply as TheRevokerReply};
+ghost use Rattle.revoker_steps.specs.declared.command.RevokerReply.TheVariants.{Released};
+ghost use Rattle.revoker_steps.specs.Events.{cleared_by};
+ghost use Rattle.revoker_steps.specs.Revoker.{RevokerStep};
+ghost use Rattle.revokers.specs.Ending.{HasUntagged, MayRelease, Untags};
+ghost use Rattle.revokers.specs.Replies.{released_by};
+
+use heap_machine::{Machine, RevokerCommand, RevokerReply};
+use revoker_steps::revoker_law;
+use tag_memory::REGISTERS;
+
+/// What the end of an epoch came to.
+#[derive(Clone, Copy, Debug, PartialEq, Eq)]
+pub struct Finished {
+    /// How many tags it took.
+    pub cleared: u64,
+    /// How many bytes are free again.
+    pub bytes: u64,
+}
+
+// How many tags a reply says were taken.
+pub(crate) fn cleared_of(reply: RevokerReply) -> u64
+    ensures value { result ≡ cleared_by reply }
+    ensures few { result < 2 ^ 32 }
+{
+    match reply {
+        RevokerReply::Cleared { cleared } => u64::from(cleared),
+        _ => 0,
+    }
+}
+
+// How many bytes it says are free again.
+fn released_of(reply: RevokerReply) -> u64
+    ensures { result ≡ released_by reply }
+{
+    match reply {
+        RevokerReply::Released { bytes } => bytes,
+        _ => 0,
+    }
+}
+
+// Takes the tag of a register, if its word's base lies in a painted block; answers how many tags that are.
+fn untag_register(machine: &mut Machine, register: u8) -> u64
+    requires register { register < register_count }
+    ensures step { (reply : TheRevokerReply) × RevokerStep machine.old.state (UntagRegister register) reply machine.new.state × (result ≡ cleared_by reply) }
+    ensures dirty { machine.new.dirty ≡ machine.old.dirty }
+    ensures cutting { machine.new.cutting ≡ machine.old.cutting }
+    ensures few { result < 2 ^ 32 }
+{
+    cleared_of(machine.revoke(RevokerCommand::UntagRegister { register }))
+}
+
+// Takes those of all registers.
+pub(crate) fn untag_registers(machine: &mut Machine) -> u64
+    requires { machine.old.state.heap.is_open ≡ true }
+    ensures untags { Untags machine.old.state result machine.new.state }
+    ensures untagged { HasUntagged machine.new.state }
+    ensures open { machine.new.state.heap.is_open ≡ true }
+    ensures dirty { machine.new.dirty ≡ machine.old.dirty }
+    ensures cutting { machine.new.cutting ≡ machine.old.cutting }
+    ensures few { result ≤ 32 * 2 ^ 32 }
+{
+    machine.invariant();
+    let mut cleared = 0;
+    for register in 0..REGISTERS {
+        cleared += untag_register(machine, register);
+    }
+    cleared
+}
+
+// Frees the painted blocks, into which no tagged word points any more; answers how many bytes.
+pub(crate) fn release(machine: &mut Machine) -> u64
+    requires { MayRelease machine.old.state }
+    ensures step { RevokerStep machine.old.state Release (Released result) machine.new.state }
+    ensures cutting { machine.new.cutting ≡ machine.old.cutting }
+{
+    revoker_law();
+    released_of(machine.revoke(RevokerCommand::Release))
+}

@@ -1,5 +1,0 @@
-use Rattle.mark_board.specs.Board.{IsOf}
-use Rattle.speed_board.proofs.sum_of_marks.Given as goal
-
-abbrev pub invariant-loop-k : goal.invariant-loop-k
-invariant-loop-k l = IsOf l.board l.seat
