@@ -3,7 +3,7 @@ use Rattle.std.proofs.Common.{◌≡◌, ◌∙◌, ◌+◌, ◌*◌, ◌^◌, �
 use Rattle.std.specs.Prelude.{nat_lt, slice_set}
 use Rattle.std.proofs.lemmas.Bool.{cases_eq, cases_lt, true≢false}
 use Rattle.std.proofs.lemmas.Bool.Decides.{nat_tests}
-use Rattle.std.proofs.lemmas.List.{get_or-set_other, get_or-set_same, get_or_past, length-set}
+use Rattle.std.proofs.lemmas.List.{append-nil, append_assoc, get_or-set_other, get_or-set_same, get_or_past, length-set}
 use Rattle.std.proofs.lemmas.List.Elements.{All-from_get_or}
 use Rattle.heap_model.specs.Blocks.{Span}
 use Rattle.heap_model.specs.Sweep.{is_revoked, swept_cell, swept_granule, takes_tag}
@@ -23,9 +23,11 @@ use Rattle.revoker_steps.specs.Events.Event.{Revoked}
 use Rattle.revoker_steps.specs.Revoker.{RevokerStep, RevokerStepAfter, after_untag, after_untag_registers, first_failed_check, is_in_page, is_register, revoker_checks}
 use Rattle.revoker_steps.specs.RevokerDirty.{revoker_dirty_after, revoker_dirty_by}
 use Rattle.revoker_steps.specs.Tracked.{AreClean}
-use Rattle.revokers.specs.Ending.{Finishes, HasUntagged, Untags, Visits}
+use Rattle.revokers.specs.Acts.{untag_acts, visit_acts}
+use Rattle.revokers.specs.declared.acts.Act.{Act}
+use Rattle.revokers.specs.Ending.{Finishes, HasUntagged, IsUntagged, Untags, Visits}
 use Rattle.revokers.specs.Looks.{IsVisited, Looks}
-use Rattle.revokers.proofs.ListLaws.{Runs-append, Among-last, Among-still, Among-which, cleared-push, untags-push, visits-push}
+use Rattle.revokers.proofs.ListLaws.{Runs-append, Among-last, Among-still, Among-which, cleared-push, told-push, untag_acts-push, untags-push, visit_acts-push, visits-push}
 
 -- ---- one step in an open epoch
 
@@ -50,7 +52,7 @@ Visit-cleans s page dirty opened inside = ap (λ (t : Option RevokerTrap). revok
 -- ---- registers
 
 -- The registers below n have lost their tags, which took so many.
-pub record UntagsBelow (old : MachineState) (n cleared : ℕ) (now : MachineState) : Type 0 where
+pub record UntagsBelow (old : MachineState) (before : List Act) (n cleared : ℕ) (now : MachineState) (after : List Act) : Type 0 where
   pub registers : List (ℕ × RevokerReply)
   pub steps : Runs Step old.state (register_untags registers) now.state
   pub all : (r : ℕ) → r < n → IsAmong registers r
@@ -61,6 +63,7 @@ pub record UntagsBelow (old : MachineState) (n cleared : ℕ) (now : MachineStat
   pub is_open : now.state.heap.is_open ≡ true
   pub dirty : now.dirty ≡ old.dirty
   pub cutting : now.cutting ≡ old.cutting
+  pub told : after ≡ before ++ untag_acts registers
 
 spared : (held : List Span) (c : Cell) → takes_tag held (swept_cell held c) ≡ false
 spared held c = none c.1 (is_revoked held c.0) where
@@ -89,10 +92,12 @@ untagged-below s n below r lt =
       | inr other ↦ stays s.heap.painted (is_register n r) (get_or s.registers r null_cell) (below r (omega (arith, lt, other)))
     ])
 
-pub UntagsBelow-next : (old : MachineState) (n cleared : ℕ) (now : MachineState) (reply : RevokerReply) (new : MachineState) → UntagsBelow old n cleared now
-    → RevokerStep now.state (UntagRegister n) reply new.state → new.dirty ≡ now.dirty → new.cutting ≡ now.cutting → cleared_by reply < 2 ^ 32
-    → UntagsBelow old (n + 1) (cleared + cleared_by reply) new
-UntagsBelow-next old n cleared now reply new below step dirty cutting few =
+pub UntagsBelow-next : (old : MachineState) (before : List Act) (n cleared more : ℕ) (now : MachineState) (told : List Act) (new : MachineState) (after : List Act) → UntagsBelow old before n cleared now told
+    → IsUntagged n now.state told more new.state after → new.dirty ≡ now.dirty → new.cutting ≡ now.cutting → more < 2 ^ 32
+    → UntagsBelow old before (n + 1) (cleared + more) new after
+UntagsBelow-next old before n cleared more now told new after below done dirty cutting few =
+    let reply = done.reply in
+    let step = done.step in
     let is = Register-leaves now.state n reply new.state below.is_open step in
     let them : List (ℕ × RevokerReply) = below.registers ++ (n, reply) ∷ [] in
     record {
@@ -102,25 +107,27 @@ UntagsBelow-next old n cleared now reply new below step dirty cutting few =
         | inl same ↦ subst (IsAmong them) (sym same) (Among-last below.registers (n, reply))
         | inr other ↦ Among-still below.registers (n, reply) r (below.all r (omega (arith, lt, other)))
       ];
-      count = omega (arith, below.count, cleared-push below.registers (n, reply));
+      count = omega (arith, below.count, done.count, cleared-push below.registers (n, reply));
       few = omega (arith, below.few, few);
       untagged = subst (λ (s : State). (r : ℕ) → r < n + 1 → takes_tag s.heap.painted (get_or s.registers r null_cell) ≡ false) (sym is) (untagged-below now.state n below.untagged);
       length_is = ap (λ (s : State). length s.registers) is ∙ length-changed (swept_cell now.state.heap.painted) (is_register n) now.state.registers ∙ below.length_is;
       is_open = ap (λ (s : State). s.heap.is_open) is ∙ below.is_open;
       dirty = dirty ∙ below.dirty;
       cutting = cutting ∙ below.cutting;
+      told = told-push before told after (untag_acts below.registers) (untag_acts them) (record { command = UntagRegister n; reply = reply }) below.told done.told (untag_acts-push below.registers n reply);
     }
 
-pub UntagsBelow-untags : (old : MachineState) (cleared : ℕ) (now : MachineState) → UntagsBelow old 32 cleared now → Untags old.state cleared now.state
-UntagsBelow-untags old cleared now below = record {
+pub UntagsBelow-untags : (old : MachineState) (before : List Act) (cleared : ℕ) (now : MachineState) (after : List Act) → UntagsBelow old before 32 cleared now after → Untags old.state before cleared now.state after
+UntagsBelow-untags old before cleared now after below = record {
   registers = below.registers;
   steps = below.steps;
   all = below.all;
   count = below.count;
+  told = below.told;
 }
 
-pub UntagsBelow-untagged : (old : MachineState) (cleared : ℕ) (now : MachineState) → length old.state.registers ≡ 32 → UntagsBelow old 32 cleared now → HasUntagged now.state
-UntagsBelow-untagged old cleared now count below r =
+pub UntagsBelow-untagged : (old : MachineState) (before : List Act) (cleared : ℕ) (now : MachineState) (after : List Act) → length old.state.registers ≡ 32 → UntagsBelow old before 32 cleared now after → HasUntagged now.state
+UntagsBelow-untagged old before cleared now after count below r =
     elim (cases_lt r 32) [
       | inl lt ↦ below.untagged r lt
       | inr past ↦ ap (takes_tag now.state.heap.painted) (get_or_past now.state.registers r null_cell (omega (arith, past, below.length_is, count)))
@@ -129,7 +136,7 @@ UntagsBelow-untagged old cleared now count below r =
 -- ---- pages
 
 -- The pages below n that pass the test were visited, and no others, which took so many tags.
-pub record VisitsBelow (test : ℕ → Bool) (old : State) (n cleared : ℕ) (now : State) : Type 0 where
+pub record VisitsBelow (test : ℕ → Bool) (old : State) (before : List Act) (n cleared : ℕ) (now : State) (after : List Act) : Type 0 where
   pub pages : List (ℕ × RevokerReply)
   pub steps : Runs Step old (visits pages) now
   pub all : (page : ℕ) → page < n → test page ≡ true → IsAmong pages page
@@ -138,9 +145,10 @@ pub record VisitsBelow (test : ℕ → Bool) (old : State) (n cleared : ℕ) (no
   pub few : cleared ≤ n * 2 ^ 32
   pub granules : length now.granules ≡ length old.granules
   pub is_open : now.heap.is_open ≡ true
+  pub told : after ≡ before ++ visit_acts pages
 
-pub VisitsBelow-none : (test : ℕ → Bool) (old : State) → old.heap.is_open ≡ true → VisitsBelow test old 0 0 old
-VisitsBelow-none test old opened = record {
+pub VisitsBelow-none : (test : ℕ → Bool) (old : State) (before : List Act) → old.heap.is_open ≡ true → VisitsBelow test old before 0 0 old before
+VisitsBelow-none test old before opened = record {
   pages = [];
   steps = refl;
   all = λ page lt. absurd (omega (arith, lt));
@@ -149,11 +157,13 @@ VisitsBelow-none test old opened = record {
   few = omega arith;
   granules = refl;
   is_open = opened;
+  told = sym (append-nil before);
 }
 
-pub VisitsBelow-next : (test : ℕ → Bool) (old : State) (n cleared more : ℕ) (now : State) (reply : RevokerReply) (new : State) → VisitsBelow test old n cleared now
-    → test n ≡ true → 256 * n < length old.granules → RevokerStep now (Visit n) reply new → more ≡ cleared_by reply → more < 2 ^ 32 → VisitsBelow test old (n + 1) (cleared + more) new
-VisitsBelow-next test old n cleared more now reply new below passes inside step counted few =
+pub VisitsBelow-next : (test : ℕ → Bool) (old : State) (before : List Act) (n cleared more : ℕ) (now : State) (told : List Act) (reply : RevokerReply) (new : State) (after : List Act) → VisitsBelow test old before n cleared now told
+    → test n ≡ true → 256 * n < length old.granules → RevokerStep now (Visit n) reply new → more ≡ cleared_by reply → more < 2 ^ 32
+    → after ≡ told ++ record { command = Visit n; reply = reply } ∷ [] → VisitsBelow test old before (n + 1) (cleared + more) new after
+VisitsBelow-next test old before n cleared more now told reply new after below passes inside step counted few tells =
     let is = Visit-leaves now n reply new below.is_open (omega (arith, inside, below.granules)) step in
     let them : List (ℕ × RevokerReply) = below.pages ++ (n, reply) ∷ [] in
     record {
@@ -171,10 +181,12 @@ VisitsBelow-next test old n cleared more now reply new below passes inside step 
       few = omega (arith, below.few, few);
       granules = ap (λ (s : State). length s.granules) is ∙ length-changed (swept_granule now.heap.painted) (is_in_page n) now.granules ∙ below.granules;
       is_open = ap (λ (s : State). s.heap.is_open) is ∙ below.is_open;
+      told = told-push before told after (visit_acts below.pages) (visit_acts them) (record { command = Visit n; reply = reply }) below.told tells (visit_acts-push below.pages n reply);
     }
 
-pub VisitsBelow-passed : (test : ℕ → Bool) (old : State) (n cleared : ℕ) (now : State) → VisitsBelow test old n cleared now → test n ≡ false → VisitsBelow test old (n + 1) cleared now
-VisitsBelow-passed test old n cleared now below fails = record {
+pub VisitsBelow-passed : (test : ℕ → Bool) (old : State) (before : List Act) (n cleared : ℕ) (now : State) (after : List Act) → VisitsBelow test old before n cleared now after → test n ≡ false
+    → VisitsBelow test old before (n + 1) cleared now after
+VisitsBelow-passed test old before n cleared now after below fails = record {
   pages = below.pages;
   steps = below.steps;
   all = λ page lt tested. elim (cases_eq page n) [
@@ -186,10 +198,12 @@ VisitsBelow-passed test old n cleared now below fails = record {
   few = omega (arith, below.few);
   granules = below.granules;
   is_open = below.is_open;
+  told = below.told;
 }
 
-pub VisitsBelow-visits : (test : ℕ → Bool) (old : State) (n cleared : ℕ) (now : State) → VisitsBelow test old n cleared now → ((page : ℕ) → n ≤ page → test page ≡ false) → Visits test old cleared now
-VisitsBelow-visits test old n cleared now below past = record {
+pub VisitsBelow-visits : (test : ℕ → Bool) (old : State) (before : List Act) (n cleared : ℕ) (now : State) (after : List Act) → VisitsBelow test old before n cleared now after → ((page : ℕ) → n ≤ page → test page ≡ false)
+    → Visits test old before cleared now after
+VisitsBelow-visits test old before n cleared now after below past = record {
   pages = below.pages;
   steps = below.steps;
   all = λ page tested. elim (cases_lt page n) [
@@ -198,13 +212,16 @@ VisitsBelow-visits test old n cleared now below past = record {
   ];
   only = below.only;
   count = below.count;
+  told = below.told;
 }
 
 -- ---- the whole
 
-pub finishes : (test : ℕ → Bool) (old visited untagged new : State) (in_memory in_registers bytes : ℕ) → Visits test old in_memory visited → Untags visited in_registers untagged
-    → RevokerStep untagged Release (Released bytes) new → Finishes test old (record { cleared = in_memory + in_registers; bytes = bytes }) new
-finishes test old visited untagged new in_memory in_registers bytes first then step =
+pub finishes : (test : ℕ → Bool) (old visited untagged new : State) (in_memory in_registers bytes : ℕ) (before one two after : List Act) → Visits test old before in_memory visited one → Untags visited one in_registers untagged two
+    → RevokerStep untagged Release (Released bytes) new → after ≡ two ++ record { command = Release; reply = Released bytes } ∷ []
+    → Finishes test old before (record { cleared = in_memory + in_registers; bytes = bytes }) new after
+finishes test old visited untagged new in_memory in_registers bytes before one two after first then step tells =
+    let act : Act = record { command = Release; reply = Released bytes } in
     let last : List Event = Revoked Release (Released bytes) ∷ [] in
     record {
       pages = first.pages;
@@ -215,4 +232,6 @@ finishes test old visited untagged new in_memory in_registers bytes first then s
       only_pages = first.only;
       all_registers = then.all;
       cleared = omega (arith, first.count, then.count);
+      told = tells ∙ ap (λ (acts : List Act). acts ++ act ∷ []) (then.told ∙ ap (λ (acts : List Act). acts ++ untag_acts then.registers) first.told)
+      ∙ append_assoc (before ++ visit_acts first.pages) (untag_acts then.registers) (act ∷ []) ∙ append_assoc before (visit_acts first.pages) (untag_acts then.registers ++ act ∷ []);
     }

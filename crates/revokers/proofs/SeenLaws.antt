@@ -4,7 +4,7 @@ use Rattle.std.specs.Prelude.{All, nat_lt}
 use Rattle.std.proofs.Math.Bool.{and-false}
 use Rattle.std.proofs.lemmas.Bool.{cases_eq, cases_lt, true≢false}
 use Rattle.std.proofs.lemmas.Bool.Decides.{nat_tests}
-use Rattle.std.proofs.lemmas.List.{get_or-set_other, get_or-set_same, get_or_past, length-replicate, length-set}
+use Rattle.std.proofs.lemmas.List.{append_assoc, get_or-set_other, get_or-set_same, get_or_past, length-replicate, length-set}
 use Rattle.std.proofs.lemmas.List.Elements.{All-from_get_or}
 use Rattle.heap_model.specs.Sweep.{swept_granule}
 use Rattle.sweep_masks.specs.Tasks.{Cut}
@@ -28,6 +28,8 @@ use Rattle.revoker_steps.specs.Events.{CoverRegisters, Event, Runs, cleared_by, 
 use Rattle.revoker_steps.specs.Events.Event.{Revoked}
 use Rattle.revoker_steps.specs.Revoker.{RevokerStep, RevokerStepAfter, after_untag, first_failed_check, is_in_page, revoker_checks, untag_takes}
 use Rattle.revoker_steps.specs.RevokerDirty.{revoker_dirty_after}
+use Rattle.revokers.specs.Acts.{visit_acts}
+use Rattle.revokers.specs.declared.acts.Act.{Act}
 use Rattle.revokers.specs.declared.ending.Finished.{Finished}
 use Rattle.revokers.specs.Ending.{Untags, Visits}
 use Rattle.revokers.specs.Reloaded.{FinishesSeen, IsEpoch, IsLooked, IsReloaded, ReloadedState, is_unseen, seen_by}
@@ -140,17 +142,17 @@ IsReloaded-done kept s dirty seen is_started command reply new left is safe fits
 -- ---- all pages
 
 -- The pages below n that weren't seen were visited, and are seen; the others are as they were.
-pub record SeenBelow (old : ReloadedState) (n cleared : ℕ) (now : ReloadedState) : Type 0 where
-  pub below : VisitsBelow (is_unseen old.seen) old.machine.state n cleared now.machine.state
+pub record SeenBelow (old : ReloadedState) (before : List Act) (n cleared : ℕ) (now : ReloadedState) (after : List Act) : Type 0 where
+  pub below : VisitsBelow (is_unseen old.seen) old.machine.state before n cleared now.machine.state after
   pub done : (page : ℕ) → page < n → is_seen now.seen page ≡ true
   pub rest : (page : ℕ) → n ≤ page → is_seen now.seen page ≡ is_seen old.seen page
   pub marks : length now.seen ≡ length old.seen
   pub started : now.is_started ≡ true
   pub cutting : now.machine.cutting ≡ old.machine.cutting
 
-pub SeenBelow-none : (old : ReloadedState) → old.is_started ≡ true → old.machine.state.heap.is_open ≡ true → SeenBelow old 0 0 old
-SeenBelow-none old started opened = record {
-  below = VisitsBelow-none (is_unseen old.seen) old.machine.state opened;
+pub SeenBelow-none : (old : ReloadedState) (before : List Act) → old.is_started ≡ true → old.machine.state.heap.is_open ≡ true → SeenBelow old before 0 0 old before
+SeenBelow-none old before started opened = record {
+  below = VisitsBelow-none (is_unseen old.seen) old.machine.state before opened;
   done = λ page lt. absurd (omega (arith, lt));
   rest = λ page le. refl;
   marks = refl;
@@ -166,15 +168,16 @@ unseen-is seen n lt e =
 unseen-not : (seen : List Bool) (n : ℕ) → is_seen seen n ≡ true → is_unseen seen n ≡ false
 unseen-not seen n e = ap (λ b. nat_lt n (length seen) && not b) e ∙ and-false (nat_lt n (length seen))
 
-pub SeenBelow-next : (old : ReloadedState) (n cleared more : ℕ) (now new : ReloadedState) → HasPages old.machine.state old.seen → n < length old.seen → SeenBelow old n cleared now
-    → LooksAt (is_seen now.seen n) n now more new → more < 2 ^ 32 → SeenBelow old (n + 1) (cleared + more) new
-SeenBelow-next old n cleared more now new pages lt so looks few = go (is_seen now.seen n) refl looks where
-  go : (b : Bool) → is_seen now.seen n ≡ b → LooksAt b n now more new → SeenBelow old (n + 1) (cleared + more) new
-  go false e looks =
+pub SeenBelow-next : (old : ReloadedState) (before : List Act) (n cleared more : ℕ) (now : ReloadedState) (told : List Act) (new : ReloadedState) (after : List Act) → HasPages old.machine.state old.seen → n < length old.seen
+    → SeenBelow old before n cleared now told → LooksAt (is_seen now.seen n) n now told more new after → more < 2 ^ 32 → SeenBelow old before (n + 1) (cleared + more) new after
+SeenBelow-next old before n cleared more now told new after pages lt so both few = go (is_seen now.seen n) refl both where
+  go : (b : Bool) → is_seen now.seen n ≡ b → LooksAt b n now told more new after → SeenBelow old before (n + 1) (cleared + more) new after
+  go false e both =
+      let looks = both.0 in
       let inside : 256 * n < length old.machine.state.granules = omega (arith, lt, pages) in
       let was : is_unseen old.seen n ≡ true = unseen-is old.seen n lt (sym (so.rest n (omega arith)) ∙ e) in
       record {
-        below = VisitsBelow-next (is_unseen old.seen) old.machine.state n cleared more now.machine.state (Cleared more) new.machine.state so.below was inside looks.step refl few;
+        below = VisitsBelow-next (is_unseen old.seen) old.machine.state before n cleared more now.machine.state told (Cleared more) new.machine.state after so.below was inside looks.step refl few both.1;
         done = λ page below. ap (λ (marks : List Bool). get_or marks page false) looks.seen ∙ (elim (cases_eq page n) [
           | inl same ↦ ap (λ k. get_or (set now.seen n true) k false) same ∙ get_or-set_same now.seen n true false (omega (arith, lt, so.marks))
           | inr other ↦ get_or-set_other now.seen n page true false other ∙ so.done page (omega (arith, below, other))
@@ -186,8 +189,9 @@ SeenBelow-next old n cleared more now new pages lt so looks few = go (is_seen no
       }
   go true e looks =
       let sums : cleared ≡ cleared + more = omega (arith, looks.0) in
-      subst (λ (m : ReloadedState). SeenBelow old (n + 1) (cleared + more) m) (sym looks.1) (subst (λ (k : ℕ). SeenBelow old (n + 1) k now) sums (record {
-        below = VisitsBelow-passed (is_unseen old.seen) old.machine.state n cleared now.machine.state so.below (unseen-not old.seen n (sym (so.rest n (omega arith)) ∙ e));
+      subst (λ (acts : List Act). SeenBelow old before (n + 1) (cleared + more) new acts) (sym looks.2)
+      (subst (λ (m : ReloadedState). SeenBelow old before (n + 1) (cleared + more) m told) (sym looks.1) (subst (λ (k : ℕ). SeenBelow old before (n + 1) k now told) sums (record {
+        below = VisitsBelow-passed (is_unseen old.seen) old.machine.state before n cleared now.machine.state told so.below (unseen-not old.seen n (sym (so.rest n (omega arith)) ∙ e));
         done = λ page below. elim (cases_eq page n) [
           | inl same ↦ ap (λ k. get_or now.seen k false) same ∙ e
           | inr other ↦ so.done page (omega (arith, below, other))
@@ -196,21 +200,23 @@ SeenBelow-next old n cleared more now new pages lt so looks few = go (is_seen no
         marks = so.marks;
         started = so.started;
         cutting = so.cutting;
-      }))
+      })))
 
-pub SeenBelow-visits : (old : ReloadedState) (n cleared : ℕ) (now : ReloadedState) → n ≡ length old.seen → SeenBelow old n cleared now → Visits (is_unseen old.seen) old.machine.state cleared now.machine.state
-SeenBelow-visits old n cleared now count so =
-    VisitsBelow-visits (is_unseen old.seen) old.machine.state n cleared now.machine.state so.below
+pub SeenBelow-visits : (old : ReloadedState) (before : List Act) (n cleared : ℕ) (now : ReloadedState) (after : List Act) → n ≡ length old.seen → SeenBelow old before n cleared now after
+    → Visits (is_unseen old.seen) old.machine.state before cleared now.machine.state after
+SeenBelow-visits old before n cleared now after count so =
+    VisitsBelow-visits (is_unseen old.seen) old.machine.state before n cleared now.machine.state after so.below
     (λ page le. let out : nat_lt page (length old.seen) ≡ false = grind (arith, nat_tests, le, count) in ap (λ b. b && not (is_seen old.seen page)) out)
 
-pub SeenBelow-seen : (old : ReloadedState) (n cleared : ℕ) (now : ReloadedState) → n ≡ length old.seen → SeenBelow old n cleared now → AreSeen now.seen
-SeenBelow-seen old n cleared now count so = All-from_get_or (λ b. b ≡ true) now.seen false (λ page lt. so.done page (omega (arith, lt, so.marks, count)))
+pub SeenBelow-seen : (old : ReloadedState) (before : List Act) (n cleared : ℕ) (now : ReloadedState) (after : List Act) → n ≡ length old.seen → SeenBelow old before n cleared now after → AreSeen now.seen
+SeenBelow-seen old before n cleared now after count so = All-from_get_or (λ b. b ≡ true) now.seen false (λ page lt. so.done page (omega (arith, lt, so.marks, count)))
 
 -- ---- the whole
 
-pub finishes_seen : (seen : List Bool) (old visited new : State) (cleared bytes : ℕ) → Visits (is_unseen seen) old cleared visited → RevokerStep visited Release (Released bytes) new
-    → FinishesSeen seen old (record { cleared = cleared; bytes = bytes }) new
-finishes_seen seen old visited new cleared bytes first step =
+pub finishes_seen : (seen : List Bool) (old visited new : State) (cleared bytes : ℕ) (before one after : List Act) → Visits (is_unseen seen) old before cleared visited one → RevokerStep visited Release (Released bytes) new
+    → after ≡ one ++ record { command = Release; reply = Released bytes } ∷ [] → FinishesSeen seen old before (record { cleared = cleared; bytes = bytes }) new after
+finishes_seen seen old visited new cleared bytes before one after first step tells =
+    let act : Act = record { command = Release; reply = Released bytes } in
     let last : List Event = Revoked Release (Released bytes) ∷ [] in
     record {
       pages = first.pages;
@@ -218,6 +224,7 @@ finishes_seen seen old visited new cleared bytes first step =
       all_pages = first.all;
       only_pages = first.only;
       cleared = first.count;
+      told = tells ∙ ap (λ (acts : List Act). acts ++ act ∷ []) first.told ∙ append_assoc before (visit_acts first.pages) (act ∷ []);
     }
 
 -- ---- parts of the code
@@ -225,8 +232,9 @@ finishes_seen seen old visited new cleared bytes first step =
 -- After the paint and the untags an epoch has started.
 pub start-after : ((s mid : State) (reply : RevokerReply) (registers : List (ℕ × RevokerReply)) (new : State) → CoverRegisters s registers → s.heap.is_open ≡ false → RevokerStep s Paint reply mid
     → Runs Follows mid (register_untags registers) new → new ≡ after_start s)
-    → (s mid : State) (reply : RevokerReply) (cleared : ℕ) (new : State) → length s.registers ≡ 32 → s.heap.is_open ≡ false → RevokerStep s Paint reply mid → Untags mid cleared new → new ≡ after_start s
-start-after law s mid reply cleared new count closed step untags =
+    → (s mid : State) (reply : RevokerReply) (before : List Act) (cleared : ℕ) (new : State) (after : List Act) → length s.registers ≡ 32 → s.heap.is_open ≡ false → RevokerStep s Paint reply mid → Untags mid before cleared new after
+    → new ≡ after_start s
+start-after law s mid reply before cleared new after count closed step untags =
     law s mid reply untags.registers new (λ r lt. untags.all r (omega (arith, lt, count))) closed step (untags-follow mid new untags.registers untags.steps)
 
 -- A visit that was made in an open epoch, as `visit` says it.

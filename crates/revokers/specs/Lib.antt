@@ -1,3 +1,4 @@
+pub mod Acts
 pub mod Ending
 pub mod Loading
 pub mod Looks

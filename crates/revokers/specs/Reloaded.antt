@@ -18,6 +18,8 @@ use Rattle.revoker_steps.specs.declared.command.RevokerReply.TheVariants as repl
 use Rattle.revoker_steps.specs.Events.{IsAmong, Runs, cleared_in, register_untags, visits}
 use Rattle.revoker_steps.specs.Events.Event.{Revoked}
 use Rattle.revoker_steps.specs.Revoker.{RevokerStep}
+use Rattle.revokers.specs.Acts.{untag_acts, visit_acts}
+use Rattle.revokers.specs.declared.acts.Act.{Act}
 use Rattle.revokers.specs.declared.ending.Finished.{Finished}
 use Rattle.revokers.specs.declared.reloaded.Barrier.{Barrier}
 use Rattle.revokers.specs.declared.reloaded.Stepped.{Stepped}
@@ -42,12 +44,13 @@ pub record IsReloaded (s : State) (seen : List Bool) (is_started : Bool) : Type 
 -- ---- the start
 
 -- An epoch starts: blocks are painted, and each register loses its tag where its word's base lies in one, with no command
--- between. So many tags are taken.
-pub record Starts (old : State) (cleared : ℕ) (new : State) : Type 0 where
+-- between. So many tags are taken, and all of it is told.
+pub record Starts (old : State) (before : List Act) (cleared : ℕ) (new : State) (after : List Act) : Type 0 where
   pub registers : List (ℕ × RevokerReply)
   pub steps : Runs Step old (Revoked Paint Done ∷ register_untags registers) new
   pub all : (r : ℕ) → r < register_count → IsAmong registers r
   pub count : cleared ≡ cleared_in registers
+  pub told : after ≡ before ++ record { command = Paint; reply = Done } ∷ untag_acts registers
 
 -- ---- the barrier
 
@@ -116,10 +119,12 @@ seen_by (reply.Trap trap) page seen = seen
 abbrev pub is_unseen : List Bool → ℕ → Bool
 is_unseen seen page = nat_lt page (length seen) && not (is_seen seen page)
 
--- Such a revoker ends its epoch: the pages that weren't seen are visited, and no others, and then the painted blocks are free.
-pub record FinishesSeen (seen : List Bool) (old : State) (finished : Finished) (new : State) : Type 0 where
+-- Such a revoker ends its epoch: the pages that weren't seen are visited, and no others, and then the painted blocks are free; all
+-- of it is told.
+pub record FinishesSeen (seen : List Bool) (old : State) (before : List Act) (finished : Finished) (new : State) (after : List Act) : Type 0 where
   pub pages : List (ℕ × RevokerReply)
   pub steps : Runs Step old (visits pages ++ Revoked Release (Released finished.bytes) ∷ []) new
   pub all_pages : (page : ℕ) → is_unseen seen page ≡ true → IsAmong pages page
   pub only_pages : (page : ℕ) → IsAmong pages page → is_unseen seen page ≡ true
   pub cleared : finished.cleared ≡ cleared_in pages
+  pub told : after ≡ before ++ (visit_acts pages ++ record { command = Release; reply = Released finished.bytes } ∷ [])

@@ -10,9 +10,11 @@ ghost use Rattle.revoker_steps.specs.declared.command.RevokerCommand.TheVariants
 ghost use Rattle.revoker_steps.specs.Revoker.{RevokerStep};
 ghost use Rattle.revoker_steps.specs.RevokerDirty.{revoker_dirty_after};
 ghost use Rattle.revoker_steps.specs.Tracked.{AreClean};
+ghost use Rattle.revokers.specs.Acts.{HasRoom, Tells};
 ghost use Rattle.revokers.specs.Ending.{Finishes, Visits};
 ghost use Rattle.revokers.specs.Looks.{Looks};
 
+use crate::acts::{Act, tell};
 use crate::ending::{Finished, cleared_of, release, untag_registers};
 use heap_machine::{Machine, MachineFault, Reply, RevokerCommand, RevokerReply, Stepper};
 use host_memory::Global;
@@ -99,11 +101,15 @@ impl Cornucopia {
     }
 
     /// Ends the epoch: the pages that are dirty are visited, the registers lose their tags, and the painted blocks are free,
-    /// for no tagged word is left that points into one. `None` where no epoch is open.
-    pub fn finish(&mut self) -> Option<Finished>
+    /// for no tagged word is left that points into one. `acts` is told each of these steps, for which it has room. `None` where
+    /// no epoch is open.
+    pub fn finish(&mut self, acts: &mut Vec<Act, Global>) -> Option<Finished>
+        requires room { HasRoom 1057 acts.old }
         ensures closed { (result ≡ None) ↔ (self.old.state.heap.is_open ≡ false) }
         ensures still { result ≡ None → self.new ≡ self.old }
-        ensures finishes { IfSome result (λ finished. Finishes (is_dirty_at self.old.dirty) self.old.state finished self.new.state) }
+        ensures untold { result ≡ None → acts.new ≡ acts.old }
+        ensures finishes { IfSome result (λ finished. Finishes (is_dirty_at self.old.dirty) self.old.state acts.old.items finished self.new.state acts.new.items) }
+        ensures room { Tells 1057 acts.old acts.new }
         ensures in_use { result ≢ None → AreInUseOrWaiting self.new.state }
         ensures cutting { self.new.cutting ≡ self.old.cutting }
         ensures safe { IsSafe self.new.state }
@@ -113,12 +119,14 @@ impl Cornucopia {
         if !self.machine.heap().is_open() {
             return None;
         }
-        Some(self.finish_open())
+        Some(self.finish_open(acts))
     }
 
-    fn finish_open(&mut self) -> Finished
-        requires { self.old.state.heap.is_open ≡ true }
-        ensures finishes { Finishes (is_dirty_at self.old.dirty) self.old.state result self.new.state }
+    fn finish_open(&mut self, acts: &mut Vec<Act, Global>) -> Finished
+        requires open { self.old.state.heap.is_open ≡ true }
+        requires room { HasRoom 1057 acts.old }
+        ensures finishes { Finishes (is_dirty_at self.old.dirty) self.old.state acts.old.items result self.new.state acts.new.items }
+        ensures room { Tells 1057 acts.old acts.new }
         ensures in_use { AreInUseOrWaiting self.new.state }
         ensures cutting { self.new.cutting ≡ self.old.cutting }
         ensures safe { IsSafe self.new.state }
@@ -126,11 +134,11 @@ impl Cornucopia {
     {
         cornucopia_law();
         passes_law();
-        let in_memory = visit_dirty(&mut self.machine);
-        let in_registers = untag_registers(&mut self.machine);
+        let in_memory = visit_dirty(&mut self.machine, acts);
+        let in_registers = untag_registers(&mut self.machine, acts);
         self.machine.invariant();
         self.machine.memory().invariant();
-        let bytes = release(&mut self.machine);
+        let bytes = release(&mut self.machine, acts);
         self.machine.invariant();
         Finished {
             cleared: in_memory + in_registers,
@@ -140,9 +148,11 @@ impl Cornucopia {
 }
 
 // Visits the pages that are dirty; answers how many tags that took.
-fn visit_dirty(machine: &mut Machine) -> u64
-    requires { machine.old.state.heap.is_open ≡ true }
-    ensures visits { Visits (is_dirty_at machine.old.dirty) machine.old.state result machine.new.state }
+fn visit_dirty(machine: &mut Machine, acts: &mut Vec<Act, Global>) -> u64
+    requires open { machine.old.state.heap.is_open ≡ true }
+    requires room { HasRoom 1024 acts.old }
+    ensures visits { Visits (is_dirty_at machine.old.dirty) machine.old.state acts.old.items result machine.new.state acts.new.items }
+    ensures room { Tells 1024 acts.old acts.new }
     ensures clean { AreClean machine.new.dirty }
     ensures open { machine.new.state.heap.is_open ≡ true }
     ensures cutting { machine.new.cutting ≡ machine.old.cutting }
@@ -151,21 +161,26 @@ fn visit_dirty(machine: &mut Machine) -> u64
     machine.memory().invariant();
     let mut cleared = 0;
     for page in 0..machine.memory().pages() {
-        cleared += visit_if_dirty(machine, page);
+        cleared += visit_if_dirty(machine, page, acts);
     }
     cleared
 }
 
 // Visits a page if it is dirty; answers how many tags that took.
-fn visit_if_dirty(machine: &mut Machine, page: u32) -> u64
+fn visit_if_dirty(machine: &mut Machine, page: u32, acts: &mut Vec<Act, Global>) -> u64
+    requires room { HasRoom 1 acts.old }
     requires open { machine.old.state.heap.is_open ≡ true }
     requires page { 256 * page < length machine.old.state.granules }
-    ensures looks { Looks (is_dirty_at machine.old.dirty page) page machine.old result machine.new }
+    ensures looks { Looks (is_dirty_at machine.old.dirty page) page machine.old acts.old.items result machine.new acts.new.items }
+    ensures room { Tells 1 acts.old acts.new }
     ensures cutting { machine.new.cutting ≡ machine.old.cutting }
     ensures few { result < 2 ^ 32 }
 {
     if !machine.memory().dirty(page) {
         return 0;
     }
-    cleared_of(machine.revoke(RevokerCommand::Visit { page }))
+    let command = RevokerCommand::Visit { page };
+    let reply = machine.revoke(command);
+    tell(acts, command, reply);
+    u64::from(cleared_of(reply))
 }

@@ -5,7 +5,7 @@
 //!
 //! ```rust
 //! use heap_machine::{Alone, Machine, RevokerReply};
-//! use revokers::Cornucopia;
+//! use revokers::{Cornucopia, MOST_ACTS};
 //! use sweep_pool::Cutting;
 //! use trace_text::Command;
 //!
@@ -16,17 +16,20 @@
 //! assert_eq!(rt; revoker.start(), RevokerReply::Done);
 //! // The program runs on, and holds what it has freed.
 //! assert_eq!(rt; revoker.visit(0), RevokerReply::Cleared { cleared: 0 });
-//! let Some(finished) = revoker.finish() else {
+//! let mut acts = Vec::with_capacity(alloc, MOST_ACTS)?;
+//! let Some(finished) = revoker.finish(&mut acts) else {
 //!     return;
 //! };
 //! assert_eq!(rt; (finished.cleared, finished.bytes), (1, 32));
 //! ```
 #![tactic(auto)]
 
+mod acts;
 mod cornucopia;
 mod ending;
 mod reloaded;
 
+pub use crate::acts::{Act, MOST_ACTS};
 pub use crate::cornucopia::Cornucopia;
 pub use crate::ending::Finished;
 pub use crate::reloaded::{Barrier, Reloaded, Stepped};

@@ -1,6 +1,6 @@
 //! A revoker with a barrier at loads: it looks at a page before the program loads from it.
 
-ghost use Rattle.std.specs.Prelude.{◌≡◌, ◌≢◌, ◌↔◌, IfSome, None, false, length, replicate, true};
+ghost use Rattle.std.specs.Prelude.{◌≡◌, ◌≢◌, ◌↔◌, ◌++◌, ◌∷◌, [], IfSome, None, false, length, replicate, true};
 ghost use Rattle.machine_steps.specs.Dirty.{HasPages};
 ghost use Rattle.machine_steps.specs.Safety.{AreInUseOrWaiting, IsSafe};
 ghost use Rattle.machine_steps.specs.Sound.{IsMachine};
@@ -8,11 +8,13 @@ ghost use Rattle.revoker_steps.specs.declared.command.RevokerCommand.TheVariants
 ghost use Rattle.revoker_steps.specs.declared.command.RevokerReply.TheVariants.{Released};
 ghost use Rattle.revoker_steps.specs.Barred.{AreSeen, IsBarred, after_start};
 ghost use Rattle.revoker_steps.specs.Revoker.{RevokerStep};
+ghost use Rattle.revokers.specs.Acts.{HasRoom, Tells};
 ghost use Rattle.revokers.specs.Reloaded.{FinishesSeen, IsEpoch, Starts};
 
 mod loading;
 mod looking;
 
+use crate::acts::{Act, tell};
 use crate::ending::{Finished, release, untag_registers};
 use heap_machine::{Machine, Reply, RevokerCommand};
 use host_memory::Global;
@@ -23,7 +25,7 @@ use std::marker::Model;
 #[derive(Clone, Copy, Debug, PartialEq, Eq)]
 pub struct Barrier {
     pub page: u32,
-    pub cleared: u64,
+    pub cleared: u32,
 }
 
 /// What a command came to.
@@ -89,11 +91,14 @@ impl Reloaded {
     }
 
     /// Starts an epoch: the blocks that wait are painted, and the registers lose their tags; answers how many. No page was
-    /// seen. `None` where an epoch is open.
-    pub fn start(&mut self) -> Option<u64>
+    /// seen. `acts` is told each of these steps, for which it has room. `None` where an epoch is open.
+    pub fn start(&mut self, acts: &mut Vec<Act, Global>) -> Option<u64>
+        requires room { HasRoom 1057 acts.old }
         ensures open { (result ≡ None) ↔ (self.old.machine.state.heap.is_open ≡ true) }
         ensures still { result ≡ None → self.new ≡ self.old }
-        ensures starts { IfSome result (λ cleared. Starts self.old.machine.state cleared self.new.machine.state) }
+        ensures untold { result ≡ None → acts.new ≡ acts.old }
+        ensures starts { IfSome result (λ cleared. Starts self.old.machine.state acts.old.items cleared self.new.machine.state acts.new.items) }
+        ensures room { Tells 1057 acts.old acts.new }
         ensures after { result ≢ None → self.new.machine.state ≡ after_start self.old.machine.state }
         ensures unseen { result ≢ None → self.new.seen ≡ replicate (length self.old.seen) false }
         ensures started { result ≢ None → self.new.is_started ≡ true }
@@ -105,12 +110,14 @@ impl Reloaded {
         if self.machine.heap().is_open() {
             return None;
         }
-        Some(self.start_closed())
+        Some(self.start_closed(acts))
     }
 
-    fn start_closed(&mut self) -> u64
-        requires { self.old.machine.state.heap.is_open ≡ false }
-        ensures starts { Starts self.old.machine.state result self.new.machine.state }
+    fn start_closed(&mut self, acts: &mut Vec<Act, Global>) -> u64
+        requires closed { self.old.machine.state.heap.is_open ≡ false }
+        requires room { HasRoom 1057 acts.old }
+        ensures starts { Starts self.old.machine.state acts.old.items result self.new.machine.state acts.new.items }
+        ensures room { Tells 1057 acts.old acts.new }
         ensures after { self.new.machine.state ≡ after_start self.old.machine.state }
         ensures unseen { self.new.seen ≡ replicate (length self.old.seen) false }
         ensures started { self.new.is_started ≡ true }
@@ -121,8 +128,9 @@ impl Reloaded {
         barrier_law();
         reloaded_law();
         self.machine.invariant();
-        self.machine.revoke(RevokerCommand::Paint);
-        let cleared = untag_registers(&mut self.machine);
+        let reply = self.machine.revoke(RevokerCommand::Paint);
+        tell(acts, RevokerCommand::Paint, reply);
+        let cleared = untag_registers(&mut self.machine, acts);
         self.machine.invariant();
         self.seen.fill(false);
         self.is_started = true;
@@ -130,11 +138,15 @@ impl Reloaded {
     }
 
     /// Ends the epoch that `start` opened: the pages that weren't seen are visited, and the painted blocks are free, for no
-    /// tagged word is left that points into one. `None` where no epoch of this revoker is open.
-    pub fn finish(&mut self) -> Option<Finished>
+    /// tagged word is left that points into one. `acts` is told each of these steps, for which it has room. `None` where no
+    /// epoch of this revoker is open.
+    pub fn finish(&mut self, acts: &mut Vec<Act, Global>) -> Option<Finished>
+        requires room { HasRoom 1057 acts.old }
         ensures closed { (result ≡ None) ↔ (self.old.is_started ≡ false) }
         ensures still { result ≡ None → self.new ≡ self.old }
-        ensures finishes { IfSome result (λ finished. FinishesSeen self.old.seen self.old.machine.state finished self.new.machine.state) }
+        ensures untold { result ≡ None → acts.new ≡ acts.old }
+        ensures finishes { IfSome result (λ finished. FinishesSeen self.old.seen self.old.machine.state acts.old.items finished self.new.machine.state acts.new.items) }
+        ensures room { Tells 1057 acts.old acts.new }
         ensures in_use { result ≢ None → AreInUseOrWaiting self.new.machine.state }
         ensures ended { self.new.is_started ≡ false }
         ensures cutting { self.new.machine.cutting ≡ self.old.machine.cutting }
@@ -144,35 +156,40 @@ impl Reloaded {
         if !self.is_started {
             return None;
         }
-        Some(self.finish_started())
+        Some(self.finish_started(acts))
     }
 
-    fn finish_started(&mut self) -> Finished
-        requires { self.old.is_started ≡ true }
-        ensures finishes { FinishesSeen self.old.seen self.old.machine.state result self.new.machine.state }
+    fn finish_started(&mut self, acts: &mut Vec<Act, Global>) -> Finished
+        requires started { self.old.is_started ≡ true }
+        requires room { HasRoom 1057 acts.old }
+        ensures finishes { FinishesSeen self.old.seen self.old.machine.state acts.old.items result self.new.machine.state acts.new.items }
+        ensures room { Tells 1057 acts.old acts.new }
         ensures in_use { AreInUseOrWaiting self.new.machine.state }
         ensures ended { self.new.is_started ≡ false }
         ensures cutting { self.new.machine.cutting ≡ self.old.machine.cutting }
         ensures safe { IsSafe self.new.machine.state }
     {
         passes_law();
-        let cleared = self.look_at_all();
+        let cleared = self.look_at_all(acts);
         self.invariant();
-        let bytes = self.release_seen();
+        let bytes = self.release_seen(acts);
         self.invariant();
         Finished { cleared, bytes }
     }
 
     // Frees the painted blocks, once all pages were seen.
-    fn release_seen(&mut self) -> u64
+    fn release_seen(&mut self, acts: &mut Vec<Act, Global>) -> u64
         requires started { self.old.is_started ≡ true }
         requires seen { AreSeen self.old.seen }
+        requires room { HasRoom 1 acts.old }
         ensures step { RevokerStep self.old.machine.state Release (Released result) self.new.machine.state }
+        ensures told { acts.new.items ≡ acts.old.items ++ record { command = Release; reply = Released result } ∷ [] }
+        ensures room { Tells 1 acts.old acts.new }
         ensures ended { self.new.is_started ≡ false }
         ensures cutting { self.new.machine.cutting ≡ self.old.machine.cutting }
     {
         barrier_law();
-        let bytes = release(&mut self.machine);
+        let bytes = release(&mut self.machine, acts);
         self.is_started = false;
         bytes
     }

@@ -6,10 +6,12 @@ ghost use Rattle.revoker_steps.specs.declared.command.RevokerCommand.TheVariants
 ghost use Rattle.revoker_steps.specs.Barred.{AreSeen, IsBarred, is_seen};
 ghost use Rattle.revoker_steps.specs.Revoker.{RevokerStep};
 ghost use Rattle.revoker_steps.specs.RevokerDirty.{revoker_dirty_after};
+ghost use Rattle.revokers.specs.Acts.{HasRoom, Tells};
 ghost use Rattle.revokers.specs.Ending.{Visits};
 ghost use Rattle.revokers.specs.Reloaded.{IsLooked, is_unseen, seen_by};
 ghost use Rattle.revokers.specs.Seen.{LooksAt};
 
+use crate::acts::{Act, tell};
 use crate::ending::cleared_of;
 use crate::reloaded::Reloaded;
 use heap_machine::{RevokerCommand, RevokerReply};
@@ -35,7 +37,7 @@ impl Reloaded {
     }
 
     // Visits a page of the heap in an epoch of this revoker; answers how many tags that took.
-    pub(super) fn look_at(&mut self, page: u32) -> u64
+    pub(super) fn look_at(&mut self, page: u32) -> u32
         requires started { self.old.is_started ≡ true }
         requires page { page < length self.old.seen }
         ensures looks { IsLooked page self.old result self.new }
@@ -54,22 +56,32 @@ impl Reloaded {
     }
 
     // Visits the page if it wasn't seen.
-    fn look_if_unseen(&mut self, page: u32) -> u64
+    fn look_if_unseen(&mut self, page: u32, acts: &mut Vec<Act, Global>) -> u64
+        requires room { HasRoom 1 acts.old }
         requires started { self.old.is_started ≡ true }
         requires page { page < length self.old.seen }
-        ensures looks { LooksAt (is_seen self.old.seen page) page self.old result self.new }
+        ensures looks { LooksAt (is_seen self.old.seen page) page self.old acts.old.items result self.new acts.new.items }
+        ensures room { Tells 1 acts.old acts.new }
         ensures few { result < 2 ^ 32 }
     {
         if self.seen[page as usize] {
             return 0;
         }
-        self.look_at(page)
+        let cleared = self.look_at(page);
+        tell(
+            acts,
+            RevokerCommand::Visit { page },
+            RevokerReply::Cleared { cleared },
+        );
+        u64::from(cleared)
     }
 
     // Visits the pages that weren't seen; answers how many tags that took.
-    pub(super) fn look_at_all(&mut self) -> u64
+    pub(super) fn look_at_all(&mut self, acts: &mut Vec<Act, Global>) -> u64
         requires started { self.old.is_started ≡ true }
-        ensures visits { Visits (is_unseen self.old.seen) self.old.machine.state result self.new.machine.state }
+        requires room { HasRoom 1024 acts.old }
+        ensures visits { Visits (is_unseen self.old.seen) self.old.machine.state acts.old.items result self.new.machine.state acts.new.items }
+        ensures room { Tells 1024 acts.old acts.new }
         ensures seen { AreSeen self.new.seen }
         ensures started { self.new.is_started ≡ true }
         ensures cutting { self.new.machine.cutting ≡ self.old.machine.cutting }
@@ -77,7 +89,7 @@ impl Reloaded {
         self.invariant();
         let mut cleared = 0;
         for page in 0..self.pages() {
-            cleared += self.look_if_unseen(page);
+            cleared += self.look_if_unseen(page, acts);
         }
         cleared
     }

@@ -5,8 +5,8 @@ use Rattle.revokers.specs.Reloaded.{ReloadedState}
 use Rattle.revokers.proofs.SeenLaws.{IsReloaded-released}
 use Rattle.revokers.proofs.reloaded.Reloaded.release_seen.Goals as goal
 
-pub release-bytes-requires : goal.release-bytes-requires
-release-bytes-requires c =
+pub release-bytes-requires-clause-may : goal.release-bytes-requires-clause-may
+release-bytes-requires-clause-may c =
     let r = c.self.inside in
     let started : r.is_started ≡ true = ap (λ (s : ReloadedState). s.is_started) c.self.view_is ∙ c.requires.started in
     let all : AreSeen r.seen.items = subst (λ (s : ReloadedState). AreSeen s.seen) (sym c.self.view_is) c.requires.seen in

@@ -1,0 +1,26 @@
+-- What a revoker did, told one after another, and the room for it.
+use Rattle.std.specs.Prelude.{◌≡◌, ◌+◌, ◌≤◌, ℕ, List, [], ◌∷◌}
+use Rattle.std.specs.Vec.{vec_capacity, vec_len}
+use Rattle.std.specs.Global.{Vec}
+use Rattle.revoker_steps.specs.declared.command.RevokerCommand.TheVariants.{UntagRegister, Visit}
+use Rattle.revoker_steps.specs.declared.command.RevokerReply.{RevokerReply}
+use Rattle.revokers.specs.declared.acts.Act.{Act}
+
+-- A visit of each of these pages, answered so.
+abbrev pub visit_acts : List (ℕ × RevokerReply) → List Act
+visit_acts [] = []
+visit_acts (it ∷ rest) = record { command = Visit it.0; reply = it.1 } ∷ visit_acts rest
+
+-- An untag of each of these registers.
+abbrev pub untag_acts : List (ℕ × RevokerReply) → List Act
+untag_acts [] = []
+untag_acts (it ∷ rest) = record { command = UntagRegister it.0; reply = it.1 } ∷ untag_acts rest
+
+-- There is room for so many more.
+abbrev pub HasRoom : ℕ → Vec Act → Type 0
+HasRoom n acts = vec_len acts + n ≤ vec_capacity acts
+
+-- So many more are told at most, in the room that there was.
+pub record Tells (n : ℕ) (old new : Vec Act) : Type 0 where
+  pub capacity : vec_capacity new ≡ vec_capacity old
+  pub few : vec_len new ≤ vec_len old + n
