@@ -13,7 +13,7 @@ mod revoking;
 mod text;
 
 pub use crate::asking::asked_line;
-pub use crate::event::{Asked, event_of_answer};
+pub use crate::event::{Asked, event_of_answer, question};
 pub use crate::fault::LogFault;
 pub use crate::laws::reply_grammar_law;
 pub use crate::log::{Event, Given, Log};

@@ -16,7 +16,7 @@ mod looking;
 
 use crate::acts::{Act, tell};
 use crate::ending::{Finished, release, untag_registers};
-use heap_machine::{Machine, Reply, RevokerCommand};
+use heap_machine::{Machine, Reply, RevokerCommand, RevokerReply};
 use host_memory::Global;
 use revoker_steps::{barrier_law, passes_law, reloaded_law};
 use std::marker::Model;
@@ -192,5 +192,17 @@ impl Reloaded {
         let bytes = release(&mut self.machine, acts);
         self.is_started = false;
         bytes
+    }
+
+    /// Releases the painted blocks of an epoch that isn't this revoker's, and is trapped while a tagged word points into one.
+    pub fn release(&mut self) -> RevokerReply
+        requires { self.old.is_started ≡ false }
+        ensures step { RevokerStep self.old.machine.state Release result self.new.machine.state }
+        ensures seen { self.new.seen ≡ self.old.seen }
+        ensures started { self.new.is_started ≡ false }
+        ensures cutting { self.new.machine.cutting ≡ self.old.machine.cutting }
+        ensures safe { IsSafe self.new.machine.state }
+    {
+        self.machine.revoke(RevokerCommand::Release)
     }
 }
