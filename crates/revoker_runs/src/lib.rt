@@ -4,10 +4,12 @@
 //! Who does these steps is a `Revoker`: a bare machine, which does just what a line says, or one of the two that are proved.
 #![tactic(auto)]
 
+mod answer;
 mod lines;
 mod plan;
 mod reading;
 mod revoker;
 
+pub use crate::answer::{Way, log_of_plan};
 pub use crate::plan::write_plan;
 pub use crate::revoker::Revoker;

@@ -42,11 +42,7 @@ fn line_of(alloc: Global, act: Act) -> Result<String<Global>, AllocError>
 }
 
 /// Puts the lines of acts behind a text.
-pub fn push_acts(
-    alloc: Global,
-    text: &mut Vec<u8, Global>,
-    acts: &[Act],
-) -> Result<(), AllocError>
+pub fn push_acts(alloc: Global, text: &mut Vec<u8, Global>, acts: &[Act]) -> Result<(), AllocError>
     ensures { OnOk result (text.new.items ≡ text.old.items ++ act_lines acts.now) }
 {
     for act in acts {

@@ -17,7 +17,7 @@ use host_memory::Global;
 use log_text::Asked;
 use revokers::Act;
 use std::alloc::AllocError;
-use trace_text::{Command, Line, split_line};
+use trace_text::{Command, Line, TraceFault, split_line};
 
 // Does a command of the program, and writes what the revoker did before it, and the line with its answer.
 fn write_command<S: Stepper, R: Revoker>(
@@ -77,6 +77,7 @@ fn write_line<S: Stepper, R: Revoker>(
     ensures writes { OnOk result ((told : List ℕ) × WritesRead R.does R.steps revoker.old line.now (plan_at R.own R.takes number (words_of line.now)) told revoker.new
         × (text.new.items ≡ text.old.items ++ told)) }
     ensures fault { (fault : TheTraceFault) → result ≡ Err (RunFault.Trace fault) → plan_at R.own R.takes number (words_of line.now) ≡ Err fault }
+    ensures memory { result ≢ Err (RunFault.Trace TraceFault.Memory) }
     ensures kept { vec_capacity acts.new ≡ vec_capacity acts.old }
 {
     let done = match plan_line(revoker, number, line) {
@@ -111,6 +112,7 @@ pub fn write_plan<S: Stepper, R: Revoker>(
     requires few { first + length text.now < 2 ^ 32 }
     ensures writes { OnOk result ((told : List ℕ) × Writes R.own R.takes R.does R.steps first revoker.old (lines_of text.now) told revoker.new × (log.new.items ≡ log.old.items ++ told)) }
     ensures fault { (fault : TheTraceFault) → result ≡ Err (RunFault.Trace fault) → fault_in R.own R.takes first (lines_of text.now) ≡ Some fault }
+    ensures memory { result ≢ Err (RunFault.Trace TraceFault.Memory) }
 {
     let mut number = first;
     let mut rest = text;

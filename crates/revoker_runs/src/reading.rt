@@ -1,6 +1,6 @@
 //! Lines of a plan.
 
-ghost use Rattle.std.specs.Prelude.{◌≡◌, IfOk, IfSome, true};
+ghost use Rattle.std.specs.Prelude.{◌≡◌, ◌≢◌, Err, IfOk, IfSome, true};
 ghost use Rattle.trace_text.specs.Command.{IsValid};
 ghost use Rattle.trace_text.specs.Lines.{words_of};
 ghost use Rattle.log_text.specs.Log.{IsValidAsked};
@@ -12,14 +12,11 @@ use log_text::{Asked, question};
 use trace_text::{Line, LineFault, TraceFault, split_name};
 
 // What a line asks whose words ask this in a log.
-fn planned<R: Revoker>(
-    revoker: &R,
-    number: u32,
-    asked: Asked,
-) -> Result<Option<Asked>, TraceFault>
+fn planned<R: Revoker>(revoker: &R, number: u32, asked: Asked) -> Result<Option<Asked>, TraceFault>
     requires { IsValidAsked asked }
     ensures value { result ≡ planned R.own R.takes number (Ok asked) }
     ensures valid { IfOk result (λ read. IfSome read (λ asked. IsValidAsked asked × MayDo R.takes asked)) }
+    ensures memory { result ≢ Err TraceFault.Memory }
 {
     match asked {
         Asked::Command(command) => match revoker.own_step(command) {
@@ -40,6 +37,7 @@ pub fn plan_line<R: Revoker>(
 ) -> Result<Option<Asked>, TraceFault>
     ensures value { result ≡ plan_at R.own R.takes number (words_of line.now) }
     ensures valid { IfOk result (λ read. IfSome read (λ asked. IsValidAsked asked × MayDo R.takes asked)) }
+    ensures memory { result ≢ Err TraceFault.Memory }
 {
     let Some((name, operands)) = split_name(line) else {
         return Ok(None);

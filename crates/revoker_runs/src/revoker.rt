@@ -7,7 +7,9 @@ ghost use Rattle.revoker_steps.specs.Valid as allowed;
 ghost use Rattle.revokers.specs.Acts.{HasRoom};
 ghost use Rattle.revoker_runs.specs.Ways.{BarredDoes, DoesJust, MarkedDoes, StepsJust, StepsLooking, BarredPaints, BarredReleases, MarkedReleases, all_steps, barrier_acts, no_step, own_step, page_steps};
 
-use heap_machine::{Machine, MachineFault, Reply, RevokerCommand, RevokerReply, RevokerTrap, Stepper};
+use heap_machine::{
+    Machine, MachineFault, Reply, RevokerCommand, RevokerReply, RevokerTrap, Stepper,
+};
 use host_memory::Global;
 use revokers::{Act, Barrier, Cornucopia, Reloaded};
 use trace_text::Command;

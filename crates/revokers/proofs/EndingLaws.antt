@@ -233,5 +233,5 @@ finishes test old visited untagged new in_memory in_registers bytes before one t
       all_registers = then.all;
       cleared = omega (arith, first.count, then.count);
       told = tells ∙ ap (λ (acts : List Act). acts ++ act ∷ []) (then.told ∙ ap (λ (acts : List Act). acts ++ untag_acts then.registers) first.told)
-      ∙ append_assoc (before ++ visit_acts first.pages) (untag_acts then.registers) (act ∷ []) ∙ append_assoc before (visit_acts first.pages) (untag_acts then.registers ++ act ∷ []);
+          ∙ append_assoc (before ++ visit_acts first.pages) (untag_acts then.registers) (act ∷ []) ∙ append_assoc before (visit_acts first.pages) (untag_acts then.registers ++ act ∷ []);
     }

@@ -1,4 +1,4 @@
-use Rattle.std.proofs.Common.{◌∙◌, ◌+◌, arith, rules, length}
+use Rattle.std.proofs.Common.{arith, rules}
 use Rattle.trace_text.specs.Lines.{lines_of}
 use Rattle.revoker_runs.proofs.PlanLaws.{SoFar-all, SoFar-fault, SoFar-more}
 use Rattle.revoker_runs.proofs.plan.write_plan.Goals as goal

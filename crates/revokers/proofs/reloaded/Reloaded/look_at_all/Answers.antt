@@ -15,9 +15,11 @@ pub loop-page-preserved : goal.loop-page-preserved
 loop-page-preserved c =
     let inside : c.loop-page.page < length c.args.self.now.seen = omega (arith, c.loop-page-test.true, c.pages-page-end.ensures) in
     let done = c.look_if_unseen-cleared in
-    let so = c.loop-page.invariant in
-    (SeenBelow-next c.args.self.now c.args.acts.now.items c.loop-page.page c.loop-page.cleared done.result c.loop-page.self c.loop-page.acts.items done.new.self done.new.acts.items c.invariant.ensures.pages inside
-    so.0 done.ensures.looks done.ensures.few, record {
-      capacity = done.ensures.room.capacity ∙ so.1.capacity;
-      few = omega (arith, done.ensures.room.few, so.1.few);
-    })
+    let so = c.loop-page.invariant in (
+      SeenBelow-next c.args.self.now c.args.acts.now.items c.loop-page.page c.loop-page.cleared done.result c.loop-page.self c.loop-page.acts.items done.new.self done.new.acts.items c.invariant.ensures.pages inside
+          so.0 done.ensures.looks done.ensures.few,
+      record {
+        capacity = done.ensures.room.capacity ∙ so.1.capacity;
+        few = omega (arith, done.ensures.room.few, so.1.few);
+      },
+    )
