@@ -23,7 +23,7 @@ use Rattle.revoker_steps.specs.Events.Event.{Revoked}
 use Rattle.revoker_steps.specs.Revoker.{RevokerStep, RevokerStepAfter, after_untag, after_untag_registers, first_failed_check, is_in_page, is_register, revoker_checks}
 use Rattle.revoker_steps.specs.RevokerDirty.{revoker_dirty_after, revoker_dirty_by}
 use Rattle.revoker_steps.specs.Tracked.{AreClean}
-use Rattle.revokers.specs.Acts.{untag_acts, visit_acts}
+use Rattle.revokers.specs.Acts.{untag_act, untag_acts, visit_acts}
 use Rattle.revokers.specs.declared.acts.Act.{Act}
 use Rattle.revokers.specs.Ending.{Finishes, HasUntagged, IsUntagged, Untags, Visits}
 use Rattle.revokers.specs.Looks.{IsVisited, Looks}
@@ -114,7 +114,7 @@ UntagsBelow-next old before n cleared more now told new after below done dirty c
       is_open = ap (λ (s : State). s.heap.is_open) is ∙ below.is_open;
       dirty = dirty ∙ below.dirty;
       cutting = cutting ∙ below.cutting;
-      told = told-push before told after (untag_acts below.registers) (untag_acts them) (record { command = UntagRegister n; reply = reply }) below.told done.told (untag_acts-push below.registers n reply);
+      told = told-push before told after (untag_acts below.registers) (untag_acts them) (untag_act n reply) below.told done.told (untag_acts-push below.registers n reply);
     }
 
 pub UntagsBelow-untags : (old : MachineState) (before : List Act) (cleared : ℕ) (now : MachineState) (after : List Act) → UntagsBelow old before 32 cleared now after → Untags old.state before cleared now.state after
@@ -181,7 +181,7 @@ VisitsBelow-next test old before n cleared more now told reply new after below p
       few = omega (arith, below.few, few);
       granules = ap (λ (s : State). length s.granules) is ∙ length-changed (swept_granule now.heap.painted) (is_in_page n) now.granules ∙ below.granules;
       is_open = ap (λ (s : State). s.heap.is_open) is ∙ below.is_open;
-      told = told-push before told after (visit_acts below.pages) (visit_acts them) (record { command = Visit n; reply = reply }) below.told tells (visit_acts-push below.pages n reply);
+      told = told-push before told after (visit_acts below.pages) (visit_acts them) (record { command = Visit n; reply = reply } ∷ []) below.told tells (visit_acts-push below.pages n reply);
     }
 
 pub VisitsBelow-passed : (test : ℕ → Bool) (old : State) (before : List Act) (n cleared : ℕ) (now : State) (after : List Act) → VisitsBelow test old before n cleared now after → test n ≡ false

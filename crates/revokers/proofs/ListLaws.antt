@@ -1,6 +1,6 @@
 -- Lists of a revoker's steps that grow at their end.
 use Rattle.std.proofs.Common.{◌≡◌, ◌∙◌, ◌+◌, ◌++◌, ◌⊎◌, ℕ, inl, inr, List, [], ◌∷◌, refl, sym, ap, subst, arith}
-use Rattle.std.proofs.lemmas.List.{append_assoc}
+use Rattle.std.proofs.lemmas.List.{append-nil, append_assoc}
 use Rattle.trace_text.specs.declared.trace.Command.{Command}
 use Rattle.heap_reply.specs.declared.reply.Reply.{Reply}
 use Rattle.machine_steps.specs.Follow.{Follows}
@@ -11,7 +11,7 @@ use Rattle.revoker_steps.specs.declared.command.RevokerReply.{RevokerReply}
 use Rattle.revoker_steps.specs.Events.{Event, IsAmong, Runs, cleared_by, cleared_in, register_untags, visits}
 use Rattle.revoker_steps.specs.Events.IsAmong.{first, later}
 use Rattle.revoker_steps.specs.Revoker.{RevokerStep}
-use Rattle.revokers.specs.Acts.{untag_acts, visit_acts}
+use Rattle.revokers.specs.Acts.{untag_act, untag_acts, visit_acts}
 use Rattle.revokers.specs.declared.acts.Act.{Act}
 
 -- ---- what runs
@@ -41,14 +41,15 @@ pub visit_acts-push : (pages : List (ℕ × RevokerReply)) (page : ℕ) (reply :
 visit_acts-push [] page reply = refl
 visit_acts-push (it ∷ pages) page reply = ap (λ (acts : List Act). record { command = Visit it.0; reply = it.1 } ∷ acts) (visit_acts-push pages page reply)
 
-pub untag_acts-push : (registers : List (ℕ × RevokerReply)) (r : ℕ) (reply : RevokerReply) → untag_acts (registers ++ (r, reply) ∷ []) ≡ untag_acts registers ++ record { command = UntagRegister r; reply = reply } ∷ []
-untag_acts-push [] r reply = refl
-untag_acts-push (it ∷ registers) r reply = ap (λ (acts : List Act). record { command = UntagRegister it.0; reply = it.1 } ∷ acts) (untag_acts-push registers r reply)
+pub untag_acts-push : (registers : List (ℕ × RevokerReply)) (r : ℕ) (reply : RevokerReply) → untag_acts (registers ++ (r, reply) ∷ []) ≡ untag_acts registers ++ untag_act r reply
+untag_acts-push [] r reply = append-nil (untag_act r reply)
+untag_acts-push (it ∷ registers) r reply =
+    ap (λ (acts : List Act). untag_act it.0 it.1 ++ acts) (untag_acts-push registers r reply) ∙ sym (append_assoc (untag_act it.0 it.1) (untag_acts registers) (untag_act r reply))
 
--- One more is told behind the others.
-pub told-push : (before now after told more : List Act) (act : Act) → now ≡ before ++ told → after ≡ now ++ act ∷ [] → more ≡ told ++ act ∷ [] → after ≡ before ++ more
-told-push before now after told more act was is grown =
-    is ∙ ap (λ (acts : List Act). acts ++ act ∷ []) was ∙ append_assoc before told (act ∷ []) ∙ ap (λ (acts : List Act). before ++ acts) (sym grown)
+-- Some more are told behind the others.
+pub told-push : (before now after told more acts : List Act) → now ≡ before ++ told → after ≡ now ++ acts → more ≡ told ++ acts → after ≡ before ++ more
+told-push before now after told more acts was is grown =
+    is ∙ ap (λ (them : List Act). them ++ acts) was ∙ append_assoc before told acts ∙ ap (λ (them : List Act). before ++ them) (sym grown)
 
 -- ---- which there are
 

@@ -1,9 +1,10 @@
 -- What a revoker did, told one after another, and the room for it.
-use Rattle.std.specs.Prelude.{◌≡◌, ◌+◌, ◌≤◌, ℕ, List, [], ◌∷◌}
+use Rattle.std.specs.Prelude.{◌≡◌, ◌==◌, ◌+◌, ◌++◌, ◌≤◌, ℕ, Bool, false, List, [], ◌∷◌, if◌then◌else◌}
 use Rattle.std.specs.Vec.{vec_capacity, vec_len}
 use Rattle.std.specs.Global.{Vec}
 use Rattle.revoker_steps.specs.declared.command.RevokerCommand.TheVariants.{UntagRegister, Visit}
 use Rattle.revoker_steps.specs.declared.command.RevokerReply.{RevokerReply}
+use Rattle.revoker_steps.specs.declared.command.RevokerReply.TheVariants.{Cleared, Done, Released, Trap}
 use Rattle.revokers.specs.declared.acts.Act.{Act}
 
 -- A visit of each of these pages, answered so.
@@ -11,10 +12,21 @@ abbrev pub visit_acts : List (ℕ × RevokerReply) → List Act
 visit_acts [] = []
 visit_acts (it ∷ rest) = record { command = Visit it.0; reply = it.1 } ∷ visit_acts rest
 
--- An untag of each of these registers.
+-- No tag was taken, since there was none to take.
+abbrev pub takes_none : RevokerReply → Bool
+takes_none Done = false
+takes_none (Cleared cleared) = cleared == 0
+takes_none (Released bytes) = false
+takes_none (Trap trap) = false
+
+-- An untag of a register, where it took the tag.
+abbrev pub untag_act : ℕ → RevokerReply → List Act
+untag_act r reply = if takes_none reply then [] else record { command = UntagRegister r; reply = reply } ∷ []
+
+-- An untag of each of these registers that lost its tag.
 abbrev pub untag_acts : List (ℕ × RevokerReply) → List Act
 untag_acts [] = []
-untag_acts (it ∷ rest) = record { command = UntagRegister it.0; reply = it.1 } ∷ untag_acts rest
+untag_acts (it ∷ rest) = untag_act it.0 it.1 ++ untag_acts rest
 
 -- There is room for so many more.
 abbrev pub HasRoom : ℕ → Vec Act → Type 0

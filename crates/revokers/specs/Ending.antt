@@ -12,7 +12,7 @@ use Rattle.revoker_steps.specs.declared.command.RevokerReply.TheVariants.{Releas
 use Rattle.revoker_steps.specs.Events.{IsAmong, Runs, cleared_by, cleared_in, register_untags, visits}
 use Rattle.revoker_steps.specs.Events.Event.{Revoked}
 use Rattle.revoker_steps.specs.Revoker.{RevokerStep, after_release}
-use Rattle.revokers.specs.Acts.{untag_acts, visit_acts}
+use Rattle.revokers.specs.Acts.{untag_act, untag_acts, visit_acts}
 use Rattle.revokers.specs.declared.acts.Act.{Act}
 use Rattle.revokers.specs.declared.ending.Finished.{Finished}
 
@@ -25,14 +25,15 @@ pub record Visits (test : ℕ → Bool) (old : State) (before : List Act) (clear
   pub count : cleared ≡ cleared_in pages
   pub told : after ≡ before ++ visit_acts pages
 
--- The register loses its tag, where its word's base lies in a painted block, which takes so many tags and is told.
+-- The register loses its tag, where its word's base lies in a painted block, which takes so many tags and, where it
+-- takes one, is told.
 pub record IsUntagged (register : ℕ) (old : State) (before : List Act) (cleared : ℕ) (new : State) (after : List Act) : Type 0 where
   pub reply : RevokerReply
   pub step : RevokerStep old (UntagRegister register) reply new
   pub count : cleared ≡ cleared_by reply
-  pub told : after ≡ before ++ record { command = UntagRegister register; reply = reply } ∷ []
+  pub told : after ≡ before ++ untag_act register reply
 
--- Each register does, where its word's base lies in a painted block, which takes so many tags and is told.
+-- Each register does.
 pub record Untags (old : State) (before : List Act) (cleared : ℕ) (new : State) (after : List Act) : Type 0 where
   pub registers : List (ℕ × RevokerReply)
   pub steps : Runs Step old (register_untags registers) new

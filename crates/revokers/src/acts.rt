@@ -6,7 +6,7 @@ ghost use Rattle.revokers.specs.Acts.{HasRoom, Tells};
 use heap_machine::{RevokerCommand, RevokerReply};
 use host_memory::Global;
 
-/// Something that a revoker did of its own, and what that was answered.
+/// Something that a revoker did of its own, and what that was answered. That it found nothing to take in a register isn't told.
 #[derive(Clone, Copy, Debug, PartialEq, Eq)]
 pub struct Act {
     pub command: RevokerCommand,

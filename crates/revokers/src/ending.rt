@@ -8,7 +8,7 @@ ghost use Rattle.revoker_steps.specs.declared.command.RevokerReply.{RevokerReply
 ghost use Rattle.revoker_steps.specs.declared.command.RevokerReply.TheVariants.{Released};
 ghost use Rattle.revoker_steps.specs.Events.{cleared_by};
 ghost use Rattle.revoker_steps.specs.Revoker.{RevokerStep};
-ghost use Rattle.revokers.specs.Acts.{HasRoom, Tells};
+ghost use Rattle.revokers.specs.Acts.{HasRoom, Tells, untag_act};
 ghost use Rattle.revokers.specs.Ending.{HasUntagged, IsUntagged, MayRelease, Untags};
 ghost use Rattle.revokers.specs.Replies.{released_by};
 
@@ -48,6 +48,18 @@ fn released_of(reply: RevokerReply) -> u64
     }
 }
 
+// Tells of an untag of a register, where it took the tag.
+fn tell_untag(acts: &mut Vec<Act, Global>, register: u8, reply: RevokerReply)
+    requires { HasRoom 1 acts.old }
+    ensures told { acts.new.items ≡ acts.old.items ++ untag_act register reply }
+    ensures room { Tells 1 acts.old acts.new }
+{
+    if matches!(reply, RevokerReply::Cleared { cleared: 0 }) {
+        return;
+    }
+    tell(acts, RevokerCommand::UntagRegister { register }, reply);
+}
+
 // Takes the tag of a register, if its word's base lies in a painted block; answers how many tags that are.
 fn untag_register(machine: &mut Machine, register: u8, acts: &mut Vec<Act, Global>) -> u64
     requires register { register < register_count }
@@ -60,8 +72,9 @@ fn untag_register(machine: &mut Machine, register: u8, acts: &mut Vec<Act, Globa
 {
     let command = RevokerCommand::UntagRegister { register };
     let reply = machine.revoke(command);
-    tell(acts, command, reply);
-    u64::from(cleared_of(reply))
+    let cleared = cleared_of(reply);
+    tell_untag(acts, register, reply);
+    u64::from(cleared)
 }
 
 // Takes those of all registers.

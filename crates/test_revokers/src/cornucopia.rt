@@ -1,8 +1,8 @@
 //! A revoker without a barrier, with replies worked out by hand.
 
 use crate::heap::machine_before_an_epoch;
-use heap_machine::{Alone, Reply, RevokerReply, RevokerTrap, Trap};
-use revokers::{Cornucopia, Finished};
+use heap_machine::{Alone, Reply, RevokerCommand, RevokerReply, RevokerTrap, Trap};
+use revokers::{Act, Cornucopia, Finished, MOST_ACTS};
 use trace_text::Command;
 
 #[test]
@@ -10,7 +10,8 @@ fn what_the_program_stores_again_is_taken_at_the_end(rt: HostRuntime) {
     let alloc = rt.alloc();
     let machine = machine_before_an_epoch(alloc).expect(&rt, "there is memory");
     let mut revoker = Cornucopia::new(machine);
-    assert_eq!(rt; revoker.finish(), None);
+    let mut acts = Vec::with_capacity(alloc, MOST_ACTS).expect(&rt, "there is memory");
+    assert_eq!(rt; revoker.finish(&mut acts), None);
     assert_eq!(rt; revoker.start(), RevokerReply::Done);
     assert_eq!(rt; revoker.start(), RevokerReply::Trap(RevokerTrap::Open));
     for (page, wanted) in [
@@ -38,8 +39,33 @@ fn what_the_program_stores_again_is_taken_at_the_end(rt: HostRuntime) {
         cleared: 3,
         bytes: 32,
     };
-    assert_eq!(rt; revoker.finish(), Some(finished));
-    assert_eq!(rt; revoker.finish(), None);
+    assert_eq!(rt; revoker.finish(&mut acts), Some(finished));
+    // Page 0 is dirty again, page 1 was never visited, and of the registers the first alone has such a word.
+    let told = [
+        (
+            RevokerCommand::Visit { page: 0 },
+            RevokerReply::Cleared { cleared: 1 },
+        ),
+        (
+            RevokerCommand::Visit { page: 1 },
+            RevokerReply::Cleared { cleared: 1 },
+        ),
+        (
+            RevokerCommand::UntagRegister { register: 1 },
+            RevokerReply::Cleared { cleared: 1 },
+        ),
+        (
+            RevokerCommand::Release,
+            RevokerReply::Released { bytes: 32 },
+        ),
+    ];
+    assert_eq!(rt;
+        acts.as_slice(),
+        told.map(|(command, reply)| Act { command, reply })
+            .as_slice()
+    );
+    acts.clear();
+    assert_eq!(rt; revoker.finish(&mut acts), None);
     let machine = revoker.machine();
     assert_eq!(rt;
         (machine.memory().tagged(), machine.registers().tagged()),
@@ -53,6 +79,7 @@ fn what_was_visited_and_not_written_since_is_not_looked_at_again(rt: HostRuntime
     let alloc = rt.alloc();
     let machine = machine_before_an_epoch(alloc).expect(&rt, "there is memory");
     let mut revoker = Cornucopia::new(machine);
+    let mut acts = Vec::with_capacity(alloc, MOST_ACTS).expect(&rt, "there is memory");
     assert_eq!(rt; revoker.start(), RevokerReply::Done);
     assert_eq!(rt; revoker.visit(1), RevokerReply::Cleared { cleared: 1 });
     assert_eq!(rt; revoker.visit(0), RevokerReply::Cleared { cleared: 1 });
@@ -63,6 +90,6 @@ fn what_was_visited_and_not_written_since_is_not_looked_at_again(rt: HostRuntime
         cleared: 1,
         bytes: 32,
     };
-    assert_eq!(rt; revoker.finish(), Some(finished));
+    assert_eq!(rt; revoker.finish(&mut acts), Some(finished));
     assert_eq!(rt; revoker.machine().held_bytes(), 4096);
 }

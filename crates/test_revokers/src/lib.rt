@@ -9,4 +9,6 @@ mod cornucopia;
 #[cfg(test)]
 mod heap;
 #[cfg(test)]
+mod plans;
+#[cfg(test)]
 mod reloaded;

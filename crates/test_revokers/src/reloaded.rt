@@ -2,7 +2,7 @@
 
 use crate::heap::machine_before_an_epoch;
 use heap_machine::{Alone, Reply, Trap};
-use revokers::{Barrier, Finished, Reloaded, Stepped};
+use revokers::{Barrier, Finished, MOST_ACTS, Reloaded, Stepped};
 use trace_text::Command;
 
 // A load into register 3, by this register.
@@ -11,7 +11,7 @@ fn load(ra: u8) -> Command {
 }
 
 // What is answered where the barrier visits a page.
-fn after_a_visit(page: u32, cleared: u64) -> Stepped {
+fn after_a_visit(page: u32, cleared: u32) -> Stepped {
     Stepped {
         barrier: Some(Barrier { page, cleared }),
         reply: Reply::Done,
@@ -31,8 +31,11 @@ fn a_page_is_visited_before_a_load_from_it(rt: HostRuntime) {
     let alloc = rt.alloc();
     let machine = machine_before_an_epoch(alloc).expect(&rt, "there is memory");
     let mut revoker = Reloaded::new(alloc, machine).expect(&rt, "there is memory");
-    assert_eq!(rt; revoker.start(), Some(1));
-    assert_eq!(rt; revoker.start(), None);
+    let mut acts = Vec::with_capacity(alloc, MOST_ACTS).expect(&rt, "there is memory");
+    acts.clear();
+    assert_eq!(rt; revoker.start(&mut acts), Some(1));
+    acts.clear();
+    assert_eq!(rt; revoker.start(&mut acts), None);
     assert!(rt; !revoker.machine().registers().get(1).1);
     for (command, wanted) in [
         // Register 5's block begins on page 0, and the load is from page 1.
@@ -54,8 +57,10 @@ fn a_page_is_visited_before_a_load_from_it(rt: HostRuntime) {
         cleared: 0,
         bytes: 32,
     };
-    assert_eq!(rt; revoker.finish(), Some(finished));
-    assert_eq!(rt; revoker.finish(), None);
+    acts.clear();
+    assert_eq!(rt; revoker.finish(&mut acts), Some(finished));
+    acts.clear();
+    assert_eq!(rt; revoker.finish(&mut acts), None);
 }
 
 #[test]
@@ -63,15 +68,18 @@ fn pages_that_were_not_seen_are_visited_at_the_end(rt: HostRuntime) {
     let alloc = rt.alloc();
     let machine = machine_before_an_epoch(alloc).expect(&rt, "there is memory");
     let mut revoker = Reloaded::new(alloc, machine).expect(&rt, "there is memory");
+    let mut acts = Vec::with_capacity(alloc, MOST_ACTS).expect(&rt, "there is memory");
     let load = load(2);
     assert!(rt; load.is_valid());
-    assert_eq!(rt; revoker.start(), Some(1));
+    acts.clear();
+    assert_eq!(rt; revoker.start(&mut acts), Some(1));
     assert_eq!(rt; revoker.step(&Alone, alloc, load), Ok(after_a_visit(0, 1)));
     let finished = Finished {
         cleared: 1,
         bytes: 32,
     };
-    assert_eq!(rt; revoker.finish(), Some(finished));
+    acts.clear();
+    assert_eq!(rt; revoker.finish(&mut acts), Some(finished));
     let machine = revoker.machine();
     assert_eq!(rt;
         (machine.memory().tagged(), machine.registers().tagged()),
@@ -79,7 +87,8 @@ fn pages_that_were_not_seen_are_visited_at_the_end(rt: HostRuntime) {
     );
     assert_eq!(rt; machine.held_bytes(), 0);
     // In the next epoch no page was seen.
-    assert_eq!(rt; revoker.start(), Some(0));
+    acts.clear();
+    assert_eq!(rt; revoker.start(&mut acts), Some(0));
     assert_eq!(rt; revoker.step(&Alone, alloc, load), Ok(after_a_visit(0, 0)));
 }
 
@@ -88,6 +97,7 @@ fn an_epoch_of_the_program_has_no_barrier(rt: HostRuntime) {
     let alloc = rt.alloc();
     let machine = machine_before_an_epoch(alloc).expect(&rt, "there is memory");
     let mut revoker = Reloaded::new(alloc, machine).expect(&rt, "there is memory");
+    let mut acts = Vec::with_capacity(alloc, MOST_ACTS).expect(&rt, "there is memory");
     for (command, wanted) in [
         (Command::Begin, Reply::Begun { cleared: 2 }),
         (load(2), Reply::Done),
@@ -99,7 +109,8 @@ fn an_epoch_of_the_program_has_no_barrier(rt: HostRuntime) {
             "{command:?}"
         );
     }
-    assert_eq!(rt; (revoker.start(), revoker.finish()), (None, None));
+    assert_eq!(rt; revoker.start(&mut acts), None);
+    assert_eq!(rt; revoker.finish(&mut acts), None);
     let swept = Reply::Swept {
         cleared: 1,
         released: 32,
