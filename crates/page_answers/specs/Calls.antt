@@ -1,10 +1,13 @@
 -- What the exports write, and the codes that they answer.
-use Rattle.std.specs.Prelude.{◌≡◌, ◌<◌, ◌++◌, ◌+◌, ◌*◌, ◌^◌, ℕ, Bool, List, [], Ok, Err, drop, length, if◌then◌else◌}
+use Rattle.std.specs.Prelude.{◌≡◌, ◌==◌, ◌<◌, ◌++◌, ◌+◌, ◌*◌, ◌^◌, ℕ, Bool, List, [], Option, Some, None, Ok, Err, drop, length, if◌then◌else◌}
 use Rattle.heap_reply.specs.WordLine.{word_line}
 use Rattle.log_answer.specs.Answer.{IsLogAnswer}
 use Rattle.trace_report.specs.Image.{image_of}
 use Rattle.trace_report.specs.Outcome.{HasOutcome}
 use Rattle.trace_report.specs.declared.outcome.Outcome.{Outcome}
+use Rattle.revoker_runs.specs.Answer.{IsPlanAnswer}
+use Rattle.revoker_runs.specs.declared.answer.Way.{Way}
+use Rattle.revoker_runs.specs.declared.answer.Way.TheVariants.{ByHand, Cornucopia, Reloaded}
 use Rattle.trace_text.specs.Fault.{line_of_fault}
 use Rattle.trace_text.specs.Reading.{Script, trace_of}
 use Rattle.trace_text.specs.declared.fault.TraceFault.{TraceFault}
@@ -64,6 +67,20 @@ pub record IsRunOf (text : List ℕ) (asked : Bool) (bytes : List ℕ) : Type 0 
 -- The text is said of a log, with some status.
 abbrev pub IsSaidOf : List ℕ → List ℕ → Type 0
 IsSaidOf log text = (status : ℕ) × IsLogAnswer log status text
+
+-- Who does the steps of a plan's revoker, by number.
+abbrev pub way_of : ℕ → Option Way
+way_of way = if way == 0 then Some ByHand else if way == 1 then Some Cornucopia else if way == 2 then Some Reloaded else None
+
+-- The text is answered for a plan with this status, where this number says who does the revoker's steps.
+pub record IsPlanned (plan : List ℕ) (number status : ℕ) (text : List ℕ) : Type 0 where
+  pub way : Way
+  pub way_is : way_of number ≡ Some way
+  pub answer : IsPlanAnswer way plan status text
+
+-- And with some status.
+abbrev pub IsPlannedOf : List ℕ → ℕ → List ℕ → Type 0
+IsPlannedOf plan number text = (status : ℕ) × IsPlanned plan number status text
 
 -- The text is the line of the word of these halves.
 abbrev pub IsLineOf : ℕ → ℕ → List ℕ → Type 0

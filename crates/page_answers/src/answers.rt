@@ -1,13 +1,13 @@
 //! The calls.
 
-ghost use Rattle.std.specs.Prelude.{◌≡◌, ◌≢◌, ◌<◌, ◌++◌, Err, IfErr, IfOk, IfSome, OnErr, drop, length};
+ghost use Rattle.std.specs.Prelude.{◌≡◌, ◌≢◌, ◌<◌, ◌++◌, Err, IfErr, IfOk, IfSome, None, OnErr, drop, length};
 ghost use Rattle.log_answer.specs.Answer.{IsLogAnswer};
 ghost use Rattle.log_notes.specs.Notes.{AreNotes};
 ghost use Rattle.state_data.specs.States.{IsDataOf};
 ghost use Rattle.trace_report.specs.Image.{image_of};
 ghost use Rattle.trace_text.specs.Reading.{trace_of};
 ghost use Rattle.trace_text.specs.declared.fault.TraceFault.{TraceFault as TheTraceFault};
-ghost use Rattle.page_answers.specs.Calls.{IsFaultOf, IsFaulty, IsLineOf, IsRunOf, IsSaidOf, IsTooLong, IsTrace, IsWritten, done, image_shown, no_memory, none, short};
+ghost use Rattle.page_answers.specs.Calls.{IsFaultOf, IsFaulty, IsLineOf, IsPlanned, IsPlannedOf, IsRunOf, IsSaidOf, IsTooLong, IsTrace, IsWritten, done, image_shown, no_memory, none, short, way_of};
 
 use crate::codes::{DONE, NO_MEMORY, NONE, SHORT};
 use cap_codec::Word;
@@ -17,6 +17,7 @@ use heap_trace::run_alone;
 use host_memory::Global;
 use log_answer::{LogAnswer, log_answer};
 use log_notes::notes_of;
+use revoker_runs::{PlanAnswer, Way, plan_answer};
 use state_data::states_alone;
 use sweep_masks::Cutting;
 use trace_report::{Outcome, RunFault, image_lines, put_all};
@@ -191,6 +192,55 @@ pub extern "C" fn page_notes(
         Ok(text) => match put_all(&text, out) {
             Ok(length) => {
                 *count = length;
+                DONE
+            }
+            Err(length) => {
+                *count = length;
+                SHORT
+            }
+        },
+        Err(_) => NO_MEMORY,
+    }
+}
+
+// Who does the steps of a plan's revoker, by number.
+fn way_of(number: u32) -> Option<Way>
+    ensures { result ≡ way_of number }
+{
+    match number {
+        0 => Some(Way::ByHand),
+        1 => Some(Way::Cornucopia),
+        2 => Some(Way::Reloaded),
+        _ => None,
+    }
+}
+
+/// Writes the log of the run of the plan that a text is, or the line of its fault; and tells the status that goes with it. Its
+/// revoker's steps are done by hand (0), by a revoker without a barrier (1) or by one with a barrier (2); another number has no log.
+#[unsafe(no_mangle)]
+pub extern "C" fn page_plan(
+    alloc: Global,
+    plan: &[u8],
+    way: u32,
+    out: &mut [u8],
+    count: &mut usize,
+    status: &mut u32,
+) -> u32
+    ensures written { result ≡ done → IsWritten (IsPlanned plan.now way status.new) out.old out.new count.new }
+    ensures short { result ≡ short → IsTooLong (IsPlannedOf plan.now way) (length out.old) count.new }
+    ensures none { result ≡ none → way_of way ≡ None }
+    ensures still { result ≢ done → (out.new ≡ out.old) × (status.new ≡ status.old) }
+    ensures other { result ≢ done → result ≢ short → count.new ≡ count.old }
+    ensures memory { result ≢ done → result ≢ short → result ≢ none → result ≡ no_memory }
+{
+    let Some(way) = way_of(way) else {
+        return NONE;
+    };
+    match plan_answer(&Alone, alloc, plan, way, Cutting::alone()) {
+        Ok(PlanAnswer { status: told, text }) => match put_all(&text, out) {
+            Ok(length) => {
+                *count = length;
+                *status = u32::from(told);
                 DONE
             }
             Err(length) => {

@@ -1,26 +1,17 @@
 -- What the words ask for, and what that answers.
-use Rattle.std.proofs.Common.{◌≡◌, ◌≢◌, ℕ, drop, sym, subst, List, Option, Some, Result, Ok, Err, IfOk, IfErr, refl}
+use Rattle.std.proofs.Common.{◌≡◌, ◌≢◌, ℕ, drop, List, Option, Result, Ok, Err, IfOk, IfErr, refl}
 use Rattle.command_line.specs.declared.asked.Refusal.{Refusal}
 use Rattle.command_line.specs.declared.asked.Refusal.TheVariants.{Memory, Words}
 use Rattle.command_line.specs.Asked.{AreWithinLimits, Text}
 use Rattle.command_line.specs.Laws.{NamesStates-limits}
-use Rattle.trace_text.specs.declared.fault.TraceFault.{TraceFault}
 use Rattle.program_devices.specs.declared.answer.Answer.{Answer}
 use Rattle.program_devices.specs.Answer.{refusal_line, refusal_status, status_of, text_of}
-use Rattle.trace_text.specs.Fault.{line_of_fault}
 use Rattle.program_devices.specs.Device.{ReadsUpTo, most_read}
 use Rattle.revoker_runs.specs.declared.answer.Way.{Way}
-use Rattle.revoker_runs.specs.Answer.{plan_fault}
+use Rattle.revoker_runs.specs.Answer.{IsPlanAnswer, names_fault, tells_log}
 use Rattle.revoker_command.specs.declared.words.Choice.{Choice}
 use Rattle.revoker_command.specs.Words.{NamesPlan}
-use Rattle.revoker_command.specs.Answer.{IsAnswer, IsPlanAnswer, lacks_memory, names_fault, refuses, shows_log, tells_log, usage_line}
-
--- The line of a fault is the answer where the text has that fault.
-pub IsPlanAnswer-fault : (way : Way) (input : List ℕ) (fault : TraceFault) (r : Result Answer Refusal) → plan_fault way input ≡ Some fault
-    → IfOk r (λ answer. (answer.status ≡ 3) × (answer.text.items ≡ line_of_fault fault)) → IfOk r (λ answer. IsPlanAnswer way input answer.status answer.text.items)
-IsPlanAnswer-fault way input fault (Ok answer) reads is =
-    subst (λ status. IsPlanAnswer way input status answer.text.items) (sym is.0) (subst (IsPlanAnswer way input 3) (sym is.1) (names_fault fault reads))
-IsPlanAnswer-fault way input fault (Err refusal) reads is = tt
+use Rattle.revoker_command.specs.Answer.{IsAnswer, lacks_memory, refuses, shows_log, usage_line}
 
 -- Its status is not 4.
 plan_status : (way : Way) (input : List ℕ) (status : ℕ) (text : List ℕ) → IsPlanAnswer way input status text → status ≢ 4

@@ -1,12 +1,9 @@
 -- What the program answers: its exit status, and what it writes with it.
-use Rattle.std.specs.Prelude.{◌≡◌, ℕ, List, Option, Some, codes}
+use Rattle.std.specs.Prelude.{ℕ, List, Option, codes}
 use Rattle.command_line.specs.Asked.{Text}
 use Rattle.program_devices.specs.Answer.{memory_line}
 use Rattle.program_devices.specs.Device.{ReadsUpTo, most_read}
-use Rattle.trace_text.specs.Fault.{line_of_fault}
-use Rattle.trace_text.specs.declared.fault.TraceFault.{TraceFault}
-use Rattle.revoker_runs.specs.declared.answer.Way.{Way}
-use Rattle.revoker_runs.specs.Answer.{IsLogOf, plan_fault}
+use Rattle.revoker_runs.specs.Answer.{IsPlanAnswer}
 use Rattle.revoker_command.specs.declared.words.Choice.{Choice}
 use Rattle.revoker_command.specs.Words.{NamesPlan}
 
@@ -14,14 +11,8 @@ use Rattle.revoker_command.specs.Words.{NamesPlan}
 abbrev pub usage_line : List ℕ
 usage_line = codes "usage: heap_revoker by-hand|cornucopia|reloaded [--workers N] [--cut N]\n"
 
--- The text that goes with a status below 4 where these bytes are read: the log of the plan that they are, or the fault that
--- they have. No option changes it.
-pub data IsPlanAnswer (way : Way) (input : List ℕ) : ℕ → List ℕ → Type 0 where
-  tells_log : (text : List ℕ) → IsLogOf input way text → IsPlanAnswer way input 0 text
-  names_fault : (fault : TraceFault) → plan_fault way input ≡ Some fault → IsPlanAnswer way input 3 (line_of_fault fault)
-
 -- The text that goes with a status below 4, for these words and a reader whose known bytes were unread and
--- are left now.
+-- are left now. No option changes it.
 pub data IsAnswer (words : List Text) (unread left : Option (List ℕ)) : ℕ → List ℕ → Type 0 where
   shows_log : (input : List ℕ) (choice : Choice) (status : ℕ) (text : List ℕ) → NamesPlan words choice → ReadsUpTo most_read unread left input
       → IsPlanAnswer choice.way input status text → IsAnswer words unread left status text

@@ -5,17 +5,18 @@ ghost use Rattle.std.specs.Io.KnownBytes.{Appends};
 ghost use Rattle.command_line.specs.Asked.{AreWithinLimits, texts};
 ghost use Rattle.program_devices.specs.Answer.{BeginsAnswer, HasAnswered, refusal_line, refusal_status};
 ghost use Rattle.program_devices.specs.Device.{AppendsBeginning, ReadsFew, most_read};
-ghost use Rattle.revoker_command.specs.Answer.{IsAnswer, IsPlanAnswer, usage_line};
+ghost use Rattle.revoker_runs.specs.Answer.{IsPlanAnswer};
+ghost use Rattle.revoker_command.specs.Answer.{IsAnswer, usage_line};
 ghost use Rattle.revoker_command.specs.Words.{NamesPlan};
 ghost use Rattle.revoker_command.specs.declared.words.Choice.{Choice as TheChoice};
 
 use crate::words::{Choice, choice_by};
 use command_line::Refusal;
 use heap_machine::Workers;
-use heap_trace::RunFault;
 use host_memory::Global;
-use program_devices::{Answer, ReadFault, Sink, Source, cutting_of, fault_answer, give, read_text};
-use revoker_runs::log_of_plan;
+use program_devices::{Answer, ReadFault, Sink, Source, cutting_of, give, read_text};
+use revoker_runs::plan_answer;
+use std::alloc::AllocError;
 use std::thread::Threads;
 use trace_text::LONGEST_TEXT;
 
@@ -46,7 +47,7 @@ pub fn plan_tool<'a, R: Threads + Sync, I: Source, O: Sink>(
 {
     match choice_by(alloc, words) {
         Ok(choice) => match read_text(alloc, reader, LONGEST_TEXT) {
-            Ok(text) => give(writer, plan_answer(rt, alloc, &text, choice), USAGE),
+            Ok(text) => give(writer, answer_for(rt, alloc, &text, choice), USAGE),
             Err(ReadFault::Memory) => refuse(writer, Refusal::Memory),
             Err(ReadFault::Failed) => 4,
         },
@@ -65,7 +66,7 @@ pub fn refuse<O: Sink>(writer: &mut O, refusal: Refusal) -> u8
 }
 
 // The log of the plan that this text is, or the line of its fault.
-fn plan_answer<R: Threads + Sync>(
+fn answer_for<R: Threads + Sync>(
     rt: &R,
     alloc: Global,
     text: &[u8],
@@ -76,9 +77,11 @@ fn plan_answer<R: Threads + Sync>(
     ensures err { IfErr result (λ refusal. refusal ≡ Refusal.Memory) }
 {
     let Choice { way, options } = choice;
-    match log_of_plan(&Workers { rt }, alloc, text, way, cutting_of(options)) {
-        Ok(text) => Ok(Answer { status: 0, text }),
-        Err(RunFault::Memory) => Err(Refusal::Memory),
-        Err(RunFault::Trace(fault)) => fault_answer(alloc, &fault),
+    match plan_answer(&Workers { rt }, alloc, text, way, cutting_of(options)) {
+        Ok(answer) => Ok(Answer {
+            status: answer.status,
+            text: answer.text,
+        }),
+        Err(AllocError) => Err(Refusal::Memory),
     }
 }

@@ -3,6 +3,7 @@ use Rattle.std.specs.Prelude.{◌≡◌, ◌-◌, ◌++◌, ℕ, Bool, false, Li
 use Rattle.trace_text.specs.declared.trace.Command.{Command}
 use Rattle.trace_text.specs.declared.fault.TraceFault.{TraceFault}
 use Rattle.trace_text.specs.declared.fault.TraceFault.TheVariants.{TooLong}
+use Rattle.trace_text.specs.Fault.{line_of_fault}
 use Rattle.trace_text.specs.Lines.{lines_of, longest_text}
 use Rattle.trace_text.specs.Reading.{Opening, opening_from}
 use Rattle.trace_text.specs.declared.text.Opening.{Opening as TheOpening}
@@ -91,3 +92,8 @@ fault_after way (Ok o) = fault_in (own_by way) (takes_by way) o.next o.rest
 
 abbrev pub plan_fault : Way → List ℕ → Option TraceFault
 plan_fault way text = if nat_lt longest_text (length text) then Some TooLong else fault_after way (opening_from 1 (lines_of text))
+
+-- The text that goes with a status: the log of the plan that a text is, or the line of the fault that it has.
+pub data IsPlanAnswer (way : Way) (text : List ℕ) : ℕ → List ℕ → Type 0 where
+  tells_log : (log : List ℕ) → IsLogOf text way log → IsPlanAnswer way text 0 log
+  names_fault : (fault : TraceFault) → plan_fault way text ≡ Some fault → IsPlanAnswer way text 3 (line_of_fault fault)

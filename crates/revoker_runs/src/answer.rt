@@ -4,7 +4,7 @@ ghost use Rattle.std.specs.Prelude.{◌≡◌, ◌≢◌, ◌≤◌, ◌<◌, �
 ghost use Rattle.std.specs.Vec.{vec_capacity};
 ghost use Rattle.trace_text.specs.Lines.{lines_of};
 ghost use Rattle.trace_text.specs.declared.fault.TraceFault.{TraceFault as TheTraceFault};
-ghost use Rattle.revoker_runs.specs.Answer.{IsFirst, IsLogOf, WritesBarred, WritesBy, WritesByHand, WritesMarked, head_text, opening_of, own_by, plan_fault, takes_by};
+ghost use Rattle.revoker_runs.specs.Answer.{IsFirst, IsLogOf, IsPlanAnswer, WritesBarred, WritesBy, WritesByHand, WritesMarked, head_text, opening_of, own_by, plan_fault, takes_by};
 ghost use Rattle.revoker_runs.specs.Plan.{fault_in};
 ghost use Rattle.revoker_runs.specs.Ways.{all_steps, no_step, own_step, page_steps};
 
@@ -16,7 +16,7 @@ use host_memory::Global;
 use revokers::{Act, Cornucopia, MOST_ACTS, Reloaded};
 use std::alloc::AllocError;
 use sweep_pool::Cutting;
-use trace_text::{LONGEST_TEXT, Opening, TraceFault, read_heap, split_line};
+use trace_text::{LONGEST_TEXT, Opening, TraceFault, fault_line, read_heap, split_line};
 
 /// Who does the steps of a plan's revoker.
 #[derive(Clone, Copy, Debug, PartialEq, Eq)]
@@ -191,4 +191,35 @@ pub fn log_of_plan<S: Stepper>(
     };
     write_by(stepper, alloc, machine, way, &mut acts, &mut log, opening)?;
     Ok(log)
+}
+
+/// What is answered for the text of a plan, and the status that goes with it: 0 with the log of its run, and 3 with the line of
+/// its fault.
+#[derive(Drop)]
+pub struct PlanAnswer {
+    pub status: u8,
+    pub text: Vec<u8, Global>,
+}
+
+/// The answer for a text: the log of the plan that it is, or the line of its fault. An error is want of memory.
+pub fn plan_answer<S: Stepper>(
+    stepper: &S,
+    alloc: Global,
+    text: &[u8],
+    way: Way,
+    cutting: Cutting,
+) -> Result<PlanAnswer, AllocError>
+    requires ready { S.ready }
+    ensures ok { IfOk result (λ answer. IsPlanAnswer way text.now answer.status answer.text.items) }
+{
+    let fault = match log_of_plan(stepper, alloc, text, way, cutting) {
+        Ok(text) => return Ok(PlanAnswer { status: 0, text }),
+        Err(RunFault::Memory) => return Err(AllocError),
+        Err(RunFault::Trace(fault)) => fault,
+    };
+    let line = fault_line(alloc, &fault)?;
+    Ok(PlanAnswer {
+        status: 3,
+        text: line.into_bytes(),
+    })
 }

@@ -10,6 +10,6 @@ mod plan;
 mod reading;
 mod revoker;
 
-pub use crate::answer::{Way, log_of_plan};
+pub use crate::answer::{PlanAnswer, Way, log_of_plan, plan_answer};
 pub use crate::plan::write_plan;
 pub use crate::revoker::Revoker;

@@ -11,13 +11,13 @@ use Rattle.revoker_command.proofs.program.plan_tool.Goals as goal
 
 -- ---- the log of a plan
 
-pub plan_answer-requires-clause-limits : goal.plan_answer-requires-clause-limits
-plan_answer-requires-clause-limits g c = λ lifetimes outlives. NamesPlan-limits (texts c.args.words.now) c.in-Ok.choice (search rules)
+pub answer_for-requires-clause-limits : goal.answer_for-requires-clause-limits
+answer_for-requires-clause-limits g c = λ lifetimes outlives. NamesPlan-limits (texts c.args.words.now) c.in-Ok.choice (search rules)
 
-log_is : (g : Over) (c : After-drop-text g) → IsAnswer (texts c.args.words.now) (g.I.Source.remaining c.args.reader.now) (g.I.Source.remaining c.read_text.new.reader) (status_of c.plan_answer.result) (text_of usage_line c.plan_answer.result)
+log_is : (g : Over) (c : After-drop-text g) → IsAnswer (texts c.args.words.now) (g.I.Source.remaining c.args.reader.now) (g.I.Source.remaining c.read_text.new.reader) (status_of c.answer_for.result) (text_of usage_line c.answer_for.result)
 log_is g c =
     let named : NamesPlan (texts c.args.words.now) c.in-Ok.choice = search rules in
-    IsAnswer-plan (texts c.args.words.now) _ _ c.in-Ok-read_text.text.items c.in-Ok.choice c.plan_answer.result named c.in-Ok-read_text.ensures.ok (search rules) c.plan_answer.ensures.err
+    IsAnswer-plan (texts c.args.words.now) _ _ c.in-Ok-read_text.text.items c.in-Ok.choice c.answer_for.result named c.in-Ok-read_text.ensures.ok (search rules) c.answer_for.ensures.err
 
 pub returns-in-Ok-read_text-clause-complete : goal.returns-in-Ok-read_text-clause-complete
 returns-in-Ok-read_text-clause-complete g c = λ e. HasAnswered-told _ _ _ _ _ _ (log_is g c) (c.give.ensures.complete e)
@@ -48,4 +48,4 @@ pub returns-in-Err-clause-part : goal.returns-in-Err-clause-part
 returns-in-Err-clause-part g c = λ e. BeginsAnswer-told _ _ _ _ _ (refused g c) (c.refuse-in-Err.ensures.part e)
 
 pub give-requires-clause-status : goal.give-requires-clause-status
-give-requires-clause-status g c = IsPlanAnswer-status c.in-Ok.choice.way _ c.plan_answer.result c.plan_answer.ensures.ok
+give-requires-clause-status g c = IsPlanAnswer-status c.in-Ok.choice.way _ c.answer_for.result c.answer_for.ensures.ok
