@@ -12,12 +12,13 @@ u32 module_report(struct module *m, u64 text, u64 length, u32 image, u64 out, u6
 u32 module_states(struct module *m, u64 text, u64 length, u64 out, u64 room, u64 count);
 u32 module_fault(struct module *m, u64 text, u64 length, u64 out, u64 room, u64 count);
 u32 module_log(struct module *m, u64 text, u64 length, u64 out, u64 room, u64 count, u64 status);
+u32 module_plan(struct module *m, u64 text, u64 length, u32 way, u64 out, u64 room, u64 count, u64 status);
 u32 module_notes(struct module *m, u64 text, u64 length, u32 status, u64 out, u64 room, u64 count);
 u32 module_word(struct module *m, u64 address, u64 metadata, u64 out, u64 room, u64 count);
 
 /* The calls of the module, as crates/page_answers numbers their answers. */
 enum code { DONE, NO_MEMORY, SHORT, NONE };
-enum call { REPORT, STATES, FAULT, LOG, NOTES, LINE };
+enum call { REPORT, STATES, FAULT, LOG, NOTES, PLAN, LINE };
 
 /* More room than the longest report with its image; what isn't written takes no memory. */
 static const u64 MUCH = (u64)96 << 20;
@@ -28,7 +29,7 @@ static const u64 LONG_TEXT = (u64)1 << 20;
 struct asking {
     enum call call;
     const u8 *text;
-    u64 length, first, second; /* the numbers that it has beside the text: the word's halves, whether the image, or a status */
+    u64 length, first, second; /* the numbers that it has beside the text: the word's halves, whether the image, a status, or who does a plan's steps */
 };
 
 struct answer {
@@ -44,6 +45,7 @@ static u32 call(struct module *m, const struct asking *it, u64 at, u64 out, u64 
     case STATES: return module_states(m, at, it->length, out, room, told);
     case FAULT: return module_fault(m, at, it->length, out, room, told);
     case LOG: return module_log(m, at, it->length, out, room, told, told + 8);
+    case PLAN: return module_plan(m, at, it->length, (u32)it->first, out, room, told, told + 8);
     case NOTES: return module_notes(m, at, it->length, (u32)it->first, out, room, told);
     default: return module_word(m, it->first, it->second, out, room, told);
     }

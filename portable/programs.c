@@ -1,5 +1,5 @@
-/* The programs over the module, for a machine that has a C compiler: NAME WORDS.., where NAME is heap_tool, heap_states or heap_check,
- * by that name or as the first word. The module answers for a text; here words are read, texts read and answers written, with the
+/* The programs over the module, for a machine that has a C compiler: NAME WORDS.., where NAME is heap_tool, heap_states, heap_check
+ * or heap_revoker, by that name or as the first word. The module answers for a text; here words are read, texts read and answers written, with the
  * statuses of the programs: 0 done, 1 for want of memory, 2 words refused, 3 a faulty text, 4 a device that failed, 5 an event that
  * differs. */
 #define _POSIX_C_SOURCE 200809L
@@ -86,39 +86,66 @@ static int answer_log(struct asking it) {
     return status;
 }
 
-static bool is_named(const char *name) { return strcmp(name, "heap_tool") == 0 || strcmp(name, "heap_states") == 0 || strcmp(name, "heap_check") == 0; }
+static int answer_plan(struct asking it) {
+    struct answer got = (it.call = PLAN, answer_to(&it));
+    return tell_answer(got, (int)got.status);
+}
 
-static int refuse(const char *name) {
-    if (strcmp(name, "heap_tool") == 0) return tell("usage: heap_tool run [--workers N] [--cut N] [--image] or heap_tool word HEX\n", 2);
-    return tell(name[5] == 'c' ? "usage: heap_check [--workers N] [--cut N]\n" : "usage: heap_states [--workers N] [--cut N]\n", 2);
+enum program { TOOL, STATES_OF, CHECK, REVOKER, OTHER };
+
+static enum program program_of(const char *name) {
+    static const char *const names[] = {"heap_tool", "heap_states", "heap_check", "heap_revoker"};
+    int at = 0;
+    while (at < OTHER && strcmp(name, names[at]) != 0) at++;
+    return (enum program)at;
+}
+
+static int refuse(enum program program) {
+    static const char *const usages[] = {
+        "usage: heap_tool run [--workers N] [--cut N] [--image] or heap_tool word HEX\n",
+        "usage: heap_states [--workers N] [--cut N]\n",
+        "usage: heap_check [--workers N] [--cut N]\n",
+        "usage: heap_revoker by-hand|cornucopia|reloaded [--workers N] [--cut N]\n",
+    };
+    return tell(usages[program], 2);
+}
+
+static enum asked read_for(enum program program, char **words, struct asking *it, bool *image, const char **hex) {
+    if (program == TOOL) return read_words(words, image, hex);
+    return program == REVOKER ? read_way(words, &it->second) : read_options(words, NULL);
+}
+
+static int answer_for(enum program program, struct asking it, bool image) {
+    it.first = program == REVOKER ? it.second : image;
+    if (program == CHECK) return answer_log(it);
+    return program == REVOKER ? answer_plan(it) : answer_trace(it, program == TOOL ? REPORT : STATES);
 }
 
 int main(int count, char **words) {
     const char *slash = count > 0 ? strrchr(words[0], '/') : NULL, *name = slash ? slash + 1 : count > 0 ? words[0] : "", *hex = NULL;
-    bool image = false, is_tool, is_check;
+    bool image = false;
+    enum program program;
     struct asking it = {REPORT, NULL, 0, 0, 0};
     enum asked asked;
     u8 *text = NULL;
     int status;
     signal(SIGPIPE, SIG_IGN);
-    if (!is_named(name)) {
-        if (count < 2 || !is_named(words[1])) return 125;
-        name = *++words;
+    if ((program = program_of(name)) == OTHER) {
+        if (count < 2 || (program = program_of(words[1])) == OTHER) return 125;
+        words++;
     }
-    is_tool = strcmp(name, "heap_tool") == 0, is_check = strcmp(name, "heap_check") == 0;
-    asked = is_tool ? read_words(words + 1, &image, &hex) : read_options(words + 1, NULL);
-    if (asked == REFUSED) return refuse(name);
+    asked = read_for(program, words + 1, &it, &image, &hex);
+    if (asked == REFUSED) return refuse(program);
     if (asked == WORD) {
         it.call = LINE;
         it.first = half_of(hex);
         it.second = half_of(hex + 16);
         return tell_answer(answer_to(&it), 0);
     }
-    status = read_text(&text, &it.length, is_check ? 16777217 : 4194305);
+    status = read_text(&text, &it.length, program == CHECK ? 16777217 : 4194305);
     it.text = text;
-    it.first = image;
     if (status == 1) status = tell("fault memory\n", 1);
-    else if (status == 0) status = is_check ? answer_log(it) : answer_trace(it, is_tool ? REPORT : STATES);
+    else if (status == 0) status = answer_for(program, it, image);
     free(text);
     return status;
 }

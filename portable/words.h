@@ -1,4 +1,5 @@
-/* What the words of a command line ask for: those of heap_tool; heap_states and heap_check have those of `run` but for --image. */
+/* What the words of a command line ask for: those of heap_tool; heap_states and heap_check have those of `run` but for --image, and
+ * heap_revoker too, behind the word that says who does the revoker's steps. */
 #include <stdbool.h>
 #include <string.h>
 
@@ -38,6 +39,14 @@ static enum asked read_options(char **words, bool *image) {
         if (count == 0) return REFUSED;
     }
     return RUN;
+}
+
+/* Who does the steps of a plan's revoker, by the number that the module has for it. */
+static enum asked read_way(char **words, u64 *way) {
+    static const char *const names[] = {"by-hand", "cornucopia", "reloaded"};
+    for (*way = 0; *words && *way < 3; ++*way)
+        if (strcmp(*words, names[*way]) == 0) return read_options(words + 1, NULL);
+    return REFUSED;
 }
 
 static enum asked read_words(char **words, bool *image, const char **hex) {

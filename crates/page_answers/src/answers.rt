@@ -237,10 +237,10 @@ pub extern "C" fn page_plan(
         return NONE;
     };
     match plan_answer(&Alone, alloc, plan, way, Cutting::alone()) {
-        Ok(PlanAnswer { status: told, text }) => match put_all(&text, out) {
+        Ok(PlanAnswer { status: code, text }) => match put_all(&text, out) {
             Ok(length) => {
                 *count = length;
-                *status = u32::from(told);
+                *status = u32::from(code);
                 DONE
             }
             Err(length) => {
