@@ -1,7 +1,6 @@
 -- What a revoker did, told one after another, and the room for it.
-use Rattle.std.specs.Prelude.{◌≡◌, ◌==◌, ◌+◌, ◌++◌, ◌≤◌, ℕ, Bool, false, List, [], ◌∷◌, if◌then◌else◌}
+use Rattle.std.specs.Prelude.{◌≡◌, ◌==◌, ◌+◌, ◌++◌, ◌≤◌, ℕ, Bool, false, List, [], ◌∷◌, if◌then◌else◌, Vec}
 use Rattle.std.specs.Vec.{vec_capacity, vec_len}
-use Rattle.std.specs.Global.{Vec}
 use Rattle.revoker_steps.specs.declared.command.RevokerCommand.TheVariants.{UntagRegister, Visit}
 use Rattle.revoker_steps.specs.declared.command.RevokerReply.{RevokerReply}
 use Rattle.revoker_steps.specs.declared.command.RevokerReply.TheVariants.{Cleared, Done, Released, Trap}
@@ -29,10 +28,10 @@ untag_acts [] = []
 untag_acts (it ∷ rest) = untag_act it.0 it.1 ++ untag_acts rest
 
 -- There is room for so many more.
-abbrev pub HasRoom : ℕ → Vec Act → Type 0
+abbrev pub HasRoom : {X Z : Type 0} → ℕ → Vec X Z → Type 0
 HasRoom n acts = vec_len acts + n ≤ vec_capacity acts
 
 -- So many more are told at most, in the room that there was.
-pub record Tells (n : ℕ) (old new : Vec Act) : Type 0 where
+pub record Tells {X Z : Type 0} (n : ℕ) (old new : Vec X Z) : Type 0 where
   pub capacity : vec_capacity new ≡ vec_capacity old
   pub few : vec_len new ≤ vec_len old + n
