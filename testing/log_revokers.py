@@ -220,6 +220,61 @@ class Reloaded(Beside):
             self.flaw = f"no register may point into a painted block, as one does after line {len(self.lines)}"
 
 
+class Planned:
+    """What heap_revoker does for a plan: `plan` has its lines, and the log besides what the revoker does at its start, before a load and at
+    its end."""
+
+    def __init__(self, seed, count):
+        self.plan = []
+        super().__init__(seed, count)
+        self.plan[:0] = [self.lines[0], self.lines[1].split(" -> ")[0]]
+
+    def command(self, asked):
+        self.plan.append(asked)
+        super().command(asked)
+
+    def untag_registers(self):
+        for kind, number in self.state.due(self.state.painted):
+            if kind == "register":
+                self.tell(f"untag c{number}")
+
+    def start(self):
+        self.plan.append(self.chance.choice(["paint", "begin"]))
+        self.tell("paint")
+
+    def finish(self):
+        self.plan.append(self.chance.choice(["release", "end"]))
+        super().finish()
+
+
+class PlannedCornucopia(Planned, Cornucopia):
+    def revoker(self):
+        if not self.state.is_open:
+            self.start()
+            self.dirty, self.looked = set(range(self.pages)), {}
+        elif self.chance.randrange(3):
+            page = self.chance.randrange(self.pages)
+            self.plan.append(f"visit {page}")
+            self.dirty.discard(page)
+            self.visit(page)
+        else:
+            self.finish()
+
+
+class PlannedReloaded(Planned, Reloaded):
+    def revoker(self):
+        if not self.state.is_open:
+            self.start()
+            self.untag_registers()
+            self.seen, self.stored = set(), set()
+        elif self.chance.randrange(3):
+            page = self.chance.randrange(self.pages)
+            self.plan.append(f"visit {page}")
+            self.see(page)
+        else:
+            self.finish()
+
+
 # Each revoker with each of its faults, and without one.
 KINDS = [(kind, fault) for kind in (AnyRevoker, Cornucopia, Reloaded) for fault in (None, *kind.FAULTS)]
 
