@@ -39,6 +39,7 @@ fn what_the_program_stores_again_is_taken_at_the_end(rt: HostRuntime) {
         cleared: 3,
         bytes: 32,
     };
+    acts.clear();
     assert_eq!(rt; revoker.finish(&mut acts), Some(finished));
     // Page 0 is dirty again, page 1 was never visited, and of the registers the first alone has such a word.
     let told = [
