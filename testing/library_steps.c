@@ -146,7 +146,7 @@ static void refusals(void) {
     want(kernelstint_step(state, length, show, out, length - 1, &reply) == KERNELSTINT_CODE_BAD_ROOM, "step: a room too short");
     want(kernelstint_step(state, length - 1, show, out, length - 1, &reply) == KERNELSTINT_CODE_BAD_STATE, "step: a byte too few");
     want(kernelstint_step(state, 0, show, out, 0, &reply) == KERNELSTINT_CODE_BAD_STATE, "step: no bytes");
-    for (unsigned kind = KERNELSTINT_COMMAND_END + 1; kind < 256; kind++) {
+    for (unsigned kind = KERNELSTINT_COMMAND_RELEASE + 1; kind < 256; kind++) {
         wrong.kind = (uint8_t)kind;
         want(kernelstint_step(state, length, wrong, out, length, &reply) == KERNELSTINT_CODE_BAD_COMMAND, "step: a kind of no command");
     }
@@ -155,6 +155,10 @@ static void refusals(void) {
     want(kernelstint_step(state, length, wrong, out, length, &reply) == KERNELSTINT_CODE_BAD_COMMAND, "step: register 32");
     wrong = command_of(KERNELSTINT_COMMAND_ANDPERM, 1, 1, 65536);
     want(kernelstint_step(state, length, wrong, out, length, &reply) == KERNELSTINT_CODE_BAD_COMMAND, "step: a mask of 17 bits");
+    wrong = command_of(KERNELSTINT_COMMAND_UNTAG_REGISTER, 32, 0, 0);
+    want(kernelstint_step(state, length, wrong, out, length, &reply) == KERNELSTINT_CODE_BAD_COMMAND, "step: an untag of register 32");
+    wrong = command_of(KERNELSTINT_COMMAND_VISIT, 0, 0, UINT64_C(1) << 32);
+    want(kernelstint_step(state, length, wrong, out, length, &reply) == KERNELSTINT_CODE_BAD_COMMAND, "step: a page that no number of 32 bits is");
     want(reply.kind == 7 && reply.bytes == UINT64_C(0x0707070707070707), "step: a reply is written beside a code");
     want(memcmp(out, before, length) == 0, "a room is written beside a code");
     want(kernelstint_step(state, length, show, out, length, &reply) == KERNELSTINT_CODE_DONE && memcmp(out, state, length) == 0, "show changes a state");
