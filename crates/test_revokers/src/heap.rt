@@ -8,7 +8,7 @@ use trace_text::Command;
 /// Two pages with a block of 32 bytes, at 0x4000_0000, and one of a page behind it. Register 5 has the second block's
 /// capability with its address on the other page. The first block's lies in granule 2, where the second begins, in granule
 /// 256, at register 5's address, and in register 1; and it is given up.
-pub fn machine_before_an_epoch(alloc: Global) -> Result<Machine, MachineFault> {
+pub(crate) fn machine_before_an_epoch(alloc: Global) -> Result<Machine, MachineFault> {
     let Ok(cutting) = Cutting::new(1, 1) else {
         return Err(MachineFault::Memory);
     };
